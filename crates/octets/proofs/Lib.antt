@@ -1,0 +1,7 @@
+-- The laws of byte strings that the crates above cite.
+pub mod Strings
+pub mod Xor
+pub mod Numbers
+pub mod Fields
+mod Parts
+pub mod Refusals

@@ -1,0 +1,111 @@
+-- Laws of lists given by their entries and of lists with a part overwritten. Each goes by induction on the number of
+-- entries or by the kit's laws of `take` and `drop` at a seam.
+-- Assumes nothing.
+use mathlib.Core.Path.{_≡_, refl, sym, ap, _∙_}
+use mathlib.Core.List.{List, [], _∷_, _++_, append-assoc, append-nil}
+use mathlib.Core.Logic.{⊎-elim, _⊎_, inl, inr}
+use Prim.Native.Nat.{ℕ, zero, suc, _+_, _-_, _≤_, _<_}
+use native.Mathlib.Nat.{add-assoc}
+use native.Mathlib.Numerals.{add-one}
+use native.Mathlib.Decide.{decLt}
+use native.Mathlib.Omega.{arith}
+use lib.ListN.{length, getD, take, drop, set, length-append, length-drop, take-append-drop, List·getD-append}
+use lib.Seq.{length-take-le, take-suc, take-at, drop-at, set-at, getD-at, drop-cons, append-snoc, set-split, take-append-add, drop-append-add, drop-drop, take-add, getD-drop, getD-take}
+use Rattle.octets.specs.Strings.{tab, over, Below}
+
+-- ---- a list given by its entries
+
+pub length-tab : {A : Type 0} (f : ℕ → A) (n : ℕ) → length (tab f n) ≡ n
+unfolding tab
+length-tab f zero = refl
+length-tab f (suc n) = simp (length-append, length-tab f n, add-one)
+
+-- the last entry, or one before it
+at-last : (i n : ℕ) → i < suc n → (i < n) ⊎ (i ≡ n)
+at-last i n h = elim (decLt i n) [ yes l ↦ inl l | no l ↦ inr (omega arith) ]
+
+pub getD-tab : {A : Type 0} (f : ℕ → A) (n i : ℕ) (d : A) → i < n → getD (tab f n) i d ≡ f i
+unfolding tab
+getD-tab f zero i d h = absurd (omega arith)
+getD-tab f (suc n) i d h =
+    ⊎-elim
+    (λ l. List·getD-append (tab f n) (f n ∷ []) d i (rw (length-tab f n) l) ∙ getD-tab f n i d l)
+    (λ e. rw e (getD-at (tab f n) (f n) [] d n (length-tab f n)))
+    (at-last i n h)
+
+pub tab-ext : {A : Type 0} (f g : ℕ → A) (n : ℕ) → ((i : ℕ) → i < n → f i ≡ g i) → tab f n ≡ tab g n
+unfolding tab
+tab-ext f g zero h = refl
+tab-ext f g (suc n) h = λ i. tab-ext f g n (λ k l. h k (omega arith)) i ++ (h n (omega arith) i ∷ [])
+
+-- a list's entries, given by index, are the list
+pub tab-getD : {A : Type 0} (s : List A) (d : A) (n : ℕ) → n ≤ length s → tab (λ (i : ℕ). getD s i d) n ≡ take n s
+unfolding tab
+tab-getD s d zero h = refl
+tab-getD s d (suc n) h = rw (tab-getD s d n (omega arith)) (sym (take-suc s n d h))
+
+-- a loop that fills from the front: one more entry stored
+pub fill-more : {A : Type 0} (f : ℕ → A) (n : ℕ) (b : List A) → n < length b
+    → set (tab f n ++ drop n b) n (f n) ≡ tab f (n + 1) ++ drop (n + 1) b
+unfolding tab
+fill-more f n b h =
+    rw (drop-cons b n (f n) h, add-one)
+    (set-at (tab f n) (getD b n (f n)) (drop (suc n) b) (f n) n (length-tab f n)
+    ∙ sym (append-assoc (tab f n) (f n ∷ []) (drop (suc n) b)))
+
+pub length-fill : {A : Type 0} (f : ℕ → A) (n : ℕ) (b : List A) → n ≤ length b → length (tab f n ++ drop n b) ≡ length b
+length-fill f n b h = simp (length-append, length-tab, length-drop) (omega arith)
+
+-- ---- a part overwritten
+
+pub length-over : {A : Type 0} (o : List A) (i : ℕ) (bs : List A) → i + length bs ≤ length o → length (over o i bs) ≡ length o
+unfolding over
+length-over o i bs h =
+    let l : length (take i o) ≡ i = length-take-le i o (omega arith) in
+    simp (length-append, length-drop, l) (omega arith)
+
+pub over-nil : {A : Type 0} (o : List A) (i : ℕ) → over o i [] ≡ o
+unfolding over
+over-nil o i = rw native.Mathlib.Nat.add-zero (take-append-drop i o)
+
+-- at the front: the bytes, and the rest xs it was
+pub over-front : {A : Type 0} (o bs : List A) → over o 0 bs ≡ bs ++ drop (length bs) o
+unfolding over
+over-front o bs = rw native.Mathlib.Nat.zero-add
+
+-- one part right behind another
+pub over-over : {A : Type 0} (o : List A) (i j : ℕ) (xs bs : List A) → i ≤ length o → j ≡ i + length xs
+    → over (over o i xs) j bs ≡ over o i (xs ++ bs)
+unfolding over
+over-over {A} o i j xs bs h e =
+    let l : length (take i o ++ xs) ≡ j = simp (length-append, length-take-le i o h) (sym e) in
+    let whole : over o i xs ≡ (take i o ++ xs) ++ drop j o = rw (e) (sym (append-assoc (take i o) xs (drop (i + length xs) o))) in
+    let front : take j (over o i xs) ≡ take i o ++ xs = rw (whole) (take-at (take i o ++ xs) (drop j o) j l) in
+    let back : drop (j + length bs) (over o i xs) ≡ drop (j + length bs) o =
+    rw (whole, ← l) (drop-append-add (take i o ++ xs) (drop (length (take i o ++ xs)) o) (length bs) ∙ drop-drop (length bs) (length (take i o ++ xs)) o) in
+    rw (front, back, length-append, e, add-assoc, append-assoc, append-assoc) refl
+
+-- a part of a part: what is overwritten behind place h
+pub over-part : {A : Type 0} (o : List A) (h i : ℕ) (bs : List A) → h ≤ length o
+    → take h o ++ over (drop h o) i bs ≡ over o (h + i) bs
+unfolding over
+over-part o h i bs l =
+    rw (drop-drop (i + length bs) h o, take-add h i o, add-assoc, append-assoc) refl
+
+-- a stored byte is a part of length one
+pub set-over : {A : Type 0} (o : List A) (i : ℕ) (x : A) → i < length o → set o i x ≡ over o i (x ∷ [])
+unfolding over
+set-over o i x h = rw (add-one) (set-split o i x h)
+
+-- what stands in the part that was overwritten
+pub take-over : {A : Type 0} (o bs : List A) → take (length bs) (over o 0 bs) ≡ bs
+take-over o bs = rw over-front (lib.Seq.take-append-seam bs (drop (length bs) o))
+
+-- a loop that copies from the front: one more entry stored
+pub copy-more : {A : Type 0} (o : List A) (i j : ℕ) (s : List A) (d : A) → i + j < length o → j < length s
+    → set (over o i (take j s)) (i + j) (getD s j d) ≡ over o i (take (j + 1) s)
+copy-more o i j s d ho hs =
+    let l : length (take j s) ≡ j = length-take-le j s (omega arith) in
+    set-over (over o i (take j s)) (i + j) (getD s j d) (rw (length-over o i (take j s) (rw l (omega arith))) ho)
+    ∙ over-over o i (i + j) (take j s) (getD s j d ∷ []) (omega arith) (rw l refl)
+    ∙ ap (over o i) (rw (add-one) (sym (take-suc s j d hs)))

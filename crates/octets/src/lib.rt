@@ -1,0 +1,104 @@
+// Byte strings: reading with 0 past the end, copying, and numbers least significant byte first.
+
+ghost use mathlib.Core.Path.{_≡_};
+ghost use Prim.Native.Nat.{_+_, _*_, _≤_, _<_, _^_};
+ghost use lib.ListN.{length, getD};
+ghost use Rattle.octets.specs.Strings.{over};
+ghost use Rattle.octets.specs.Numbers.{le, leAt};
+
+// A byte as a wider number.
+pub fn wide(x: u8) -> u64
+    ensures { λ r. ⌜ r ≡ x ⌝ }
+{
+    x as u64
+}
+
+// The byte at place i, or 0 past the end.
+pub fn byte_at(s: &[u8], i: usize) -> u8
+    ensures { λ r. ⌜ r ≡ getD (now (s .entry)) i 0 ⌝ }
+{
+    if i < s.len() { s[i] } else { 0 }
+}
+
+// The 16-bit number at place i, least significant byte first; bytes past the end count 0.
+pub fn read_u16(s: &[u8], i: usize) -> u16
+    ensures { λ r. ⌜ r ≡ leAt 2 (now (s .entry)) i ⌝ }
+{
+    if s.len() <= i {
+        return 0;
+    }
+    let low = byte_at(s, i);
+    let high = byte_at(s, i + 1);
+    (low as u16) + (high as u16) * 256
+}
+
+// The 32-bit number at place i, likewise.
+pub fn read_u32(s: &[u8], i: usize) -> u32
+    ensures { λ r. ⌜ r ≡ leAt 4 (now (s .entry)) i ⌝ }
+{
+    if s.len() <= i {
+        return 0;
+    }
+    let low = read_u16(s, i);
+    let high = read_u16(s, i + 2);
+    (low as u32) + (high as u32) * 65536
+}
+
+// The 64-bit number at place i, likewise.
+pub fn read_u64(s: &[u8], i: usize) -> u64
+    ensures { λ r. ⌜ r ≡ leAt 8 (now (s .entry)) i ⌝ }
+{
+    if s.len() <= i {
+        return 0;
+    }
+    let low = read_u32(s, i);
+    let high = read_u32(s, i + 4);
+    (low as u64) + (high as u64) * 0x1_0000_0000
+}
+
+// Write one byte at place i.
+pub fn put_u8(out: &mut [u8], i: usize, x: u8)
+    requires { ⌜ i + 1 ≤ length (now out) ⌝ }
+    ensures { λ _. ⌜ now (out .exit) ≡ over (now (out .entry)) i (le 1 x) ⌝ }
+{
+    out[i] = x;
+}
+
+// Write a 16-bit number at place i, least significant byte first.
+pub fn put_u16(out: &mut [u8], i: usize, x: u16)
+    requires { ⌜ i + 2 ≤ length (now out) ⌝ }
+    ensures { λ _. ⌜ now (out .exit) ≡ over (now (out .entry)) i (le 2 x) ⌝ }
+{
+    put_u8(out, i, (x % 256) as u8);
+    put_u8(out, i + 1, (x / 256) as u8);
+}
+
+// Write a 32-bit number at place i, likewise.
+pub fn put_u32(out: &mut [u8], i: usize, x: u32)
+    requires { ⌜ i + 4 ≤ length (now out) ⌝ }
+    ensures { λ _. ⌜ now (out .exit) ≡ over (now (out .entry)) i (le 4 x) ⌝ }
+{
+    put_u16(out, i, (x % 65536) as u16);
+    put_u16(out, i + 2, (x / 65536) as u16);
+}
+
+// Write a 64-bit number at place i, likewise.
+pub fn put_u64(out: &mut [u8], i: usize, x: u64)
+    requires { ⌜ i + 8 ≤ length (now out) ⌝ }
+    ensures { λ _. ⌜ now (out .exit) ≡ over (now (out .entry)) i (le 8 x) ⌝ }
+{
+    put_u32(out, i, (x % 0x1_0000_0000) as u32);
+    put_u32(out, i + 4, (x / 0x1_0000_0000) as u32);
+}
+
+// Copy all of src over out from place i on.
+pub fn copy_at(out: &mut [u8], i: usize, src: &[u8])
+    requires { ⌜ i + length (now src) ≤ length (now out) ⌝ }
+    ensures { λ _. ⌜ now (out .exit) ≡ over (now (out .entry)) i (now (src .entry)) ⌝ }
+{
+    let mut j = 0;
+    while j < src.len() {
+        out[i + j] = src[j];
+        j += 1;
+    }
+}
