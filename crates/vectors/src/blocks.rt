@@ -22,6 +22,7 @@ fn compared(key: [u8; 16], plaintext: [u8; 16], ciphertext: [u8; 16]) -> Line {
     }
 }
 
+// What one line shows, without its newline.
 fn check_line(line: &[u8]) -> Line {
     if line.len() == 0 {
         return Line::Comment;

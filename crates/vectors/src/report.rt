@@ -1,10 +1,12 @@
 // What the program writes to standard output.
 use libc::STDOUT_FILENO;
 
+// Writes a text.
 fn text(s: &[u8]) {
     io::write_all(STDOUT_FILENO, s);
 }
 
+// Writes a number.
 fn number(n: u64) {
     io::print_decimal(STDOUT_FILENO, n);
 }
