@@ -1,4 +1,4 @@
--- FIPS 197, section 5.1: the cipher, for Nr = 10 rounds.
+-- FIPS 197 (2001), section 5.1: the cipher, for Nr = 10 rounds.
 -- Assumes nothing.
 use mathlib.Core.List.{List, []}
 use Prim.Native.Nat.{ℕ, zero, suc}

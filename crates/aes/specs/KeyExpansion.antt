@@ -1,4 +1,4 @@
--- FIPS 197, section 5.2: the key expansion, for a key of Nk = 4 words and Nr = 10 rounds.
+-- FIPS 197 (2001), section 5.2: the key expansion, for a key of Nk = 4 words and Nr = 10 rounds.
 -- Assumes nothing.
 use mathlib.Core.List.{List, [], _∷_, _++_}
 use mathlib.Core.Bool.{cond}

@@ -1,4 +1,4 @@
--- FIPS 197, sections 3.4 and 3.5: the state, four columns of four bytes, and its columns as words.
+-- FIPS 197 (2001), sections 3.4 and 3.5: the state, four columns of four bytes, and its columns as words.
 -- Assumes nothing.
 use mathlib.Core.List.{List, [], _∷_, _++_}
 use Prim.Native.Nat.{ℕ, _+_, _*_}
@@ -24,10 +24,10 @@ four f = f 0 ∷ f 1 ∷ f 2 ∷ f 3 ∷ []
 unfoldable pub state : (ℕ → ℕ → ℕ) → List (List ℕ)
 state f = four (λ c. four (λ r. f r c))
 
--- (3.3): s[r,c] = in[r + 4c]
+-- (3.3): the state of a block, s[r,c] = in[r + 4c]
 unfoldable pub stateOf : List ℕ → List (List ℕ)
 stateOf b = state (λ r c. byte b (r + 4 * c))
 
--- (3.4): out[r + 4c] = s[r,c]
+-- (3.4): the block of a state, out[r + 4c] = s[r,c]
 unfoldable pub blockOf : List (List ℕ) → List ℕ
 blockOf s = four (λ r. at s r 0) ++ four (λ r. at s r 1) ++ four (λ r. at s r 2) ++ four (λ r. at s r 3)

@@ -1,4 +1,4 @@
--- FIPS 197, section 5.2: what KeyExpansion does with a word.
+-- FIPS 197 (2001), section 5.2: what KeyExpansion does with a word.
 -- Assumes nothing.
 use mathlib.Core.List.{List, [], _∷_}
 use Prim.Native.Nat.{ℕ, zero, suc, _-_}

@@ -1,4 +1,4 @@
--- FIPS 197, section 4: a byte as an element of GF(2^8), the polynomial whose coefficients are its bits.
+-- FIPS 197 (2001), section 4: a byte as an element of GF(2^8), the polynomial whose coefficients are its bits.
 -- Not here: the S-box (SBox), and the laws (proofs/Bytes).
 -- Assumes nothing.
 use Prim.Native.Nat.{ℕ, zero, suc, _*_, _/_, _%_}

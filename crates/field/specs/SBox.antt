@@ -1,4 +1,5 @@
--- FIPS 197, section 5.1.1: the substitution of a byte, by its inverse and an affine map.
+-- FIPS 197 (2001), section 5.1.1: the substitution of a byte, by its inverse and an affine map.
+-- Not here: the laws (proofs/Computed, proofs/Bounds).
 -- Assumes nothing.
 use mathlib.Core.List.{List, [], _∷_}
 use Prim.Native.Nat.{ℕ, zero, suc, _+_, _*_, _/_, _%_, _^_}
@@ -12,11 +13,12 @@ bit b i = b / 2 ^ i % 2
 unfoldable pub affineBit : ℕ → ℕ → ℕ
 affineBit b i = bit b i ⊕ bit b ((i + 4) % 8) ⊕ bit b ((i + 5) % 8) ⊕ bit b ((i + 6) % 8) ⊕ bit b ((i + 7) % 8) ⊕ bit 0x63 i
 
--- the number of n bits
+-- the number whose n bits f gives
 unfoldable pub ofBits : ℕ → (ℕ → ℕ) → ℕ
 ofBits zero f = 0
 ofBits (suc n) f = f n * 2 ^ n + ofBits n f
 
+-- (5.1): the affine map, at all eight bits
 unfoldable pub affine : ℕ → ℕ
 affine b = ofBits 8 (affineBit b)
 
