@@ -124,6 +124,10 @@ set-over o i x h = rw (add-one) (set-split o i x h)
 pub take-over : {A : Type 0} (o bs : List A) → take (length bs) (over o 0 bs) ≡ bs
 take-over o bs = rw over-front (lib.Seq.take-append-seam bs (drop (length bs) o))
 
+-- the whole overwritten
+pub over-all : {A : Type 0} (o bs : List A) → length o ≡ length bs → over o 0 bs ≡ bs
+over-all o bs e = rw (over-front, ← e, lib.Seq.drop-length) (append-nil bs)
+
 -- a loop that copies from the front: one more entry stored
 pub copy-more : {A : Type 0} (o : List A) (i j : ℕ) (s : List A) (d : A) → i + j < length o → j < length s
     → set (over o i (take j s)) (i + j) (getD s j d) ≡ over o i (take (j + 1) s)

@@ -1,0 +1,66 @@
+// A file of vectors: its bytes, and its lines.
+ghost use Prim.Native.Nat.{_≤_};
+ghost use lib.ListN.{length};
+ghost use Rattle.io.specs.Counts.{Counts};
+use crate::report;
+
+// Reads the whole file into `bytes` and answers how many there are, or says what is wrong and answers 0.
+pub fn load(name: &[u8], bytes: &mut [u8]) -> usize
+    ensures { λ r. ⌜ Counts r (now (bytes .exit)) ⌝ }
+{
+    let fd = os::open_read(name);
+    if fd < 0 {
+        report::of_file(name, b"cannot be opened");
+        return 0;
+    }
+    let n = io::read_full(fd, bytes);
+    libc::close(fd);
+    if n == 0 {
+        report::of_file(name, b"is empty or cannot be read");
+        return 0;
+    }
+    if n == bytes.len() {
+        report::of_file(name, b"is too long to be read whole");
+        return 0;
+    }
+    n
+}
+
+// The end of the line that starts at `at`: where the next newline stands, or the end of the text.
+pub fn line_end(text: &[u8], at: usize) -> usize
+    requires { ⌜ at ≤ length (now text) ⌝ }
+    ensures { λ r. ⌜ (at ≤ r) × (r ≤ length (now (text .entry))) ⌝ }
+{
+    let mut end = at;
+    while end < text.len() {
+        if text[end] == b'\n' {
+            return end;
+        }
+        end += 1;
+    }
+    end
+}
+
+// Where the name of a section stands in the text.
+pub struct Section {
+    pub start: usize,
+    pub end: usize,
+}
+
+// The section that the line from `at` to `end` belongs to: a line "# file NAME" starts one, and any other leaves it as it was.
+pub fn section_of(text: &[u8], at: usize, end: usize, before: Section) -> Section
+    requires { ⌜ (at ≤ end) × (end ≤ length (now text)) ⌝ }
+    requires { ⌜ (before .start ≤ before .end) × (before .end ≤ length (now text)) ⌝ }
+    ensures { λ r. ⌜ (r .start ≤ r .end) × (r .end ≤ length (now (text .entry))) ⌝ }
+{
+    let mark = b"# file ";
+    if end - at < 7 {
+        return before;
+    }
+    for i in 0..7 {
+        if text[at + i] != mark[i] {
+            return before;
+        }
+    }
+    Section { start: at + 7, end }
+}
