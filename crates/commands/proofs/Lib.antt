@@ -1,0 +1,9 @@
+-- The laws of the fifteen NWK commands.
+pub mod Format
+pub mod CodeLaws
+pub mod Commands
+pub mod Ranges
+pub mod Lengths
+pub mod Reread
+pub mod RoundTrip
+pub mod Cases
