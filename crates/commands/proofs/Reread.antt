@@ -62,7 +62,7 @@ entry-read of g n d m k h =
     ∙ getD-tab (λ (j : ℕ). of (g j)) n k d (rw (length-map (tab g n) of, length-tab g n) at h)
 
 -- as many as the head announces
-length-read : {A : Type 0} (of : List ℕ → A) (f : Format) (s : List ℕ) → length (map of (values f s .entries)) ≡ announced f s
+pub length-read : {A : Type 0} (of : List ℕ → A) (f : Format) (s : List ℕ) → length (map of (values f s .entries)) ≡ announced f s
 length-read of f s = length-map (values f s .entries) of ∙ length-entries f s
 
 -- what was read is cleared already
@@ -82,7 +82,7 @@ cleared-read NwkCommandList.Bytes c s = refl
 -- ---- the lists
 
 -- the values of entry k of a format
-abbrev entryAt : Format → List ℕ → ℕ → List ℕ
+abbrev pub entryAt : Format → List ℕ → ℕ → List ℕ
 entryAt f s k = readFields (f .entry) s (headEnd f + k * sizes (f .entry))
 
 -- its first value is a number of two bytes
@@ -117,7 +117,8 @@ link-same : (s : List ℕ) (k : ℕ) → linkEntry (linkOf (entryAt linkStatusFo
 unfolding linkEntry linkOf linkStatusFormat readFields readField kept partSizes fields
 link-same s k = refl
 
-abbrev Good : NwkCommandList → NwkCommand → List ℕ → Type 0
+-- the list is within its places and its entries within their types
+abbrev pub Good : NwkCommandList → NwkCommand → List ℕ → Type 0
 Good k c s = RangedList k (listed k c s) × (tooBig k c (listed k c s) ≡ false)
 
 relays-read : (c : NwkCommand) (s : List ℕ) → Below 256 s → length s ≤ 108 → bodyEnd routeRecordFormat s ≤ length s → Good NwkCommandList.Relays c s

@@ -64,7 +64,7 @@ wire-back c f (body id v) rest w t e =
     ∙ w .list s (values-back (formatOf id) v (commandIdCode id) rest (w .fit) ok)
 wire-back c f (raw bs) rest w t e = absurd (subst (λ (d : NwkCommand). Typed (listOf d)) w t)
 
-read-accepts : (s : List ℕ) → length s ≤ 108 → readCommand s ≡ accepted (frameOf (typed s) s)
+pub read-accepts : (s : List ℕ) → length s ≤ 108 → readCommand s ≡ accepted (frameOf (typed s) s)
 unfolding readCommand
 read-accepts s h = rw (le-ltb 108 (length s) h) refl
 
@@ -134,7 +134,7 @@ unfolding typedBy bodyOf
 id-writable (NwkCommandIdCode.Known id) s b short = body-writable id s (leb (bodyEnd (formatOf id) s) (length s)) refl b short
 id-writable NwkCommandIdCode.Unknown s b short = tt
 
-typed-writable : (s : List ℕ) → Below 256 s → length s ≤ 108 → Writable s (typed s)
+pub typed-writable : (s : List ℕ) → Below 256 s → length s ≤ 108 → Writable s (typed s)
 unfolding typed
 typed-writable s b short = id-writable (commandIdOf (getD s 0 0)) s b short
 
