@@ -4,6 +4,7 @@ pub mod CodeLaws
 pub mod Commands
 pub mod Ranges
 pub mod Lengths
+pub mod InRange
 pub mod Reread
 pub mod RoundTrip
 pub mod Cases

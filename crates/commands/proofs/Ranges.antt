@@ -17,7 +17,7 @@ use Rattle.commands.specs.Codes.{bit, deviceTypeBit, powerSourceBit}
 use Rattle.commands.specs.Format.{Field, Values, width, keptCount, size, sizes, heldParts, heldField, heldFields, heldEntries, heldValues, bodyBytes}
 use Rattle.commands.specs.Commands.{routeRequestFormat, routeRequestValues, routeReplyFormat, routeReplyValues, networkStatusFormat, networkStatusValues, leaveFormat, leaveValues, routeRecordFormat, routeRecordValues, rejoinRequestFormat, rejoinRequestValues, rejoinResponseFormat, rejoinResponseValues, linkStatusFormat, linkStatusValues, networkReportFormat, networkReportValues, networkUpdateFormat, networkUpdateValues, timeoutRequestFormat, timeoutRequestValues, timeoutResponseFormat, timeoutResponseValues, linkPowerDeltaFormat, linkPowerDeltaValues, commissioningRequestFormat, commissioningRequestValues, commissioningResponseFormat, commissioningResponseValues, capabilityField, capabilityValues, has, addressEntry, firsts, relayEntry, linkEntry, noLink, powerEntry, noPower}
 use Rattle.commands.specs.Reading.{formatOf, listOf, maxNsduSize}
-use Rattle.commands.specs.Writing.{Wire, wireOf, wireBytes, overPlaces, misfits}
+use Rattle.commands.specs.Writing.{Wire, wireOf, wireBytes, overPlaces, misfits, updateCount}
 use Rattle.commands.specs.Writing.Wire.{body, raw}
 use Rattle.commands.proofs.Format.{both, held-all, length-bodyBytes}
 use Rattle.commands.proofs.CodeLaws.{manyToOne-lt, status-lt, associationStatus-lt, reportIdentifier-lt, updateIdentifier-lt, timeout-lt, timeoutStatus-lt, powerType-lt, commissioningType-lt, bit-lt}
@@ -81,25 +81,6 @@ RangedList NwkCommandList.PowerList f =
 RangedList NwkCommandList.Bytes f = Unit {0}
 
 -- ---- what is left to test
-
--- the stored count of a network update, 0 for the others
-abbrev pub updateCount : NwkCommand → ℕ
-updateCount (NwkCommand.RouteRequest c) = 0
-updateCount (NwkCommand.RouteReply c) = 0
-updateCount (NwkCommand.NetworkStatus c) = 0
-updateCount (NwkCommand.Leave c) = 0
-updateCount NwkCommand.RouteRecord = 0
-updateCount (NwkCommand.RejoinRequest c) = 0
-updateCount (NwkCommand.RejoinResponse c) = 0
-updateCount (NwkCommand.LinkStatus c) = 0
-updateCount (NwkCommand.NetworkReport c) = 0
-updateCount (NwkCommand.NetworkUpdate c) = c .«update_information_count»
-updateCount (NwkCommand.EndDeviceTimeoutRequest c) = 0
-updateCount (NwkCommand.EndDeviceTimeoutResponse c) = 0
-updateCount (NwkCommand.LinkPowerDelta c) = 0
-updateCount (NwkCommand.NetworkCommissioningRequest c) = 0
-updateCount (NwkCommand.NetworkCommissioningResponse c) = 0
-updateCount NwkCommand.Unparsed = 0
 
 -- the link status entries as values
 abbrev pub linkEntries : NwkCommandFrame → List (List ℕ)

@@ -20,9 +20,10 @@ use Rattle.octets.proofs.Numbers.{leAt-lt}
 use Rattle.commands.specs.Format.{Format, Values, partSizes, kept, size, sizes, readField, readFields, summed, plus, headEnd, announced, bodyEnd, values, heldEntries, heldFields, heldValues}
 use Rattle.commands.specs.Commands.{routeRequestFormat, routeRequestOf, routeReplyFormat, routeReplyOf, networkStatusFormat, networkStatusOf, leaveFormat, leaveOf, routeRecordFormat, routeRecordOf, rejoinRequestFormat, rejoinRequestOf, rejoinResponseFormat, rejoinResponseOf, linkStatusFormat, linkStatusOf, networkReportFormat, networkReportOf, networkUpdateFormat, networkUpdateOf, timeoutRequestFormat, timeoutRequestOf, timeoutResponseFormat, timeoutResponseOf, linkPowerDeltaFormat, linkPowerDeltaOf, commissioningRequestFormat, commissioningRequestOf, commissioningResponseFormat, commissioningResponseOf, routeRequestBy, networkStatusBy, rejoinResponseBy, networkReportBy, networkUpdateBy, timeoutRequestBy, timeoutResponseBy, linkPowerDeltaBy, commissioningRequestBy, commissioningResponseBy, addressOf, firsts, relayOf, linkOf, linkEntry, noLink, powerOf, noPower}
 use Rattle.commands.specs.Reading.{formatOf, commandOf, places, frame, listOf, listed, clearedBy}
+use Rattle.commands.specs.Writing.{updateCount}
 use Rattle.commands.proofs.Format.{values-held, length-entries, second}
 use Rattle.commands.proofs.Commands.{map-tab}
-use Rattle.commands.proofs.Ranges.{InAddress, Ranged, RangedList, updateCount, linkEntries, tooBig}
+use Rattle.commands.proofs.Ranges.{InAddress, Ranged, RangedList, linkEntries, tooBig}
 use Rattle.commands.proofs.Lengths.{Typed}
 use Rattle.commands.specs.declared.MaybeEui64.{MaybeEui64}
 use Rattle.commands.specs.declared.NwkCommandId.{NwkCommandId}

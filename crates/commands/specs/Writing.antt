@@ -53,6 +53,25 @@ wireBytes (raw bs) = bs
 unfoldable pub commandBytes : NwkCommandFrame → List ℕ
 commandBytes f = wireBytes (wire f)
 
+-- the stored count of a network update, 0 for the others
+abbrev pub updateCount : NwkCommand → ℕ
+updateCount (NwkCommand.RouteRequest c) = 0
+updateCount (NwkCommand.RouteReply c) = 0
+updateCount (NwkCommand.NetworkStatus c) = 0
+updateCount (NwkCommand.Leave c) = 0
+updateCount NwkCommand.RouteRecord = 0
+updateCount (NwkCommand.RejoinRequest c) = 0
+updateCount (NwkCommand.RejoinResponse c) = 0
+updateCount (NwkCommand.LinkStatus c) = 0
+updateCount (NwkCommand.NetworkReport c) = 0
+updateCount (NwkCommand.NetworkUpdate c) = c .«update_information_count»
+updateCount (NwkCommand.EndDeviceTimeoutRequest c) = 0
+updateCount (NwkCommand.EndDeviceTimeoutResponse c) = 0
+updateCount (NwkCommand.LinkPowerDelta c) = 0
+updateCount (NwkCommand.NetworkCommissioningRequest c) = 0
+updateCount (NwkCommand.NetworkCommissioningResponse c) = 0
+updateCount NwkCommand.Unparsed = 0
+
 -- the list has more entries than places
 unfoldable pub overPlaces : NwkCommandList → ℕ → Bool
 overPlaces NwkCommandList.NoList n = false
