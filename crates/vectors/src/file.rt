@@ -26,14 +26,21 @@ pub fn load(name: &[u8], bytes: &mut [u8]) -> usize
     n
 }
 
-// The end of the line that starts at `at`: where the next newline stands, or the end of the text.
-pub fn line_end(text: &[u8], at: usize) -> usize
+// The number n, or the length of `s` where that is less: a count of bytes at the front of `s`.
+pub fn within(n: usize, s: &[u8]) -> usize
+    ensures { λ r. ⌜ Counts r (now (s .entry)) ⌝ }
+{
+    if n < s.len() { n } else { s.len() }
+}
+
+// Where the byte `mark` stands next from `at` on, or the end of the text.
+pub fn next(text: &[u8], at: usize, mark: u8) -> usize
     requires { ⌜ at ≤ length (now text) ⌝ }
     ensures { λ r. ⌜ (at ≤ r) × (r ≤ length (now (text .entry))) ⌝ }
 {
     let mut end = at;
     while end < text.len() {
-        if text[end] == b'\n' {
+        if text[end] == mark {
             return end;
         }
         end += 1;
@@ -41,7 +48,7 @@ pub fn line_end(text: &[u8], at: usize) -> usize
     end
 }
 
-// Where the name of a section stands in the text.
+// A part of the text: a section's name, or a word.
 pub struct Section {
     pub start: usize,
     pub end: usize,
@@ -63,4 +70,33 @@ pub fn section_of(text: &[u8], at: usize, end: usize, before: Section) -> Sectio
         }
     }
     Section { start: at + 7, end }
+}
+
+// Where word k of a line starts: behind its k-th space.
+fn word_start(line: &[u8], k: usize) -> usize
+    ensures { λ r. ⌜ r ≤ length (now (line .entry)) ⌝ }
+{
+    let mut i = 0;
+    let mut left = k;
+    while i < line.len() {
+        if left == 0 {
+            return i;
+        }
+        if line[i] == b' ' {
+            left -= 1;
+        }
+        i += 1;
+    }
+    i
+}
+
+// Word k of a line, counted from 0; where there is none, it is empty and stands at the end.
+pub fn word(line: &[u8], k: usize) -> Section
+    ensures { λ r. ⌜ (r .start ≤ r .end) × (r .end ≤ length (now (line .entry))) ⌝ }
+{
+    let start = word_start(line, k);
+    Section {
+        start,
+        end: next(line, start, b' '),
+    }
 }

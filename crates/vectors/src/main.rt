@@ -1,10 +1,17 @@
 // Runs the proved code on the outside vectors in data/. Each line that differs or is damaged is named, and at the end of
-// each file it says how many of how many agree.
+// each file it says how many of how many agree. Then the limits of document 01 are run.
 mod blocks;
+mod entries;
 mod file;
 mod hex;
+mod limits;
+mod lines;
 mod report;
 
+use lines::Kind;
+
 fn main() {
-    blocks::run(b"aes128_ecb.txt");
+    lines::run(Kind::Blocks, b"aes128_ecb.txt");
+    lines::run(Kind::Entries, b"ccm_13_4.txt");
+    limits::run();
 }

@@ -31,6 +31,14 @@ pub fn of_line(name: &[u8], line: u64, section: &[u8], what: &[u8]) {
     text(b"\n");
 }
 
+// A case of a table that differs: "table, case i: differs".
+pub fn of_case(table: &[u8], i: u64) {
+    text(table);
+    text(b", case ");
+    number(i);
+    text(b": differs\n");
+}
+
 // How many agree: "name: a of n things agree".
 pub fn total(name: &[u8], agreed: u64, tried: u64, things: &[u8]) {
     text(name);

@@ -1,25 +1,25 @@
--- `vectors::blocks::run_text` is safe and ends. The loop's invariant: the line's start and the section's name are within the text, and no more lines
+-- `vectors::lines::run_text` is safe and ends. The loop's invariant: the line's start and the section's name are within the text, and no more lines
 -- are counted than were passed.
 -- Assumes nothing.
 use Prim.Native.Nat.{_+_, _-_, _≤_}
 use native.Mathlib.Omega.{arith}
 use borrow.Author.Needs.{needs}
 use lib.ListN.{length}
-use Rattle.vectors.proofs.blocks.run_text.Statement.{statement}
-use Rattle.vectors.proofs.blocks.run_text.Tie as tie
+use Rattle.vectors.proofs.lines.run_text.Statement.{statement}
+use Rattle.vectors.proofs.lines.run_text.Tie as tie
 
 abbrev Inv-loop : tie.InvT-loop
-Inv-loop name text tally₀ number₀ section₀ at₀ tally number section at =
+Inv-loop kind name text tally₀ number₀ section₀ at₀ tally number section at =
     (at ≤ length text + 1) × (number ≤ at) × (section .start ≤ section .end) × (section .end ≤ length text) × (tally .agreed ≤ tally .tried) × (tally .tried ≤ number)
 
 abbrev μ-loop : tie.MeasureT-loop
-μ-loop name text tally₀ number₀ section₀ at₀ tally number section at = length text + 1 - at
+μ-loop kind name text tally₀ number₀ section₀ at₀ tally number section at = length text + 1 - at
 
 loop-holds : tie.Need-loop-holds Inv-loop μ-loop
 loop-holds c = omega arith
 
-line-end-requires : tie.Need-line-end-requires Inv-loop μ-loop
-line-end-requires c κs = search needs
+next-requires : tie.Need-next-requires Inv-loop μ-loop
+next-requires c κs = search needs
 
 section-of-requires : tie.Need-section-of-requires Inv-loop μ-loop
 section-of-requires c κs = search needs
@@ -73,7 +73,7 @@ run-text-spec =
     Inv-loop
     μ-loop
     loop-holds
-    line-end-requires
+    next-requires
     section-of-requires
     add-number
     sub-check-line

@@ -1,16 +1,16 @@
--- `vectors::file::line_end` meets its contract. The loop's invariant: the end found so far is within the text, and not before the start.
+-- `vectors::file::next` meets its contract. The loop's invariant: the end found so far is within the text, and not before the start.
 -- Assumes nothing.
 use Prim.Native.Nat.{_≤_, _-_}
 use native.Mathlib.Omega.{arith}
 use lib.ListN.{length}
-use Rattle.vectors.proofs.file.line_end.Statement.{statement}
-use Rattle.vectors.proofs.file.line_end.Tie as tie
+use Rattle.vectors.proofs.file.next.Statement.{statement}
+use Rattle.vectors.proofs.file.next.Tie as tie
 
 abbrev Inv-loop : tie.InvT-loop
-Inv-loop text at end₀ end = (at ≤ end) × (end ≤ length text)
+Inv-loop text at mark end₀ end = (at ≤ end) × (end ≤ length text)
 
 abbrev μ-loop : tie.MeasureT-loop
-μ-loop text at end₀ end = length text - end
+μ-loop text at mark end₀ end = length text - end
 
 loop-holds : tie.Need-loop-holds Inv-loop μ-loop
 loop-holds c = omega arith
@@ -33,8 +33,8 @@ loop-again c = omega arith
 returns-2 : tie.Need-returns-2 Inv-loop μ-loop
 returns-2 c = omega arith
 
-pub line-end-spec : {M : Type 1} → statement M
-line-end-spec =
+pub next-spec : {M : Type 1} → statement M
+next-spec =
     tie.close
     (tie.spec
     Inv-loop
