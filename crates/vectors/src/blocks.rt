@@ -1,5 +1,7 @@
 // The AES-128 known answers: lines of a key, a plaintext block and its ciphertext, 32 hexadecimal digits each, with a space between.
-use crate::hex;
+use crate::fields::field;
+use crate::fields::whole;
+use crate::file;
 use crate::lines::Line;
 
 // Whether the plaintext under the key is the ciphertext.
@@ -20,25 +22,17 @@ pub fn check_line(line: &[u8]) -> Line {
     if line[0] == b'#' {
         return Line::Comment;
     }
-    if line.len() != 98 {
-        return Line::Damaged;
-    }
-    if line[32] != b' ' {
-        return Line::Damaged;
-    }
-    if line[65] != b' ' {
+    if !file::ends_at(line, 3) {
         return Line::Damaged;
     }
     let mut key = [0u8; 16];
     let mut plaintext = [0u8; 16];
     let mut ciphertext = [0u8; 16];
-    if !hex::decode(&line[0..32], &mut key) {
-        return Line::Damaged;
-    }
-    if !hex::decode(&line[33..65], &mut plaintext) {
-        return Line::Damaged;
-    }
-    if !hex::decode(&line[66..98], &mut ciphertext) {
+    let k = field(line, 0, &mut key);
+    let p = field(line, 1, &mut plaintext);
+    let c = field(line, 2, &mut ciphertext);
+    let good = whole(k, 16) && whole(p, 16) && whole(c, 16);
+    if !good {
         return Line::Damaged;
     }
     compared(key, plaintext, ciphertext)

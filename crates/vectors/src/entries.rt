@@ -1,41 +1,13 @@
 // The CCM validation entries: lines of a key, a nonce, associated data, a payload, a ciphertext, a tag, and pass or fail, in
 // hexadecimal digits with a space between, "-" for nothing. An entry that passes is sealed and opened to the byte; one that
 // fails is refused by 19 with the lent output unchanged. Where it fails the payload is "?".
-ghost use Prim.Native.Nat.{_≤_};
-ghost use lib.ListN.{length};
-ghost use Rattle.io.specs.Counts.{Counts};
+use crate::fields::field;
+use crate::fields::whole;
 use crate::file;
-use crate::hex;
 use crate::lines::Line;
 
 // What the lent outputs hold before a call.
 pub const FILLER: u8 = 0xA5;
-
-// What reading a field gives: whether it is well formed, and how many bytes it has.
-struct FieldRead {
-    good: bool,
-    n: usize,
-}
-
-// Reads word k into the front of `out`.
-fn field(line: &[u8], k: usize, out: &mut [u8]) -> FieldRead
-    ensures { λ r. ⌜ Counts (r .n) (now (out .exit)) ⌝ }
-{
-    let w = file::word(line, k);
-    let from = w.start;
-    let to = w.end;
-    if is_dash(&line[from..to]) {
-        return FieldRead { good: true, n: 0 };
-    }
-    let n = file::within((to - from) / 2, out);
-    let good = hex::decode(&line[from..to], &mut out[..n]);
-    FieldRead { good, n }
-}
-
-// Whether a word says that there is nothing.
-fn is_dash(word: &[u8]) -> bool {
-    check::same(word, b"-")
-}
 
 // Whether every byte is the filler.
 pub fn untouched(s: &[u8]) -> bool {
@@ -74,7 +46,7 @@ fn fixed_parts(line: &[u8]) -> Fixed {
     let k = field(line, 0, &mut key);
     let n = field(line, 1, &mut nonce);
     let t = field(line, 5, &mut mic);
-    let good = k.good && n.good && t.good && k.n == 16 && n.n == 13 && t.n == 4;
+    let good = whole(k, 16) && whole(n, 13) && whole(t, 4);
     Fixed {
         good,
         key,
@@ -186,6 +158,9 @@ pub fn check_line(line: &[u8]) -> Line {
     }
     if line[0] == b'#' {
         return Line::Comment;
+    }
+    if !file::ends_at(line, 7) {
+        return Line::Damaged;
     }
     let f = fixed_parts(line);
     if !f.good {

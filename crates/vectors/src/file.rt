@@ -100,3 +100,8 @@ pub fn word(line: &[u8], k: usize) -> Section
         end: next(line, start, b' '),
     }
 }
+
+// Whether a line has no word k.
+pub fn ends_at(line: &[u8], k: usize) -> bool {
+    word_start(line, k) == line.len()
+}

@@ -2,6 +2,7 @@
 // each file it says how many of how many agree. Then the limits of document 01 are run.
 mod blocks;
 mod entries;
+mod fields;
 mod file;
 mod hex;
 mod limits;

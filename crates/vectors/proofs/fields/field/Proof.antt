@@ -1,7 +1,7 @@
--- `vectors::entries::field` is safe, and what it counts is at the front of the output. Assumes nothing.
+-- `vectors::fields::field` is safe, and what it counts is at the front of the output. Assumes nothing.
 use borrow.Author.Needs.{needs}
-use Rattle.vectors.proofs.entries.field.Statement.{statement}
-use Rattle.vectors.proofs.entries.field.Tie as tie
+use Rattle.vectors.proofs.fields.field.Statement.{statement}
+use Rattle.vectors.proofs.fields.field.Tie as tie
 use Rattle.vectors.proofs.Fronts.{front-counts}
 
 word-requires : tie.Need-word-requires
