@@ -8,15 +8,6 @@ use Rattle.aes.specs.Words.{powerOfX, rcon}
 use Rattle.aes.proofs.words.round_constant.Statement.{statement}
 use Rattle.aes.proofs.words.round_constant.Tie as tie
 
-powers-of-x-requires : tie.Need-powers-of-x-requires
-powers-of-x-requires c κs = search needs
-
-sub-t4 : tie.Need-sub-t4
-sub-t4 c = search needs
-
-array-read-t7 : tie.Need-array-read-t7
-array-read-t7 c = search needs
-
 returns : tie.Need-returns
 unfolding rcon
 returns c =
@@ -24,4 +15,4 @@ returns c =
     rw (c .powers-of-x .ensures, getD-values powerOfX 10 (c .before .args .i - 1) below)
 
 pub round-constant-spec : {M : Type 1} → statement M
-round-constant-spec = tie.close (tie.spec powers-of-x-requires sub-t4 array-read-t7 returns)
+round-constant-spec = tie.close (tie.spec (λ c κs. search needs) (λ c. search needs) (λ c. search needs) returns)
