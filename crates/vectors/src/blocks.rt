@@ -1,8 +1,8 @@
 // The AES-128 known answers: lines of a key, a plaintext block and its ciphertext, 32 hexadecimal digits each, with a space between.
-use crate::fields::field;
-use crate::fields::whole;
-use crate::file;
 use crate::lines::Line;
+use casefile::fields::field;
+use casefile::fields::whole;
+use casefile::file;
 
 // Whether the plaintext under the key is the ciphertext.
 fn compared(key: [u8; 16], plaintext: [u8; 16], ciphertext: [u8; 16]) -> Line {

@@ -1,34 +1,12 @@
 // The CCM validation entries: lines of a key, a nonce, associated data, a payload, a ciphertext, a tag, and pass or fail, in
 // hexadecimal digits with a space between, "-" for nothing. An entry that passes is sealed and opened to the byte; one that
 // fails is refused by 19 with the lent output unchanged. Where it fails the payload is "?".
-use crate::fields::field;
-use crate::fields::whole;
-use crate::file;
 use crate::lines::Line;
-
-// What the lent outputs hold before a call.
-pub const FILLER: u8 = 0xA5;
-
-// Whether every byte is the filler.
-pub fn untouched(s: &[u8]) -> bool {
-    let mut i = 0;
-    while i < s.len() {
-        if s[i] != FILLER {
-            return false;
-        }
-        i += 1;
-    }
-    true
-}
-
-// Whether the front of the output is the text, and the rest as it was.
-pub fn holds(out: &[u8], text: &[u8]) -> bool {
-    let n = file::within(text.len(), out);
-    if !check::same(&out[..n], text) {
-        return false;
-    }
-    untouched(&out[n..])
-}
+use casefile::fields::field;
+use casefile::fields::whole;
+use casefile::file;
+use casefile::outputs;
+use casefile::outputs::FILLER;
 
 // The parts of an entry whose lengths are fixed.
 struct Fixed {
@@ -72,7 +50,7 @@ fn seals(f: Fixed, auth: &[u8], payload: &[u8], ciphertext: &[u8]) -> bool {
     if !check::same(&mic, &expected) {
         return false;
     }
-    holds(&out, ciphertext)
+    outputs::holds(&out, ciphertext)
 }
 
 // An entry that passes: the ciphertext opens to the payload.
@@ -88,7 +66,7 @@ fn opens(f: Fixed, auth: &[u8], payload: &[u8], ciphertext: &[u8]) -> bool {
     if o.length != payload.len() {
         return false;
     }
-    holds(&out, payload)
+    outputs::holds(&out, payload)
 }
 
 // An entry that fails: refused by 19, and the output as it was.
@@ -104,7 +82,7 @@ fn refused(f: Fixed, auth: &[u8], ciphertext: &[u8]) -> bool {
     if o.length != 0 {
         return false;
     }
-    untouched(&out)
+    outputs::untouched(&out)
 }
 
 // What an entry shows.

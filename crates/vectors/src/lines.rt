@@ -2,8 +2,8 @@
 ghost use Prim.Native.Nat.{_≤_, _<_};
 use crate::blocks;
 use crate::entries;
-use crate::file;
-use crate::report;
+use casefile::file;
+use casefile::report;
 
 // What the lines of a file are.
 pub enum Kind {

@@ -18,12 +18,6 @@ abbrev μ-loop : tie.MeasureT-loop
 loop-holds : tie.Need-loop-holds Inv-loop μ-loop
 loop-holds c = omega arith
 
-next-requires : tie.Need-next-requires Inv-loop μ-loop
-next-requires c κs = search needs
-
-section-of-requires : tie.Need-section-of-requires Inv-loop μ-loop
-section-of-requires c κs = search needs
-
 add-number : tie.Need-add-number Inv-loop μ-loop
 add-number c = omega arith
 
@@ -36,9 +30,6 @@ part-check-line-start c = omega arith
 part-check-line-end : tie.Need-part-check-line-end Inv-loop μ-loop
 part-check-line-end c = omega arith
 
-check-line-requires : tie.Need-check-line-requires Inv-loop μ-loop
-check-line-requires c κs = search needs
-
 sub-counted : tie.Need-sub-counted Inv-loop μ-loop
 sub-counted c = omega arith
 
@@ -47,9 +38,6 @@ part-counted-start c = omega arith
 
 part-counted-end : tie.Need-part-counted-end Inv-loop μ-loop
 part-counted-end c = omega arith
-
-counted-requires : tie.Need-counted-requires Inv-loop μ-loop
-counted-requires c κs = search needs
 
 add-at : tie.Need-add-at Inv-loop μ-loop
 add-at c = omega arith
@@ -60,12 +48,6 @@ loop-less c = omega arith
 loop-again : tie.Need-loop-again Inv-loop μ-loop
 loop-again c = omega arith
 
-report-total-requires : tie.Need-report-total-requires Inv-loop μ-loop
-report-total-requires c κs = search needs
-
-returns : tie.Need-returns Inv-loop μ-loop
-returns c = search needs
-
 pub run-text-spec : {M : Type 1} → statement M
 run-text-spec =
     tie.close
@@ -73,19 +55,19 @@ run-text-spec =
     Inv-loop
     μ-loop
     loop-holds
-    next-requires
-    section-of-requires
+    (λ c κs. search needs)
+    (λ c κs. search needs)
     add-number
     sub-check-line
     part-check-line-start
     part-check-line-end
-    check-line-requires
+    (λ c κs. search needs)
     sub-counted
     part-counted-start
     part-counted-end
-    counted-requires
+    (λ c κs. search needs)
     add-at
     loop-less
     loop-again
-    report-total-requires
-    returns)
+    (λ c κs. search needs)
+    (λ c. search needs))
