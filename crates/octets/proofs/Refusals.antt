@@ -18,16 +18,21 @@ unfolding firstOf orElse
 none-join zero ns e f = f
 none-join (suc n) ns e f = e
 
--- a number that is not 0 comes before the rest
-pub first-wins : (n : ℕ) (ns : List ℕ) → firstOf (suc n ∷ ns) ≡ suc n
+-- the first condition holds
+pub stop : (n : ℕ) (b : Bool) (ns : List ℕ) → b ≡ true → firstOf (on (suc n) b ∷ ns) ≡ suc n
 unfolding firstOf orElse
-first-wins n ns = refl
+stop n b ns e = ap (λ (t : Bool). firstOf (on (suc n) t ∷ ns)) e
 
-pub passed : (ns : List ℕ) → firstOf (0 ∷ ns) ≡ firstOf ns
+-- the first condition does not hold
+pub skip : (n : ℕ) (b : Bool) (ns : List ℕ) → b ≡ false → firstOf (on n b ∷ ns) ≡ firstOf ns
 unfolding firstOf orElse
-passed ns = refl
+skip n b ns e = ap (λ (t : Bool). firstOf (on n t ∷ ns)) e
 
 -- a condition that gives no number does not hold
 pub not-on : (n : ℕ) (b : Bool) → on (suc n) b ≡ 0 → b ≡ false
 not-on n true e = absurd (omega arith)
 not-on n false e = refl
+
+pub empty : firstOf [] ≡ 0
+unfolding firstOf
+empty = refl

@@ -9,7 +9,7 @@ use native.Mathlib.Nat.{add-assoc}
 use native.Mathlib.Numerals.{add-one}
 use native.Mathlib.Decide.{decLt}
 use native.Mathlib.Omega.{arith}
-use lib.ListN.{length, getD, take, drop, set, length-append, length-drop, take-append-drop, List·getD-append}
+use lib.ListN.{length, getD, take, drop, set, length-append, length-drop, take-append-drop, List·getD-append, drop-of-length-le}
 use lib.Seq.{length-take-le, take-suc, take-at, drop-at, set-at, getD-at, drop-cons, append-snoc, set-split, take-append-add, drop-append-add, drop-drop, take-add, getD-drop, getD-take}
 use Rattle.octets.specs.Strings.{tab, over, Below}
 
@@ -20,9 +20,9 @@ unfolding tab
 length-tab f zero = refl
 length-tab f (suc n) = simp (length-append, length-tab f n, add-one)
 
--- the last entry, or one before it
-at-last : (i n : ℕ) → i < suc n → (i < n) ⊎ (i ≡ n)
-at-last i n h = elim (decLt i n) [ yes l ↦ inl l | no l ↦ inr (omega arith) ]
+-- an index below suc n is below n, or it is n
+pub below-or-last : (i n : ℕ) → i < suc n → (i < n) ⊎ (i ≡ n)
+below-or-last i n h = elim (decLt i n) [ yes l ↦ inl l | no l ↦ inr (omega arith) ]
 
 pub getD-tab : {A : Type 0} (f : ℕ → A) (n i : ℕ) (d : A) → i < n → getD (tab f n) i d ≡ f i
 unfolding tab
@@ -31,7 +31,7 @@ getD-tab f (suc n) i d h =
     ⊎-elim
     (λ l. List·getD-append (tab f n) (f n ∷ []) d i (rw (length-tab f n) l) ∙ getD-tab f n i d l)
     (λ e. rw e (getD-at (tab f n) (f n) [] d n (length-tab f n)))
-    (at-last i n h)
+    (below-or-last i n h)
 
 pub tab-ext : {A : Type 0} (f g : ℕ → A) (n : ℕ) → ((i : ℕ) → i < n → f i ≡ g i) → tab f n ≡ tab g n
 unfolding tab
@@ -52,6 +52,15 @@ fill-more f n b h =
     rw (drop-cons b n (f n) h, add-one)
     (set-at (tab f n) (getD b n (f n)) (drop (suc n) b) (f n) n (length-tab f n)
     ∙ sym (append-assoc (tab f n) (f n ∷ []) (drop (suc n) b)))
+
+-- the same of any list and value that are equal to these
+pub fill-turn : {A : Type 0} (f : ℕ → A) (n : ℕ) (b l : List A) (x : A) → n < length b → x ≡ f n → l ≡ tab f n ++ drop n b
+    → set l n x ≡ tab f (n + 1) ++ drop (n + 1) b
+fill-turn f n b l x h e p = (λ i. set (p i) n (e i)) ∙ fill-more f n b h
+
+-- the loop's end: every place is filled
+pub filled : {A : Type 0} (f : ℕ → A) (n : ℕ) (b l : List A) → length b ≤ n → l ≡ tab f n ++ drop n b → l ≡ tab f n
+filled f n b l h p = p ∙ ap (λ (r : List _). tab f n ++ r) (drop-of-length-le b h) ∙ append-nil (tab f n)
 
 pub length-fill : {A : Type 0} (f : ℕ → A) (n : ℕ) (b : List A) → n ≤ length b → length (tab f n ++ drop n b) ≡ length b
 length-fill f n b h = simp (length-append, length-tab, length-drop) (omega arith)
@@ -85,6 +94,20 @@ over-over {A} o i j xs bs h e =
     rw (whole, ← l) (drop-append-add (take i o ++ xs) (drop (length (take i o ++ xs)) o) (length bs) ∙ drop-drop (length bs) (length (take i o ++ xs)) o) in
     rw (front, back, length-append, e, add-assoc, append-assoc, append-assoc) refl
 
+-- two writes, the second right behind the first
+pub over-then : {A : Type 0} (o o₁ o₂ : List A) (i j : ℕ) (xs ys : List A) → i ≤ length o → j ≡ i + length xs
+    → o₁ ≡ over o i xs → o₂ ≡ over o₁ j ys → o₂ ≡ over o i (xs ++ ys)
+over-then o o₁ o₂ i j xs ys h e p q = q ∙ ap (λ (l : List _). over l j ys) p ∙ over-over o i j xs ys h e
+
+-- three writes, each right behind the one before
+pub over-three : {A : Type 0} (o o₁ o₂ o₃ : List A) (i j k : ℕ) (xs ys zs : List A) → i ≤ length o
+    → j ≡ i + length xs → k ≡ j + length ys → o₁ ≡ over o i xs → o₂ ≡ over o₁ j ys → o₃ ≡ over o₂ k zs
+    → o₃ ≡ over o i (xs ++ (ys ++ zs))
+over-three o o₁ o₂ o₃ i j k xs ys zs h e e′ p q r =
+    over-then o o₂ o₃ i k (xs ++ ys) zs h (rw (e′, e, length-append xs ys, add-assoc) refl)
+    (over-then o o₁ o₂ i j xs ys h e p q) r
+    ∙ ap (over o i) (append-assoc xs ys zs)
+
 -- a part of a part: what is overwritten behind place h
 pub over-part : {A : Type 0} (o : List A) (h i : ℕ) (bs : List A) → h ≤ length o
     → take h o ++ over (drop h o) i bs ≡ over o (h + i) bs
@@ -100,6 +123,10 @@ set-over o i x h = rw (add-one) (set-split o i x h)
 -- what stands in the part that was overwritten
 pub take-over : {A : Type 0} (o bs : List A) → take (length bs) (over o 0 bs) ≡ bs
 take-over o bs = rw over-front (lib.Seq.take-append-seam bs (drop (length bs) o))
+
+-- the whole overwritten
+pub over-all : {A : Type 0} (o bs : List A) → length o ≡ length bs → over o 0 bs ≡ bs
+over-all o bs e = rw (over-front, ← e, lib.Seq.drop-length) (append-nil bs)
 
 -- a loop that copies from the front: one more entry stored
 pub copy-more : {A : Type 0} (o : List A) (i j : ℕ) (s : List A) (d : A) → i + j < length o → j < length s

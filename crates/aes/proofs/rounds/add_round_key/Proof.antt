@@ -1,0 +1,30 @@
+-- `aes::rounds::add_round_key` meets its contract: column by column.
+-- Assumes nothing.
+use borrow.Author.Needs.{needs}
+use Rattle.aes.specs.State.{four, state}
+use Rattle.aes.specs.Words.{xorWord}
+use Rattle.aes.specs.Rounds.{addRoundKey}
+use Rattle.aes.proofs.rounds.add_round_key.Statement.{statement}
+use Rattle.aes.proofs.rounds.add_round_key.Tie as tie
+
+returns : tie.Need-returns
+unfolding four state xorWord addRoundKey
+returns c = rw (c .before .before .before .before .before .before .before .before .before .xor-word .ensures, c .before .before .before .before .before .before .xor-word2 .ensures, c .before .before .before .xor-word3 .ensures, c .xor-word4 .ensures)
+
+pub add-round-key-spec : {M : Type 1} → statement M
+add-round-key-spec =
+    tie.close
+    (tie.spec
+    (λ c. search needs)
+    (λ c. search needs)
+    (λ c κs. search needs)
+    (λ c. search needs)
+    (λ c. search needs)
+    (λ c κs. search needs)
+    (λ c. search needs)
+    (λ c. search needs)
+    (λ c κs. search needs)
+    (λ c. search needs)
+    (λ c. search needs)
+    (λ c κs. search needs)
+    returns)

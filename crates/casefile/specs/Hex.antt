@@ -1,0 +1,22 @@
+-- Bytes as hexadecimal digits, two for each byte, the higher first.
+-- Assumes nothing.
+use mathlib.Core.Bool.{cond}
+use mathlib.Core.List.{List}
+use Prim.Native.Nat.{ℕ, _+_, _*_, _-_}
+use lib.Dec.{ltb}
+use lib.ListN.{getD}
+
+-- x where b is below n, and else y
+abbrev pub below : ℕ → ℕ → ℕ → ℕ → ℕ
+below n b x y = cond (ltb b n) x y
+
+-- the value of a digit, 0 to 9 (0x30 to 0x39), A to F (0x41 to 0x46) or a to f (0x61 to 0x66), and 16 for any other byte
+unfoldable pub digitValue : ℕ → ℕ
+digitValue b =
+    below 0x30 b 16 (below 0x3a b (b - 0x30)
+    (below 0x41 b 16 (below 0x47 b (b - 0x41 + 10)
+    (below 0x61 b 16 (below 0x67 b (b - 0x61 + 10) 16)))))
+
+-- the byte k that the digits ds stand for
+unfoldable pub hexByte : List ℕ → ℕ → ℕ
+hexByte ds k = digitValue (getD ds (2 * k) 0) * 16 + digitValue (getD ds (2 * k + 1) 0)

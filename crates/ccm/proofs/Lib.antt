@@ -1,0 +1,11 @@
+-- What the proofs of the functions cite, and the laws of CCM for the crates above.
+mod Blocks
+mod Chains
+mod Streams
+mod Tags
+mod Answers
+pub mod ZeroFill
+pub mod Opening
+pub mod BlockCounts
+pub mod Runs
+mod Returns

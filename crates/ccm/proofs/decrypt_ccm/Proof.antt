@@ -1,0 +1,43 @@
+-- `ccm::decrypt_ccm` meets its contract: refused by its number, opened, or refused by 19. Assumes nothing.
+use borrow.Author.Needs.{needs}
+use mathlib.Core.Path.{sym, _∙_}
+use lib.ListN.{length}
+use Rattle.ccm.proofs.decrypt_ccm.Statement.{statement}
+use Rattle.ccm.proofs.decrypt_ccm.Tie as tie
+use Rattle.ccm.proofs.Answers.{within}
+use Rattle.ccm.proofs.Runs.{decrypt-refused}
+use Rattle.ccm.proofs.Returns.{decrypt-done, decrypt-not}
+
+returns : tie.Need-returns
+returns c =
+    let a = c .before .before .before .before .before .args in
+    let r = c .before .refusal in
+    let e = decrypt-refused (a .key) (a .nonce) (a .auth .now) (a .ciphertext .now) (a .mic) (a .out .now) (r .result) (r .ensures) (c .if1 .taken) in
+    (λ i. sym e i .answer, λ i. sym e i .out)
+
+open-requires : tie.Need-open-requires
+open-requires c κs =
+    let a = c .before .before .before .before .before .before .args in
+    let r = c .before .before .refusal in
+    within (length (a .auth .now)) (length (a .ciphertext .now)) (length (a .out .now)) (sym (r .ensures) ∙ c .before .if1 .left)
+
+returns-2 : tie.Need-returns-2
+returns-2 c =
+    let a = c .before .before .before .before .before .before .before .before .before .before .args in
+    let r = c .before .before .before .before .before .before .refusal in
+    let s = c .before .before .before .«open» in
+    decrypt-done (a .key) (a .nonce) (a .auth .now) (a .ciphertext .now) (a .mic) (a .out .now) _ (s .result)
+    (sym (r .ensures) ∙ c .before .before .before .before .before .if1 .left) (s .ensures .0) (s .ensures .1) (c .if2 .taken)
+
+returns-3 : tie.Need-returns-3
+returns-3 c =
+    let a = c .before .before .before .before .before .before .before .before .before .before .args in
+    let r = c .before .before .before .before .before .before .refusal in
+    let s = c .before .before .before .«open» in
+    decrypt-not (a .key) (a .nonce) (a .auth .now) (a .ciphertext .now) (a .mic) (a .out .now) _ (s .result)
+    (sym (r .ensures) ∙ c .before .before .before .before .before .if1 .left) (s .ensures .0) (s .ensures .1) (c .if2 .left)
+
+pub decrypt-ccm-spec : {M : Type 1} → statement M
+decrypt-ccm-spec =
+    tie.close
+    (tie.spec (λ c κs. search needs) returns open-requires (λ c. search needs) returns-2 (λ c. search needs) returns-3)

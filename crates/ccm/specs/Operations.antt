@@ -1,0 +1,98 @@
+-- The operations (document 01, CCM and the refusal list): each gives its whole answer and what the lent output holds after,
+-- refusals included. The tag is the 4-byte MIC. A refusal is its number, with length 0, zeros for a MIC and the output as it was.
+-- Assumes nothing.
+use mathlib.Core.Bool.{Bool, cond, not}
+use mathlib.Core.List.{List, [], _∷_}
+use Prim.Native.Nat.{ℕ, zero, suc, _-_}
+use lib.Dec.{ltb}
+use lib.ListN.{length, drop}
+use Rattle.octets.specs.Strings.{over}
+use Rattle.octets.specs.Refusals.{on, firstOf}
+use Rattle.aes.specs.Cipher.{aes128}
+use Rattle.ccm.specs.Generation.{Generated, generationEncryption}
+use Rattle.ccm.specs.Verification.{Verified, decryptionVerification}
+use Rattle.ccm.specs.declared.Sealed.{Sealed}
+use Rattle.ccm.specs.declared.Opened.{Opened}
+use Rattle.ccm.specs.declared.Split.{Split}
+
+-- the length of the MIC
+abbrev pub micLength : ℕ
+micLength = 4
+
+-- no MIC
+abbrev pub blankMic : List ℕ
+blankMic = 0 ∷ 0 ∷ 0 ∷ 0 ∷ []
+
+-- the two processes under the key: what the crates above cite
+abbrev pub sealedBy : ℕ → List ℕ → List ℕ → List ℕ → List ℕ → Generated
+sealedBy t key nonce a p = generationEncryption t (aes128 key) nonce a p
+
+abbrev pub openedBy : ℕ → List ℕ → List ℕ → List ℕ → List ℕ → List ℕ → Verified
+openedBy t key nonce a c mic = decryptionVerification t (aes128 key) nonce a c mic
+
+-- ---- encrypt_ccm
+
+-- 1 for the authenticated data, a bytes, and for the payload, p bytes; 18 for the output's room
+unfoldable pub sealRefusals : ℕ → ℕ → ℕ → List ℕ
+sealRefusals a p room = on 1 (ltb 127 a) ∷ on 1 (ltb 127 p) ∷ on 18 (ltb room p) ∷ []
+
+pub record SealRun : Type 0 where
+  pub answer : Sealed
+  pub out : List ℕ
+
+abbrev pub sealRefused : ℕ → List ℕ → SealRun
+sealRefused n out = record { answer = record { refusal = n; length = 0; mic = blankMic }; out = out }
+
+-- the ciphertext, as long as the payload, stands at the front of the output
+abbrev pub sealPassed : Generated → List ℕ → SealRun
+sealPassed g out =
+    record { answer = record { refusal = 0; length = length (g .ciphertext); mic = g .tag }; out = over out 0 (g .ciphertext) }
+
+-- by the refusal number, 0 for none
+unfoldable pub sealBy : ℕ → Generated → List ℕ → SealRun
+sealBy zero g out = sealPassed g out
+sealBy (suc n) g out = sealRefused (suc n) out
+
+unfoldable pub encryptCcm : List ℕ → List ℕ → List ℕ → List ℕ → List ℕ → SealRun
+encryptCcm key nonce a p out =
+    sealBy (firstOf (sealRefusals (length a) (length p) (length out))) (generationEncryption micLength (aes128 key) nonce a p) out
+
+-- ---- decrypt_ccm
+
+-- the same for the ciphertext, c bytes; then 19 where the MIC is not the one computed
+unfoldable pub openRefusals : ℕ → ℕ → ℕ → Bool → List ℕ
+openRefusals a c room valid = on 1 (ltb 127 a) ∷ on 1 (ltb 127 c) ∷ on 18 (ltb room c) ∷ on 19 (not valid) ∷ []
+
+pub record OpenRun : Type 0 where
+  pub answer : Opened
+  pub out : List ℕ
+
+abbrev pub openRefused : ℕ → List ℕ → OpenRun
+openRefused n out = record { answer = record { refusal = n; length = 0 }; out = out }
+
+-- the payload stands at the front of the output
+abbrev pub openPassed : Verified → List ℕ → OpenRun
+openPassed v out = record { answer = record { refusal = 0; length = length (v .payload) }; out = over out 0 (v .payload) }
+
+-- what the output holds: the payload at its front if the MIC is valid, else what it held
+unfoldable pub givenIf : Bool → Verified → List ℕ → List ℕ
+givenIf valid v out = cond valid (over out 0 (v .payload)) out
+
+-- by the refusal number, 0 for none
+unfoldable pub openBy : ℕ → Verified → List ℕ → OpenRun
+openBy zero v out = openPassed v out
+openBy (suc n) v out = openRefused (suc n) out
+
+unfoldable pub decryptCcm : List ℕ → List ℕ → List ℕ → List ℕ → List ℕ → List ℕ → OpenRun
+decryptCcm key nonce a c mic out =
+    openBy (firstOf (openRefusals (length a) (length c) (length out) (decryptionVerification micLength (aes128 key) nonce a c mic .valid)))
+    (decryptionVerification micLength (aes128 key) nonce a c mic)
+    out
+
+-- ---- split_mic
+
+-- 16 below 4 bytes; else the length of the ciphertext in front, and the MIC, the last 4
+unfoldable pub splitMic : List ℕ → Split
+splitMic s =
+    cond (ltb (length s) micLength) (record { refusal = 16; length = 0; mic = blankMic })
+    (record { refusal = 0; length = length s - micLength; mic = drop (length s - micLength) s })

@@ -1,0 +1,172 @@
+// CCM (SP 800-38C) with AES-128, a 13-byte nonce and a 4-byte MIC: sealing, opening, and the splitting of a MIC from its
+// ciphertext. The port of crypto.rs, refusing by number.
+
+ghost use mathlib.Core.Path.{_≡_};
+ghost use Prim.Native.Nat.{_≤_};
+ghost use lib.ListN.{length};
+ghost use Rattle.octets.specs.Strings.{over};
+ghost use Rattle.octets.specs.Refusals.{firstOf};
+ghost use Rattle.aes.specs.Cipher.{aes128};
+ghost use Rattle.ccm.specs.Generation.{generationEncryption};
+ghost use Rattle.ccm.specs.Verification.{decryptionVerification};
+ghost use Rattle.ccm.specs.Operations.{micLength, sealRefusals, encryptCcm, givenIf, decryptCcm, splitMic};
+
+mod counter;
+mod formatting;
+mod mac;
+
+pub const MIC_LENGTH: usize = 4;
+
+// The most bytes of authenticated data, and of payload, that a call takes.
+pub const MAX_LENGTH: usize = 127;
+
+// What sealing gives: the refusal number or 0, how many bytes of the output are the ciphertext, and the MIC beside it.
+pub struct Sealed {
+    pub refusal: u8,
+    pub length: usize,
+    pub mic: [u8; 4],
+}
+
+// What opening gives: the refusal number or 0, and how many bytes of the output are the payload.
+pub struct Opened {
+    pub refusal: u8,
+    pub length: usize,
+}
+
+// What splitting gives: the refusal number or 0, the length of the ciphertext in front, and the MIC behind it.
+pub struct Split {
+    pub refusal: u8,
+    pub length: usize,
+    pub mic: [u8; 4],
+}
+
+// The first refusal of a call with a bytes of authenticated data and n of payload or ciphertext, or 0.
+fn refusal(a: usize, n: usize, room: usize) -> u8
+    ensures { λ r. ⌜ r ≡ firstOf (sealRefusals a n room) ⌝ }
+{
+    if a > MAX_LENGTH {
+        return 1;
+    }
+    if n > MAX_LENGTH {
+        return 1;
+    }
+    if room < n {
+        return 18;
+    }
+    0
+}
+
+// Generation-encryption (SP 800-38C, 6.1): the ciphertext goes to the front of the output, the MIC is given.
+pub fn seal(key: [u8; 16], nonce: [u8; 13], auth: &[u8], payload: &[u8], out: &mut [u8]) -> [u8; 4]
+    requires { ⌜ (length (now auth) ≤ 127) × (length (now payload) ≤ 127) × (length (now payload) ≤ length (now out)) ⌝ }
+    ensures mic { λ r. ⌜ r ≡ generationEncryption micLength (aes128 key) nonce (now (auth .entry)) (now (payload .entry)) .tag ⌝ }
+    ensures buffer { λ _. ⌜ now (out .exit) ≡ over (now (out .entry)) 0 (generationEncryption micLength (aes128 key) nonce (now (auth .entry)) (now (payload .entry)) .ciphertext) ⌝ }
+{
+    let keys = aes::key_expansion(key);
+    let n = payload.len();
+    let ciphertext = counter::counter_mode(&keys, nonce, payload);
+    octets::copy_at(out, 0, &ciphertext[..n]);
+    mac::encrypted_tag(&keys, nonce, auth, payload)
+}
+
+// Decryption-verification (SP 800-38C, 6.2): whether the MIC is the one computed; only then the payload goes to the front
+// of the output.
+pub fn open(
+    key: [u8; 16],
+    nonce: [u8; 13],
+    auth: &[u8],
+    ciphertext: &[u8],
+    mic: [u8; 4],
+    out: &mut [u8],
+) -> bool
+    requires { ⌜ (length (now auth) ≤ 127) × (length (now ciphertext) ≤ 127) × (length (now ciphertext) ≤ length (now out)) ⌝ }
+    ensures valid { λ r. ⌜ r ≡ decryptionVerification micLength (aes128 key) nonce (now (auth .entry)) (now (ciphertext .entry)) mic .valid ⌝ }
+    ensures buffer { λ r. ⌜ now (out .exit) ≡ givenIf r (decryptionVerification micLength (aes128 key) nonce (now (auth .entry)) (now (ciphertext .entry)) mic) (now (out .entry)) ⌝ }
+{
+    let keys = aes::key_expansion(key);
+    let n = ciphertext.len();
+    let payload = counter::counter_mode(&keys, nonce, ciphertext);
+    let valid = mac::tag_valid(&keys, nonce, auth, &payload[..n], mic);
+    if valid {
+        octets::copy_at(out, 0, &payload[..n]);
+    }
+    valid
+}
+
+// Seals a payload: refusals 1 and 18 of document 01, else the ciphertext in the output and the MIC.
+pub fn encrypt_ccm(
+    key: [u8; 16],
+    nonce: [u8; 13],
+    auth: &[u8],
+    payload: &[u8],
+    out: &mut [u8],
+) -> Sealed
+    ensures answer { λ r. ⌜ r ≡ encryptCcm key nonce (now (auth .entry)) (now (payload .entry)) (now (out .entry)) .answer ⌝ }
+    ensures buffer { λ _. ⌜ now (out .exit) ≡ encryptCcm key nonce (now (auth .entry)) (now (payload .entry)) (now (out .entry)) .out ⌝ }
+{
+    let number = refusal(auth.len(), payload.len(), out.len());
+    if number != 0 {
+        return Sealed {
+            refusal: number,
+            length: 0,
+            mic: [0u8; 4],
+        };
+    }
+    let mic = seal(key, nonce, auth, payload, out);
+    Sealed {
+        refusal: 0,
+        length: payload.len(),
+        mic,
+    }
+}
+
+// Opens a ciphertext with its MIC: refusals 1, 18 and 19 of document 01, else the payload in the output.
+pub fn decrypt_ccm(
+    key: [u8; 16],
+    nonce: [u8; 13],
+    auth: &[u8],
+    ciphertext: &[u8],
+    mic: [u8; 4],
+    out: &mut [u8],
+) -> Opened
+    ensures answer { λ r. ⌜ r ≡ decryptCcm key nonce (now (auth .entry)) (now (ciphertext .entry)) mic (now (out .entry)) .answer ⌝ }
+    ensures buffer { λ _. ⌜ now (out .exit) ≡ decryptCcm key nonce (now (auth .entry)) (now (ciphertext .entry)) mic (now (out .entry)) .out ⌝ }
+{
+    let number = refusal(auth.len(), ciphertext.len(), out.len());
+    if number != 0 {
+        return Opened {
+            refusal: number,
+            length: 0,
+        };
+    }
+    if open(key, nonce, auth, ciphertext, mic, out) {
+        return Opened {
+            refusal: 0,
+            length: ciphertext.len(),
+        };
+    }
+    Opened {
+        refusal: 19,
+        length: 0,
+    }
+}
+
+// Splits a received ciphertext into the encrypted payload, given by its length, and the MIC that ends it: refusal 16 below
+// 4 bytes.
+pub fn split_mic(s: &[u8]) -> Split
+    ensures { λ r. ⌜ r ≡ splitMic (now (s .entry)) ⌝ }
+{
+    if s.len() < MIC_LENGTH {
+        return Split {
+            refusal: 16,
+            length: 0,
+            mic: [0u8; 4],
+        };
+    }
+    let n = s.len() - MIC_LENGTH;
+    Split {
+        refusal: 0,
+        length: n,
+        mic: [s[n], s[n + 1], s[n + 2], s[n + 3]],
+    }
+}

@@ -1,0 +1,9 @@
+-- The laws of the two headers: reading undoes writing and writing undoes reading.
+pub mod Codes
+pub mod ControlFields
+pub mod Pieces
+pub mod ReadBack
+pub mod WriteBack
+pub mod AuxiliaryLaws
+pub mod Answers
+pub mod ReadFacts

@@ -1,0 +1,19 @@
+-- `NwkAuxHeader::blank` meets its contract: every field of no bytes is 0. Assumes nothing.
+use borrow.Author.Needs.{needs}
+use mathlib.Core.Path.{_≡_, refl}
+use Rattle.header.proofs.auxiliary.NwkAuxHeader.blank.Statement.{statement}
+use Rattle.header.proofs.auxiliary.NwkAuxHeader.blank.Tie as tie
+use Rattle.octets.specs.Numbers.{leAt}
+use Rattle.octets.specs.Fields.{fields}
+use Rattle.header.specs.AuxiliaryControl.{securityOf}
+use Rattle.header.specs.Auxiliary.{blankAux, auxBy, keySequenceAt}
+
+from-byte-requires : tie.Need-from-byte-requires
+from-byte-requires c κs = search needs
+
+returns : tie.Need-returns
+unfolding blankAux auxBy keySequenceAt securityOf fields leAt
+returns c = rw (c .from-byte .ensures) refl
+
+pub blank-spec : {M : Type 1} → statement M
+blank-spec = tie.close (tie.spec from-byte-requires returns)

@@ -1,0 +1,78 @@
+-- `NwkAuxHeader::put` meets its contract: four parts, one behind the other. Assumes nothing.
+use borrow.Author.Needs.{needs}
+use mathlib.Core.Path.{_≡_, refl, ap, _∙_}
+use mathlib.Core.List.{_++_, append-assoc}
+use Prim.Native.Nat.{ℕ, _+_, _≤_}
+use native.Mathlib.Omega.{arith}
+use lib.ListN.{length, length-append}
+use Rattle.header.proofs.auxiliary.NwkAuxHeader.put.Statement.{statement}
+use Rattle.header.proofs.auxiliary.NwkAuxHeader.put.Tie as tie
+use Rattle.octets.specs.Strings.{over}
+use Rattle.octets.specs.Numbers.{le}
+use Rattle.octets.proofs.Strings.{over-then, over-three}
+use Rattle.octets.proofs.Numbers.{length-le}
+use Rattle.header.specs.Optional.{ieeeBytes}
+use Rattle.header.specs.AuxiliaryControl.{securityByte}
+use Rattle.header.specs.Auxiliary.{auxBytes}
+use Rattle.header.proofs.Pieces.{ieee-length}
+use Rattle.header.proofs.AuxiliaryLaws.{aux-length}
+
+to-byte-requires : tie.Need-to-byte-requires
+to-byte-requires c κs = search needs
+
+put-u8-requires : tie.Need-put-u8-requires
+put-u8-requires c κs =
+    omega (arith, aux-length (c .before .before .before .before .args .self), c .before .before .before .before .pre, ieee-length (c .before .before .before .before .args .self .«extended_source»))
+
+add-put-u32 : tie.Need-add-put-u32
+add-put-u32 c = search needs
+
+put-u32-requires : tie.Need-put-u32-requires
+put-u32-requires c κs =
+    omega (arith, aux-length (c .before .before .before .before .before .before .before .before .args .self), c .before .before .before .before .before .before .before .before .pre, ieee-length (c .before .before .before .before .before .before .before .before .args .self .«extended_source»), c .before .before .before .put-u8 .kept)
+
+add-put : tie.Need-add-put
+add-put c = search needs
+
+put-requires : tie.Need-put-requires
+put-requires c κs =
+    omega (arith, aux-length (c .before .before .before .before .before .before .before .before .before .before .before .before .args .self), c .before .before .before .before .before .before .before .before .before .before .before .before .pre, ieee-length (c .before .before .before .before .before .before .before .before .before .before .before .before .args .self .«extended_source»), c .before .before .before .before .before .before .before .put-u8 .kept, c .before .before .before .put-u32 .kept)
+
+put-u8-requires-2 : tie.Need-put-u8-requires-2
+put-u8-requires-2 c κs =
+    omega (arith, aux-length (c .before .before .before .before .before .before .before .before .before .before .before .before .before .before .before .before .args .self), c .before .before .before .before .before .before .before .before .before .before .before .before .before .before .before .before .pre, ieee-length (c .before .before .before .before .before .before .before .before .before .before .before .before .before .before .before .before .args .self .«extended_source»), c .before .before .before .before .before .before .before .before .before .before .before .put-u8 .kept, c .before .before .before .before .before .before .before .put-u32 .kept, c .before .before .before .put .kept .1 .0, c .before .before .before .put .ensures .0)
+
+same-length : tie.Need-same-length
+same-length c = search needs
+
+returns : tie.Need-returns
+unfolding auxBytes
+returns c =
+    let a = c .before .before .before .before .before .before .before .before .before .before .before .before .before .before .before .before .before .before .before .args in
+    let s = le 1 (securityByte (a .self .«security_control»)) in
+    let n = le 4 (a .self .«frame_counter») in
+    let e = ieeeBytes (a .self .«extended_source») in
+    let k = le 1 (a .self .«key_sequence_number») in
+    let fits : a .i ≤ length (a .out .now) = omega (arith, c .before .before .before .before .before .before .before .before .before .before .before .before .before .before .before .before .before .before .before .pre) in
+    let three = over-three (a .out .now) _ _ _ (a .i) (a .i + 1) (a .i + 5) s n e fits
+    (rw (length-le 1 (securityByte (a .self .«security_control»))) refl) (rw (length-le 4 (a .self .«frame_counter»)) (omega arith))
+    (c .before .before .before .before .before .before .before .before .before .before .before .before .before .before .put-u8 .ensures ∙ ap (λ (b : ℕ). over (a .out .now) (a .i) (le 1 b)) (c .before .before .before .before .before .before .before .before .before .before .before .before .before .before .before .to-byte .ensures .0))
+    (c .before .before .before .before .before .before .before .before .before .before .put-u32 .ensures) (c .before .before .before .before .before .before .put .ensures .1) in
+    let place : c .before .before .before .before .before .before .put .result ≡ a .i + length (s ++ (n ++ e)) =
+    simp (length-append, length-le) (omega (arith, c .before .before .before .before .before .before .put .ensures .0)) in
+    over-then (a .out .now) _ _ (a .i) _ (s ++ (n ++ e)) k fits place three (c .before .before .put-u82 .ensures)
+    ∙ ap (over (a .out .now) (a .i)) (simp append-assoc)
+
+pub put-spec : {M : Type 1} → statement M
+put-spec =
+    tie.close
+    (tie.spec
+    to-byte-requires
+    put-u8-requires
+    add-put-u32
+    put-u32-requires
+    add-put
+    put-requires
+    put-u8-requires-2
+    same-length
+    returns)

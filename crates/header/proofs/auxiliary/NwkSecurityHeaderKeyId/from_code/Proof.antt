@@ -1,0 +1,20 @@
+-- `NwkSecurityHeaderKeyId::from_code` meets its contract, code by code. Assumes nothing.
+use borrow.Author.Needs.{needs}
+use Rattle.header.proofs.auxiliary.NwkSecurityHeaderKeyId.from_code.Statement.{statement}
+use Rattle.header.proofs.auxiliary.NwkSecurityHeaderKeyId.from_code.Tie as tie
+use Rattle.header.proofs.Codes.{keyId-rest}
+
+returns : tie.Need-returns
+returns c = search needs
+
+returns-2 : tie.Need-returns-2
+returns-2 c = search needs
+
+returns-3 : tie.Need-returns-3
+returns-3 c = search needs
+
+returns-4 : tie.Need-returns-4
+returns-4 c = keyId-rest (c .before .args .code) (c .match .rest)
+
+pub from-code-spec : {M : Type 1} → statement M
+from-code-spec = tie.close (tie.spec returns returns-2 returns-3 returns-4)

@@ -1,0 +1,54 @@
+-- `NwkHeader::deserialize` meets its contract: the number alone, or the record. Assumes nothing.
+use borrow.Author.Needs.{needs}
+use mathlib.Core.Path.{_≡_, sym, ap, _∙_}
+use Rattle.header.proofs.nwk.NwkHeader.deserialize.Statement.{statement}
+use Rattle.header.proofs.nwk.NwkHeader.deserialize.Tie as tie
+use Rattle.header.specs.Control.{controlOf}
+use Rattle.header.specs.Reading.{headerEnd, headerBy, headerAnswer, readHeader}
+use Rattle.header.proofs.Answers.{header-refused}
+
+header-refusal-requires : tie.Need-header-refusal-requires
+header-refusal-requires c κs = search needs
+
+blank-requires : tie.Need-blank-requires
+blank-requires c κs = search needs
+
+returns : tie.Need-returns
+unfolding readHeader
+returns c =
+    let f = c .before .before .before .before .args .bytes .now in
+    (λ i. record { refusal = c .before .before .header-refusal .result; length = 0; header = c .blank .ensures i })
+    ∙ header-refused f (c .before .before .header-refusal .result) (c .before .if1 .taken) ∙ ap (headerAnswer f) (c .before .before .header-refusal .ensures)
+
+read-u16-requires : tie.Need-read-u16-requires
+read-u16-requires c κs = search needs
+
+from-word-requires : tie.Need-from-word-requires
+from-word-requires c κs = search needs
+
+header-end-requires : tie.Need-header-end-requires
+header-end-requires c κs = search needs
+
+fields-requires : tie.Need-fields-requires
+fields-requires c κs = search needs
+
+returns-2 : tie.Need-returns-2
+unfolding readHeader headerAnswer
+returns-2 c =
+    let f = c .before .before .before .before .before .before .before .args .bytes .now in
+    let k = c .before .before .from-word .ensures ∙ ap controlOf (c .before .before .before .read-u16 .ensures) in
+    (λ i. record { refusal = 0; length = (c .before .header-end .ensures ∙ ap (headerEnd f) k) i; header = (c .fields .ensures ∙ ap (headerBy f) k) i })
+    ∙ ap (headerAnswer f) (sym (c .before .before .before .before .if1 .left) ∙ c .before .before .before .before .before .header-refusal .ensures)
+
+pub deserialize-spec : {M : Type 1} → statement M
+deserialize-spec =
+    tie.close
+    (tie.spec
+    header-refusal-requires
+    blank-requires
+    returns
+    read-u16-requires
+    from-word-requires
+    header-end-requires
+    fields-requires
+    returns-2)

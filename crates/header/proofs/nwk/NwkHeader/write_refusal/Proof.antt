@@ -1,0 +1,47 @@
+-- `NwkHeader::write_refusal` meets its contract: each return is the first test of the list that holds. Assumes nothing.
+use borrow.Author.Needs.{needs}
+use mathlib.Core.Path.{_≡_, sym, _∙_}
+use native.Mathlib.Omega.{arith}
+use lib.ListN.{length}
+use borrow.Author.Tests.{lt-ltb, le-ltb}
+use Rattle.header.proofs.nwk.NwkHeader.write_refusal.Statement.{statement}
+use Rattle.header.proofs.nwk.NwkHeader.write_refusal.Tie as tie
+use Rattle.octets.proofs.Refusals.{stop, skip, empty}
+use Rattle.header.specs.Writing.{headerBytes, headerWriteRefusal}
+
+is-bad-requires : tie.Need-is-bad-requires
+is-bad-requires c κs = search needs
+
+returns : tie.Need-returns
+unfolding headerWriteRefusal
+returns c = sym (stop 12 _ _ (sym (c .before .is-bad .ensures) ∙ c .if1 .taken))
+
+size-requires : tie.Need-size-requires
+size-requires c κs = search needs
+
+returns-2 : tie.Need-returns-2
+unfolding headerWriteRefusal
+returns-2 c =
+    let a = c .before .before .before .before .args in
+    sym (skip 13 _ _ (sym (c .before .before .before .is-bad .ensures) ∙ c .before .before .if1 .left)
+    ∙ stop 16 _ _ (lt-ltb 118 (length (headerBytes (a .self))) (omega arith)))
+
+returns-3 : tie.Need-returns-3
+unfolding headerWriteRefusal
+returns-3 c =
+    let a = c .before .before .before .before .before .args in
+    sym (skip 13 _ _ (sym (c .before .before .before .before .is-bad .ensures) ∙ c .before .before .before .if1 .left)
+    ∙ skip 17 _ _ (le-ltb 118 (length (headerBytes (a .self))) (omega arith))
+    ∙ stop 17 _ _ (lt-ltb (a .room) (length (headerBytes (a .self))) (omega arith)))
+
+returns-4 : tie.Need-returns-4
+unfolding headerWriteRefusal
+returns-4 c =
+    let a = c .before .before .before .before .before .args in
+    sym (skip 13 _ _ (sym (c .before .before .before .before .is-bad .ensures) ∙ c .before .before .before .if1 .left)
+    ∙ skip 17 _ _ (le-ltb 118 (length (headerBytes (a .self))) (omega arith))
+    ∙ skip 18 _ _ (le-ltb (a .room) (length (headerBytes (a .self))) (omega arith)) ∙ empty)
+
+pub write-refusal-spec : {M : Type 1} → statement M
+write-refusal-spec =
+    tie.close (tie.spec is-bad-requires returns size-requires returns-2 returns-3 returns-4)

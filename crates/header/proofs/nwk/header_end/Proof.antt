@@ -1,0 +1,55 @@
+-- `header_end` meets its contract: behind the source route, if there is one. Assumes nothing.
+use borrow.Author.Needs.{needs}
+use mathlib.Core.Path.{_≡_, sym, ap, _∙_}
+use mathlib.Core.Bool.{Bool, cond}
+use Prim.Native.Nat.{ℕ, _+_, _*_}
+use native.Mathlib.Omega.{arith}
+use lib.ListN.{getD}
+use Rattle.header.proofs.nwk.header_end.Statement.{statement}
+use Rattle.header.proofs.nwk.header_end.Tie as tie
+use Rattle.header.specs.Reading.{routeAt, relaysAt, headerEnd}
+
+route-at-requires : tie.Need-route-at-requires
+route-at-requires c κs = search needs
+
+relays-at-requires : tie.Need-relays-at-requires
+relays-at-requires c κs = search needs
+
+mul-result : tie.Need-mul-result
+mul-result c = search needs
+
+add-result : tie.Need-add-result
+add-result c = search needs
+
+add-result-2 : tie.Need-add-result-2
+add-result-2 c = search needs
+
+route-at-requires-2 : tie.Need-route-at-requires-2
+route-at-requires-2 c κs = search needs
+
+returns : tie.Need-returns
+unfolding headerEnd
+returns c =
+    let a = c .before .before .before .before .args in
+    (λ i. c .before .route-at .ensures .0 i + (2 + 2 * c .relays-at .ensures .0 i))
+    ∙ sym (ap (λ (b : Bool). routeAt (a .c) + cond b (2 + 2 * relaysAt (a .f .now) (a .c)) 0) (c .before .before .if1 .taken))
+
+returns-2 : tie.Need-returns-2
+unfolding headerEnd
+returns-2 c =
+    let a = c .before .before .before .args in
+    let e = ap (λ (b : Bool). routeAt (a .c) + cond b (2 + 2 * relaysAt (a .f .now) (a .c)) 0) (c .before .if1 .left) in
+    omega arith
+
+pub header-end-spec : {M : Type 1} → statement M
+header-end-spec =
+    tie.close
+    (tie.spec
+    route-at-requires
+    relays-at-requires
+    mul-result
+    add-result
+    add-result-2
+    route-at-requires-2
+    returns
+    returns-2)

@@ -1,0 +1,72 @@
+-- `optional_refusal` meets its contract: each return is the first test of the list that holds. Assumes nothing.
+use borrow.Author.Needs.{needs}
+use mathlib.Core.Path.{_≡_, sym, _∙_}
+use native.Mathlib.Omega.{arith}
+use lib.ListN.{length}
+use borrow.Author.Tests.{lt-ltb, le-ltb}
+use Rattle.header.proofs.nwk.optional_refusal.Statement.{statement}
+use Rattle.header.proofs.nwk.optional_refusal.Tie as tie
+use Rattle.octets.proofs.Refusals.{stop, skip, empty}
+use Rattle.header.specs.Reading.{sourceAt, multicastAt, routeAt, headerEnd, optionalRefusals}
+
+source-at-requires : tie.Need-source-at-requires
+source-at-requires c κs = search needs
+
+returns : tie.Need-returns
+unfolding optionalRefusals
+returns c =
+    let a = c .before .before .before .args in
+    sym (stop 4 _ _ (lt-ltb (length (a .f .now)) (sourceAt (a .c)) (omega arith)))
+
+multicast-at-requires : tie.Need-multicast-at-requires
+multicast-at-requires c κs = search needs
+
+returns-2 : tie.Need-returns-2
+unfolding optionalRefusals
+returns-2 c =
+    let a = c .before .before .before .before .before .args in
+    sym (skip 5 _ _ (le-ltb (length (a .f .now)) (sourceAt (a .c)) (omega arith))
+    ∙ stop 5 _ _ (lt-ltb (length (a .f .now)) (multicastAt (a .c)) (omega arith)))
+
+route-at-requires : tie.Need-route-at-requires
+route-at-requires c κs = search needs
+
+returns-3 : tie.Need-returns-3
+unfolding optionalRefusals
+returns-3 c =
+    let a = c .before .before .before .before .before .before .before .args in
+    sym (skip 5 _ _ (le-ltb (length (a .f .now)) (sourceAt (a .c)) (omega arith)) ∙ skip 6 _ _ (le-ltb (length (a .f .now)) (multicastAt (a .c)) (omega arith))
+    ∙ stop 6 _ _ (lt-ltb (length (a .f .now)) (routeAt (a .c)) (omega arith)))
+
+header-end-requires : tie.Need-header-end-requires
+header-end-requires c κs = search needs
+
+returns-4 : tie.Need-returns-4
+unfolding optionalRefusals
+returns-4 c =
+    let a = c .before .before .before .before .before .before .before .before .before .args in
+    sym (skip 5 _ _ (le-ltb (length (a .f .now)) (sourceAt (a .c)) (omega arith)) ∙ skip 6 _ _ (le-ltb (length (a .f .now)) (multicastAt (a .c)) (omega arith)) ∙ skip 7 _ _ (le-ltb (length (a .f .now)) (routeAt (a .c)) (omega arith))
+    ∙ stop 7 _ _ (lt-ltb (length (a .f .now)) (headerEnd (a .f .now) (a .c)) (omega arith)))
+
+returns-5 : tie.Need-returns-5
+unfolding optionalRefusals
+returns-5 c =
+    let a = c .before .before .before .before .before .before .before .before .before .args in
+    sym (skip 5 _ _ (le-ltb (length (a .f .now)) (sourceAt (a .c)) (omega arith))
+    ∙ skip 6 _ _ (le-ltb (length (a .f .now)) (multicastAt (a .c)) (omega arith))
+    ∙ skip 7 _ _ (le-ltb (length (a .f .now)) (routeAt (a .c)) (omega arith))
+    ∙ skip 8 _ _ (le-ltb (length (a .f .now)) (headerEnd (a .f .now) (a .c)) (omega arith)) ∙ empty)
+
+pub optional-refusal-spec : {M : Type 1} → statement M
+optional-refusal-spec =
+    tie.close
+    (tie.spec
+    source-at-requires
+    returns
+    multicast-at-requires
+    returns-2
+    route-at-requires
+    returns-3
+    header-end-requires
+    returns-4
+    returns-5)

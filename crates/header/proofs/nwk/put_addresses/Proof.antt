@@ -1,0 +1,31 @@
+-- `put_addresses` meets its contract: three parts, one behind the other. Assumes nothing.
+use borrow.Author.Needs.{needs}
+use mathlib.Core.Path.{_≡_, refl}
+use native.Mathlib.Omega.{arith}
+use Rattle.header.proofs.nwk.put_addresses.Statement.{statement}
+use Rattle.header.proofs.nwk.put_addresses.Tie as tie
+use Rattle.octets.specs.Numbers.{le}
+use Rattle.octets.proofs.Strings.{over-three}
+use Rattle.octets.proofs.Numbers.{length-le}
+
+put-u16-requires : tie.Need-put-u16-requires
+put-u16-requires c κs = search needs
+
+put-u16-requires-2 : tie.Need-put-u16-requires-2
+put-u16-requires-2 c κs = search needs
+
+put-u16-requires-3 : tie.Need-put-u16-requires-3
+put-u16-requires-3 c κs = search needs
+
+same-length : tie.Need-same-length
+same-length c = search needs
+
+returns : tie.Need-returns
+returns c =
+    let a = c .before .before .before .before .before .before .before .before .before .before .before .before .before .args in
+    over-three (a .out .now) _ _ _ 0 2 4 (le 2 (a .word)) (le 2 (a .destination)) (le 2 (a .source)) (omega arith)
+    (rw (length-le 2 (a .word)) refl) (rw (length-le 2 (a .destination)) refl) (c .before .before .before .before .before .before .before .before .before .before .put-u16 .ensures) (c .before .before .before .before .before .before .put-u162 .ensures) (c .before .before .put-u163 .ensures)
+
+pub put-addresses-spec : {M : Type 1} → statement M
+put-addresses-spec =
+    tie.close (tie.spec put-u16-requires put-u16-requires-2 put-u16-requires-3 same-length returns)

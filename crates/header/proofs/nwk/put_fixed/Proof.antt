@@ -1,0 +1,36 @@
+-- `put_fixed` meets its contract: three parts, one behind the other. Assumes nothing.
+use borrow.Author.Needs.{needs}
+use mathlib.Core.Path.{_≡_, refl, ap, _∙_}
+use mathlib.Core.List.{_++_, append-assoc}
+use native.Mathlib.Omega.{arith}
+use lib.ListN.{length-append}
+use Rattle.header.proofs.nwk.put_fixed.Statement.{statement}
+use Rattle.header.proofs.nwk.put_fixed.Tie as tie
+use Rattle.octets.specs.Strings.{over}
+use Rattle.octets.specs.Numbers.{le}
+use Rattle.octets.proofs.Strings.{over-three}
+use Rattle.octets.proofs.Numbers.{length-le}
+
+put-addresses-requires : tie.Need-put-addresses-requires
+put-addresses-requires c κs = search needs
+
+put-u8-requires : tie.Need-put-u8-requires
+put-u8-requires c κs = search needs
+
+put-u8-requires-2 : tie.Need-put-u8-requires-2
+put-u8-requires-2 c κs = search needs
+
+same-length : tie.Need-same-length
+same-length c = search needs
+
+returns : tie.Need-returns
+returns c =
+    let a = c .before .before .before .before .before .before .before .before .before .before .before .before .before .args in
+    over-three (a .out .now) _ _ _ 0 6 7 (le 2 (a .word) ++ (le 2 (a .destination) ++ le 2 (a .source))) (le 1 (a .radius)) (le 1 (a .sequence)) (omega arith)
+    (simp (length-append, length-le)) (rw (length-le 1 (a .radius)) refl) (c .before .before .before .before .before .before .before .before .before .before .put-addresses .ensures) (c .before .before .before .before .before .before .put-u8 .ensures) (c .before .before .put-u82 .ensures)
+    ∙ ap (over (a .out .now) 0) (simp append-assoc)
+
+pub put-fixed-spec : {M : Type 1} → statement M
+put-fixed-spec =
+    tie.close
+    (tie.spec put-addresses-requires put-u8-requires put-u8-requires-2 same-length returns)

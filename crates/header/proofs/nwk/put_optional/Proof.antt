@@ -1,0 +1,49 @@
+-- `put_optional` meets its contract: four parts, one behind the other. Assumes nothing.
+use borrow.Author.Needs.{needs}
+use mathlib.Core.Path.{_≡_, refl, ap, _∙_}
+use mathlib.Core.List.{_++_, append-assoc}
+use Prim.Native.Nat.{_+_, _≤_}
+use native.Mathlib.Omega.{arith}
+use lib.ListN.{length, length-append}
+use Rattle.header.proofs.nwk.put_optional.Statement.{statement}
+use Rattle.header.proofs.nwk.put_optional.Tie as tie
+use Rattle.octets.specs.Strings.{over}
+use Rattle.octets.proofs.Strings.{over-then, over-three}
+use Rattle.header.specs.Optional.{ieeeBytes, multicastBytes, routeBytes}
+
+put-requires : tie.Need-put-requires
+put-requires c κs = omega (arith, simp length-append at (c .before .before .pre .0))
+
+put-requires-2 : tie.Need-put-requires-2
+put-requires-2 c κs =
+    omega (arith, simp length-append at (c .before .before .before .before .before .before .pre .0), c .before .before .before .put .ensures .0, c .before .before .before .put .kept .1 .0)
+
+put-requires-3 : tie.Need-put-requires-3
+put-requires-3 c κs =
+    omega (arith, simp length-append at (c .before .before .before .before .before .before .before .before .before .before .pre .0), c .before .before .before .before .before .before .before .put .ensures .0, c .before .before .before .put2 .ensures .0, c .before .before .before .before .before .before .before .put .kept .1 .0, c .before .before .before .put2 .kept .1 .0)
+
+put-requires-4 : tie.Need-put-requires-4
+put-requires-4 c κs =
+    (omega (arith, simp length-append at (c .before .before .before .before .before .before .before .before .before .before .before .before .before .before .pre .0), c .before .before .before .before .before .before .before .before .before .before .before .put .ensures .0, c .before .before .before .before .before .before .before .put2 .ensures .0, c .before .before .before .put3 .ensures .0, c .before .before .before .before .before .before .before .before .before .before .before .put .kept .1 .0, c .before .before .before .before .before .before .before .put2 .kept .1 .0, c .before .before .before .put3 .kept .1 .0), c .before .before .before .before .before .before .before .before .before .before .before .before .before .before .pre .1)
+
+same-length : tie.Need-same-length
+same-length c = search needs
+
+returns : tie.Need-returns
+returns c =
+    let a = c .before .before .before .before .before .before .before .before .before .before .before .before .before .before .before .before .before .args in
+    let d = ieeeBytes (a .destination) in
+    let s = ieeeBytes (a .source) in
+    let m = multicastBytes (a .multicast) in
+    let r = routeBytes (a .route) (a .relays) in
+    let fits : 8 ≤ length (a .out .now) = omega (arith, c .before .before .before .before .before .before .before .before .before .before .before .before .before .before .before .before .before .pre .0) in
+    let three = over-three (a .out .now) _ _ _ 8 _ _ d s m fits (c .before .before .before .before .before .before .before .before .before .before .before .before .before .before .put .ensures .0) (c .before .before .before .before .before .before .before .before .before .before .put2 .ensures .0) (c .before .before .before .before .before .before .before .before .before .before .before .before .before .before .put .ensures .1) (c .before .before .before .before .before .before .before .before .before .before .put2 .ensures .1) (c .before .before .before .before .before .before .put3 .ensures .1) in
+    let place : c .before .before .before .before .before .before .put3 .result ≡ 8 + length (d ++ (s ++ m)) =
+    simp length-append (omega (arith, c .before .before .before .before .before .before .before .before .before .before .before .before .before .before .put .ensures .0, c .before .before .before .before .before .before .before .before .before .before .put2 .ensures .0, c .before .before .before .before .before .before .put3 .ensures .0)) in
+    over-then (a .out .now) _ _ 8 _ (d ++ (s ++ m)) r fits place three (c .before .before .put4 .ensures)
+    ∙ ap (over (a .out .now) 8) (simp append-assoc)
+
+pub put-optional-spec : {M : Type 1} → statement M
+put-optional-spec =
+    tie.close
+    (tie.spec put-requires put-requires-2 put-requires-3 put-requires-4 same-length returns)

@@ -1,0 +1,31 @@
+-- `relay_at` meets its contract: the index is below the count, or not. Assumes nothing.
+use borrow.Author.Needs.{needs}
+use mathlib.Core.Path.{_≡_, sym, ap, _∙_}
+use mathlib.Core.Bool.{Bool, cond}
+use Prim.Native.Nat.{_+_, _*_}
+use borrow.Author.Tests.{lt-ltb, le-ltb}
+use Rattle.header.proofs.nwk.relay_at.Statement.{statement}
+use Rattle.header.proofs.nwk.relay_at.Tie as tie
+use Rattle.octets.specs.Numbers.{leAt}
+
+mul-read-u16 : tie.Need-mul-read-u16
+mul-read-u16 c = search needs
+
+add-read-u16 : tie.Need-add-read-u16
+add-read-u16 c = search needs
+
+read-u16-requires : tie.Need-read-u16-requires
+read-u16-requires c κs = search needs
+
+returns : tie.Need-returns
+returns c =
+    let a = c .before .before .before .args in
+    c .read-u16 .ensures ∙ sym (ap (λ (b : Bool). cond b (leAt 2 (a .f .now) (a .first + 2 * a .i)) 0) (lt-ltb (a .i) (a .n) (c .before .if1 .taken)))
+
+returns-2 : tie.Need-returns-2
+returns-2 c =
+    let a = c .before .before .args in
+    sym (ap (λ (b : Bool). cond b (leAt 2 (a .f .now) (a .first + 2 * a .i)) 0) (le-ltb (a .i) (a .n) (c .if1 .left)))
+
+pub relay-at-spec : {M : Type 1} → statement M
+relay-at-spec = tie.close (tie.spec mul-read-u16 add-read-u16 read-u16-requires returns returns-2)

@@ -1,0 +1,38 @@
+-- `relays_at` meets its contract: the byte at the source route's place, or 0. Assumes nothing.
+use borrow.Author.Needs.{needs}
+use mathlib.Core.Path.{_≡_, sym, ap, _∙_}
+use mathlib.Core.Bool.{Bool, cond}
+use Prim.Native.Nat.{ℕ}
+use native.Mathlib.Omega.{arith}
+use lib.ListN.{getD}
+use Rattle.header.proofs.nwk.relays_at.Statement.{statement}
+use Rattle.header.proofs.nwk.relays_at.Tie as tie
+use Rattle.header.specs.Reading.{routeAt, relaysAt}
+
+route-at-requires : tie.Need-route-at-requires
+route-at-requires c κs = search needs
+
+byte-at-requires : tie.Need-byte-at-requires
+byte-at-requires c κs = search needs
+
+cast-result : tie.Need-cast-result
+cast-result c = search needs
+
+returns : tie.Need-returns
+unfolding relaysAt
+returns c =
+    let a = c .before .before .before .before .args in (
+      c .byte-at .ensures ∙ ap (λ (k : ℕ). getD (a .f .now) k 0) (c .before .route-at .ensures .0)
+          ∙ sym (ap (λ (b : Bool). cond b (getD (a .f .now) (routeAt (a .c)) 0) 0) (c .before .before .if1 .taken)),
+      omega (arith, c .byte-at .ok),
+    )
+
+returns-2 : tie.Need-returns-2
+unfolding relaysAt
+returns-2 c =
+    let a = c .before .before .args in
+    (sym (ap (λ (b : Bool). cond b (getD (a .f .now) (routeAt (a .c)) 0) 0) (c .if1 .left)), omega arith)
+
+pub relays-at-spec : {M : Type 1} → statement M
+relays-at-spec =
+    tie.close (tie.spec route-at-requires byte-at-requires cast-result returns returns-2)

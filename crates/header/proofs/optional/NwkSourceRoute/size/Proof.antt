@@ -1,0 +1,39 @@
+-- `NwkSourceRoute::size` meets its contract: the count, the index and two bytes for each relay. Assumes nothing.
+use borrow.Author.Needs.{needs}
+use mathlib.Core.Path.{_≡_, sym, ap, _∙_}
+use native.Mathlib.Omega.{arith}
+use lib.ListN.{length}
+use mathlib.Core.Bool.{cond}
+use Rattle.header.proofs.optional.NwkSourceRoute.size.Statement.{statement}
+use Rattle.header.proofs.optional.NwkSourceRoute.size.Tie as tie
+use Rattle.header.specs.declared.optional.NwkSourceRoute.{NwkSourceRoute}
+use Rattle.header.specs.Optional.{routeBytes}
+use Rattle.header.proofs.Pieces.{route-length}
+
+enum-told : tie.Need-enum-told
+enum-told c = search needs
+
+enum-known-self : tie.Need-enum-known-self
+enum-known-self c = search needs
+
+cast-result : tie.Need-cast-result
+cast-result c = search needs
+
+mul-result : tie.Need-mul-result
+mul-result c = search needs
+
+add-result : tie.Need-add-result
+add-result c = search needs
+
+returns : tie.Need-returns
+returns c = search needs
+
+returns-2 : tie.Need-returns-2
+returns-2 c =
+    let a = c .before .before .before .args in
+    (sym (ap (λ (o : NwkSourceRoute). length (routeBytes o (a .relays))) (c .before .self .given .1) ∙ route-length (NwkSourceRoute.Present _ _) (a .relays)), omega (arith, c .known-told .given))
+
+pub size-spec : {M : Type 1} → statement M
+size-spec =
+    tie.close
+    (tie.spec enum-told enum-known-self cast-result mul-result add-result returns returns-2)

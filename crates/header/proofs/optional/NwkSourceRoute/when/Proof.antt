@@ -1,0 +1,17 @@
+-- `NwkSourceRoute::when` meets its contract: the presence bit picks the case. Assumes nothing.
+use borrow.Author.Needs.{needs}
+use mathlib.Core.Path.{sym, ap}
+use mathlib.Core.Bool.{Bool}
+use Rattle.header.proofs.optional.NwkSourceRoute.when.Statement.{statement}
+use Rattle.header.proofs.optional.NwkSourceRoute.when.Tie as tie
+use Rattle.header.specs.Optional.{routeIf}
+
+returns : tie.Need-returns
+returns c =
+    sym (ap (λ (b : Bool). routeIf b (c .before .args .n) (c .before .args .i)) (c .if1 .taken))
+
+returns-2 : tie.Need-returns-2
+returns-2 c = search needs
+
+pub when-spec : {M : Type 1} → statement M
+when-spec = tie.close (tie.spec returns returns-2)

@@ -1,0 +1,16 @@
+-- `OptionEui64::when` meets its contract: the presence bit picks the case. Assumes nothing.
+use borrow.Author.Needs.{needs}
+use mathlib.Core.Path.{sym, ap}
+use mathlib.Core.Bool.{Bool}
+use Rattle.header.proofs.optional.OptionEui64.when.Statement.{statement}
+use Rattle.header.proofs.optional.OptionEui64.when.Tie as tie
+use Rattle.header.specs.Optional.{ieeeIf}
+
+returns : tie.Need-returns
+returns c = sym (ap (λ (b : Bool). ieeeIf b (c .before .args .x)) (c .if1 .taken))
+
+returns-2 : tie.Need-returns-2
+returns-2 c = search needs
+
+pub when-spec : {M : Type 1} → statement M
+when-spec = tie.close (tie.spec returns returns-2)

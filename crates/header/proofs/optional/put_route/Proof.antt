@@ -1,0 +1,64 @@
+-- `put_route` meets its contract: count, index and relays, one part behind the other. Assumes nothing.
+use borrow.Author.Needs.{needs}
+use mathlib.Core.Path.{_≡_, refl, sym, ap, _∙_}
+use Prim.Native.Nat.{_+_, _≤_}
+use native.Mathlib.Omega.{arith}
+use lib.ListN.{length}
+use Rattle.header.proofs.optional.put_route.Statement.{statement}
+use Rattle.header.proofs.optional.put_route.Tie as tie
+use Rattle.octets.specs.Numbers.{le}
+use Rattle.octets.proofs.Strings.{over-three}
+use Rattle.octets.proofs.Numbers.{length-le}
+use Rattle.header.specs.declared.optional.NwkSourceRoute.{NwkSourceRoute}
+use Rattle.header.specs.Optional.{relayBytes}
+use Rattle.header.proofs.Pieces.{relay-length, route-length}
+
+put-u8-requires : tie.Need-put-u8-requires
+put-u8-requires c κs =
+    let a = c .before .before .args in
+    omega (arith, c .before .before .pre, route-length (NwkSourceRoute.Present (a .relay-count) (a .relay-index)) (a .relays))
+
+add-put-u8 : tie.Need-add-put-u8
+add-put-u8 c = search needs
+
+put-u8-requires-2 : tie.Need-put-u8-requires-2
+put-u8-requires-2 c κs =
+    let a = c .before .before .before .before .before .before .args in
+    omega (arith, c .before .before .before .put-u8 .kept, c .before .before .before .before .before .before .pre, route-length (NwkSourceRoute.Present (a .relay-count) (a .relay-index)) (a .relays))
+
+add-put-relays : tie.Need-add-put-relays
+add-put-relays c = search needs
+
+put-relays-requires : tie.Need-put-relays-requires
+put-relays-requires c κs =
+    let a = c .before .before .before .before .before .before .before .before .before .before .args in
+    omega (
+      arith,
+      c .before .before .before .put-u82 .kept,
+      c .before .before .before .before .before .before .before .put-u8 .kept,
+      c .before .before .before .before .before .before .before .before .before .before .pre,
+      relay-length (a .relay-count) (a .relays),
+      route-length (NwkSourceRoute.Present (a .relay-count) (a .relay-index)) (a .relays),
+    )
+
+same-length : tie.Need-same-length
+same-length c = search needs
+
+returns : tie.Need-returns
+returns c =
+    let a = c .before .before .before .before .before .before .before .before .before .before .before .before .before .args in
+    let fits : a .i ≤ length (a .out .now) = omega (arith, c .before .before .before .before .before .before .before .before .before .before .before .before .before .pre) in
+    over-three (a .out .now) _ _ _ (a .i) (a .i + 1) (a .i + 2) (le 1 (a .relay-count)) (le 1 (a .relay-index)) (relayBytes (a .relay-count) (a .relays)) fits
+    (rw (length-le 1 (a .relay-count)) refl) (rw (length-le 1 (a .relay-index)) (omega arith)) (c .before .before .before .before .before .before .before .before .before .before .put-u8 .ensures) (c .before .before .before .before .before .before .put-u82 .ensures) (c .before .before .put-relays .ensures)
+
+pub put-route-spec : {M : Type 1} → statement M
+put-route-spec =
+    tie.close
+    (tie.spec
+    put-u8-requires
+    add-put-u8
+    put-u8-requires-2
+    add-put-relays
+    put-relays-requires
+    same-length
+    returns)

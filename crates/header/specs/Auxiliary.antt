@@ -1,0 +1,67 @@
+-- The auxiliary header (Zigbee Specification 4.5.1): reading with the refusals 1, 9, 10 and 11, and writing with those
+-- that it can meet, of which there is 18 alone.
+-- Assumes nothing.
+use Prim.Native.Nat.{ℕ, zero, suc, _+_, _*_}
+use mathlib.Core.Bool.{Bool, cond}
+use mathlib.Core.List.{List, [], _∷_, _++_}
+use lib.ListN.{length, getD}
+use lib.Dec.{ltb}
+use Rattle.octets.specs.Numbers.{le, leAt}
+use Rattle.octets.specs.Refusals.{on, firstOf}
+use Rattle.header.specs.declared.auxiliary.NwkSecurityHeaderControlField.{NwkSecurityHeaderControlField}
+use Rattle.header.specs.declared.auxiliary.NwkAuxHeader.{NwkAuxHeader}
+use Rattle.header.specs.declared.auxiliary.AuxRead.{AuxRead}
+use Rattle.header.specs.Optional.{bit, ieeeIf, ieeeBytes}
+use Rattle.header.specs.AuxiliaryControl.{securityByte, securityOf}
+use Rattle.header.specs.Writing.{Run, written}
+
+-- ---- reading: control at 0, counter at 1, IEEE at 5
+
+abbrev pub security : List ℕ → NwkSecurityHeaderControlField
+security f = securityOf (getD f 0 0)
+
+-- the key sequence number's place
+unfoldable pub keySequenceAt : NwkSecurityHeaderControlField → ℕ
+keySequenceAt c = 5 + 8 * bit (c .«extended_nonce»)
+
+-- with extended nonce the IEEE takes 13 bytes in all (10), and the key sequence number one more (11)
+unfoldable pub auxRefusal : List ℕ → ℕ
+auxRefusal f =
+    firstOf (on 1 (ltb 118 (length f))
+    ∷ on 9 (ltb (length f) 6)
+    ∷ on 10 (ltb (length f) (keySequenceAt (security f)))
+    ∷ on 11 (ltb (length f) (keySequenceAt (security f) + 1))
+    ∷ [])
+
+unfoldable pub auxBy : List ℕ → NwkSecurityHeaderControlField → NwkAuxHeader
+auxBy f c =
+    record {
+      «security_control» = c;
+      «frame_counter» = leAt 4 f 1;
+      «extended_source» = ieeeIf (c .«extended_nonce») (leAt 8 f 5);
+      «key_sequence_number» = getD f (keySequenceAt c) 0;
+    }
+
+-- the record of zeros that stands beside a refusal
+unfoldable pub blankAux : NwkAuxHeader
+blankAux = auxBy [] (securityOf 0)
+
+unfoldable pub auxAnswer : List ℕ → ℕ → AuxRead
+auxAnswer f zero = record { refusal = 0; length = keySequenceAt (security f) + 1; aux = auxBy f (security f) }
+auxAnswer f (suc n) = record { refusal = suc n; length = 0; aux = blankAux }
+
+unfoldable pub readAux : List ℕ → AuxRead
+readAux f = auxAnswer f (auxRefusal f)
+
+-- ---- writing
+
+unfoldable pub auxBytes : NwkAuxHeader → List ℕ
+auxBytes a =
+    le 1 (securityByte (a .«security_control»)) ++ (le 4 (a .«frame_counter») ++ (ieeeBytes (a .«extended_source») ++ le 1 (a .«key_sequence_number»)))
+
+-- no field can exceed its bits (13), and 14 bytes at the most are no more than 118 (17)
+unfoldable pub auxWriteRefusal : NwkAuxHeader → ℕ → ℕ
+auxWriteRefusal a room = firstOf (on 18 (ltb room (length (auxBytes a))) ∷ [])
+
+unfoldable pub writeAux : NwkAuxHeader → List ℕ → Run
+writeAux a o = written (auxWriteRefusal a (length o)) (auxBytes a) o

@@ -1,0 +1,8 @@
+-- The NWK header and the auxiliary header: what reading and writing them is.
+pub mod Optional
+pub mod Control
+pub mod Reading
+pub mod Writing
+pub mod AuxiliaryControl
+pub mod Auxiliary
+pub mod Same

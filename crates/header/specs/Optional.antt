@@ -1,0 +1,67 @@
+-- Fields that may be missing: whether one is there, what reading makes of its presence bit, and the bytes that it has.
+-- Assumes nothing.
+use Prim.Native.Nat.{ℕ, zero, suc, _+_, _*_}
+use mathlib.Core.Bool.{Bool, true, false}
+use mathlib.Core.List.{List, [], _∷_, _++_}
+use lib.ListN.{getD}
+use Rattle.octets.specs.Numbers.{le}
+use Rattle.header.specs.declared.optional.OptionEui64.{OptionEui64}
+use Rattle.header.specs.declared.optional.OptionMulticast.{OptionMulticast}
+use Rattle.header.specs.declared.optional.NwkSourceRoute.{NwkSourceRoute}
+
+-- a bit as a number
+abbrev pub bit : Bool → ℕ
+bit true = 1
+bit false = 0
+
+-- ---- a long address
+
+abbrev pub hasIeee : OptionEui64 → Bool
+hasIeee OptionEui64.Absent = false
+hasIeee (OptionEui64.Present x) = true
+
+abbrev pub ieeeIf : Bool → ℕ → OptionEui64
+ieeeIf true x = OptionEui64.Present x
+ieeeIf false x = OptionEui64.Absent
+
+abbrev pub ieeeBytes : OptionEui64 → List ℕ
+ieeeBytes OptionEui64.Absent = []
+ieeeBytes (OptionEui64.Present x) = le 8 x
+
+-- ---- the multicast control byte
+
+abbrev pub hasMulticast : OptionMulticast → Bool
+hasMulticast OptionMulticast.Absent = false
+hasMulticast (OptionMulticast.Present x) = true
+
+abbrev pub multicastIf : Bool → ℕ → OptionMulticast
+multicastIf true x = OptionMulticast.Present x
+multicastIf false x = OptionMulticast.Absent
+
+abbrev pub multicastBytes : OptionMulticast → List ℕ
+multicastBytes OptionMulticast.Absent = []
+multicastBytes (OptionMulticast.Present x) = le 1 x
+
+-- ---- the source route
+
+abbrev pub hasRoute : NwkSourceRoute → Bool
+hasRoute NwkSourceRoute.Absent = false
+hasRoute (NwkSourceRoute.Present n i) = true
+
+abbrev pub routeIf : Bool → ℕ → ℕ → NwkSourceRoute
+routeIf true n i = NwkSourceRoute.Present n i
+routeIf false n i = NwkSourceRoute.Absent
+
+-- how many relays there are
+abbrev pub relayCount : NwkSourceRoute → ℕ
+relayCount NwkSourceRoute.Absent = 0
+relayCount (NwkSourceRoute.Present n i) = n
+
+-- the first n relays
+unfoldable pub relayBytes : ℕ → List ℕ → List ℕ
+relayBytes zero rs = []
+relayBytes (suc n) rs = relayBytes n rs ++ le 2 (getD rs n 0)
+
+abbrev pub routeBytes : NwkSourceRoute → List ℕ → List ℕ
+routeBytes NwkSourceRoute.Absent rs = []
+routeBytes (NwkSourceRoute.Present n i) rs = le 1 n ++ (le 1 i ++ relayBytes n rs)

@@ -1,0 +1,179 @@
+// Fields that may be missing. Inside an enum an IEEE is a 64-bit number, its first wire byte lowest.
+
+ghost use mathlib.Core.Path.{_≡_};
+ghost use Prim.Native.Nat.{_+_, _≤_};
+ghost use lib.ListN.{length};
+ghost use Rattle.octets.specs.Strings.{over, Below};
+ghost use Rattle.header.specs.Optional.{ieeeIf, ieeeBytes, multicastIf, multicastBytes, routeIf, routeBytes, relayCount, relayBytes};
+
+// An optional long address.
+pub enum OptionEui64 {
+    Absent,
+    Present(u64),
+}
+
+// An optional multicast control byte.
+pub enum OptionMulticast {
+    Absent,
+    Present(u8),
+}
+
+// An optional source route: its relay count and relay index. The relays stand beside it in the header.
+pub enum NwkSourceRoute {
+    Absent,
+    Present { relay_count: u8, relay_index: u8 },
+}
+
+impl OptionEui64 {
+    // The address x if its presence bit is set.
+    pub fn when(present: bool, x: u64) -> OptionEui64
+        ensures { λ r. ⌜ r ≡ ieeeIf present x ⌝ }
+    {
+        if present {
+            OptionEui64::Present(x)
+        } else {
+            OptionEui64::Absent
+        }
+    }
+
+    // How many bytes it takes in a frame.
+    pub fn size(self) -> usize
+        ensures { λ r. ⌜ (r ≡ length (ieeeBytes self)) × (r ≤ 8) ⌝ }
+    {
+        match self {
+            OptionEui64::Absent => 0,
+            OptionEui64::Present(_) => 8,
+        }
+    }
+
+    // Write it at place i, and give the place behind it.
+    pub fn put(self, out: &mut [u8], i: usize) -> usize
+        requires { ⌜ i + length (ieeeBytes self) ≤ length (now out) ⌝ }
+        ensures { λ r. ⌜ (r ≡ i + length (ieeeBytes self)) × (now (out .exit) ≡ over (now (out .entry)) i (ieeeBytes self)) ⌝ }
+    {
+        match self {
+            OptionEui64::Absent => i,
+            OptionEui64::Present(x) => {
+                octets::put_u64(out, i, x);
+                i + 8
+            }
+        }
+    }
+}
+
+impl OptionMulticast {
+    // The control byte x if its presence bit is set.
+    pub fn when(present: bool, x: u8) -> OptionMulticast
+        ensures { λ r. ⌜ r ≡ multicastIf present x ⌝ }
+    {
+        if present {
+            OptionMulticast::Present(x)
+        } else {
+            OptionMulticast::Absent
+        }
+    }
+
+    // How many bytes it takes in a frame.
+    pub fn size(self) -> usize
+        ensures { λ r. ⌜ (r ≡ length (multicastBytes self)) × (r ≤ 1) ⌝ }
+    {
+        match self {
+            OptionMulticast::Absent => 0,
+            OptionMulticast::Present(_) => 1,
+        }
+    }
+
+    // Write it at place i, and give the place behind it.
+    pub fn put(self, out: &mut [u8], i: usize) -> usize
+        requires { ⌜ i + length (multicastBytes self) ≤ length (now out) ⌝ }
+        ensures { λ r. ⌜ (r ≡ i + length (multicastBytes self)) × (now (out .exit) ≡ over (now (out .entry)) i (multicastBytes self)) ⌝ }
+    {
+        match self {
+            OptionMulticast::Absent => i,
+            OptionMulticast::Present(x) => {
+                octets::put_u8(out, i, x);
+                i + 1
+            }
+        }
+    }
+}
+
+impl NwkSourceRoute {
+    // The count n and the index i if the presence bit is set.
+    pub fn when(present: bool, n: u8, i: u8) -> NwkSourceRoute
+        ensures { λ r. ⌜ r ≡ routeIf present n i ⌝ }
+    {
+        if present {
+            NwkSourceRoute::Present {
+                relay_count: n,
+                relay_index: i,
+            }
+        } else {
+            NwkSourceRoute::Absent
+        }
+    }
+
+    // How many relays there are.
+    pub fn count(self) -> u8
+        ensures { λ r. ⌜ r ≡ relayCount self ⌝ }
+    {
+        match self {
+            NwkSourceRoute::Absent => 0,
+            NwkSourceRoute::Present {
+                relay_count,
+                relay_index: _,
+            } => relay_count,
+        }
+    }
+
+    // How many bytes it takes in a frame.
+    pub fn size(self, relays: [u16; 54]) -> usize
+        ensures { λ r. ⌜ (r ≡ length (routeBytes self relays)) × (r ≤ 512) ⌝ }
+    {
+        match self {
+            NwkSourceRoute::Absent => 0,
+            NwkSourceRoute::Present {
+                relay_count,
+                relay_index: _,
+            } => 2 + 2 * (relay_count as usize),
+        }
+    }
+
+    // Write it at place i, its relays behind it.
+    pub fn put(self, relays: [u16; 54], out: &mut [u8], i: usize)
+        requires { ⌜ (i + length (routeBytes self relays) ≤ length (now out)) × (relayCount self ≤ 54) ⌝ }
+        ensures { λ _. ⌜ now (out .exit) ≡ over (now (out .entry)) i (routeBytes self relays) ⌝ }
+    {
+        match self {
+            NwkSourceRoute::Absent => {}
+            NwkSourceRoute::Present {
+                relay_count,
+                relay_index,
+            } => {
+                put_route(out, i, relay_count, relay_index, relays);
+            }
+        }
+    }
+}
+
+// Write a source route at place i: its count, its index and its relays.
+fn put_route(out: &mut [u8], i: usize, relay_count: u8, relay_index: u8, relays: [u16; 54])
+    requires { ⌜ (i + length (routeBytes (NwkSourceRoute.Present «relay_count» «relay_index») relays) ≤ length (now out)) × («relay_count» ≤ 54) ⌝ }
+    ensures { λ _. ⌜ now (out .exit) ≡ over (now (out .entry)) i (routeBytes (NwkSourceRoute.Present «relay_count» «relay_index») relays) ⌝ }
+{
+    octets::put_u8(out, i, relay_count);
+    octets::put_u8(out, i + 1, relay_index);
+    put_relays(out, i + 2, relay_count as usize, relays);
+}
+
+// Write the first n relays at place i.
+fn put_relays(out: &mut [u8], i: usize, n: usize, relays: [u16; 54])
+    requires { ⌜ (i + length (relayBytes n relays) ≤ length (now out)) × (n ≤ 54) ⌝ }
+    ensures { λ _. ⌜ now (out .exit) ≡ over (now (out .entry)) i (relayBytes n relays) ⌝ }
+{
+    let mut j = 0;
+    while j < n {
+        octets::put_u16(out, i + 2 * j, relays[j]);
+        j += 1;
+    }
+}

@@ -1,0 +1,3 @@
+-- The inverse laws of addresses and keys.
+pub mod Addresses
+pub mod Keys

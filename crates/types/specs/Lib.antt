@@ -1,0 +1,3 @@
+-- What the contracts of addresses and keys cite.
+pub mod Addresses
+pub mod Keys
