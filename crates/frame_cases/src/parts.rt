@@ -8,6 +8,7 @@
 use crate::words;
 use crate::words::Line;
 use casefile::fields::field;
+use casefile::fields::whole;
 use header::auxiliary::NwkAuxHeader;
 use header::auxiliary::NwkSecurityHeaderControlField;
 use header::control::NwkFrameControl;
@@ -108,7 +109,7 @@ fn check_fixed(line: &[u8], h: NwkHeader) -> Line {
     let mut addresses = [0u8; 6];
     let c = field(line, 2, &mut control);
     let a = field(line, 3, &mut addresses);
-    let good = c.good && a.good;
+    let good = whole(c, 10) && whole(a, 6);
     if !good {
         return Line::Damaged;
     }
@@ -220,7 +221,7 @@ pub fn check_aux_fields(line: &[u8]) -> Line {
     let b = field(line, 1, &mut bytes);
     let r = field(line, 2, &mut row);
     let i = field(line, 3, &mut ieee);
-    let good = b.good && r.good && i.good;
+    let good = b.good && whole(r, 9) && i.good;
     if !good {
         return Line::Damaged;
     }
