@@ -84,6 +84,11 @@ fn changed(h: NwkHeader, change: &[u8]) -> NwkHeader {
     with_control(h, c, route_of(change, source_route))
 }
 
+// Whether a change may have n bytes.
+fn is_change(n: usize) -> bool {
+    n == 0 || n == 4 || n == 6
+}
+
 // The header of word k, changed by the next word.
 pub fn header_at(line: &[u8], k: usize) -> HandedHeader {
     let mut bytes = [0u8; 128];
@@ -94,7 +99,7 @@ pub fn header_at(line: &[u8], k: usize) -> HandedHeader {
     let m = c.n;
     let read = NwkHeader::deserialize(&bytes[..n]);
     let h = read.header;
-    let good = b.good && c.good && read.refusal == 0 && read.length == n;
+    let good = b.good && c.good && is_change(m) && read.refusal == 0 && read.length == n;
     HandedHeader {
         good,
         header: changed(h, &change[..m]),

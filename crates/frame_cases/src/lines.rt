@@ -1,6 +1,7 @@
 // A file of cases, one a line: each is run, and those that agree are counted.
 ghost use Prim.Native.Nat.{_≤_, _<_};
 use crate::opening;
+use crate::parts;
 use crate::reading;
 use crate::sealing;
 use crate::words;
@@ -8,7 +9,7 @@ use crate::words::Line;
 use casefile::file;
 use casefile::report;
 
-// What one case shows, by its first word.
+// What one case shows, by its first word: those of a header or an auxiliary header alone.
 fn check_case(line: &[u8]) -> Line {
     if words::is(line, 0, b"header") {
         return ended(line, 4, reading::check_header(line));
@@ -16,6 +17,17 @@ fn check_case(line: &[u8]) -> Line {
     if words::is(line, 0, b"aux") {
         return ended(line, 4, reading::check_aux(line));
     }
+    if words::is(line, 0, b"fields") {
+        return ended(line, 8, parts::check_fields(line));
+    }
+    if words::is(line, 0, b"aux-fields") {
+        return ended(line, 4, parts::check_aux_fields(line));
+    }
+    check_frame_case(line)
+}
+
+// The same for the cases of whole frames.
+fn check_frame_case(line: &[u8]) -> Line {
     if words::is(line, 0, b"frame") {
         return ended(line, 4, reading::check_frame(line));
     }

@@ -3,6 +3,7 @@
 mod handed;
 mod lines;
 mod opening;
+mod parts;
 mod reading;
 mod sealing;
 mod words;
