@@ -1,0 +1,3 @@
+-- Laws of the answers and refusals of the C functions, and the proofs of the functions.
+pub mod Calls
+pub mod Refusals
