@@ -1,0 +1,3 @@
+-- The answers of the typed body readers.
+mod Whole
+mod Entries

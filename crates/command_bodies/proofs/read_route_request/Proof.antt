@@ -1,0 +1,101 @@
+-- `command_bodies::read_route_request` meets its contract: the fields stand at the places of the format, the address in the
+-- one entry that its bit counts. Assumes nothing.
+use borrow.Author.Needs.{needs}
+use mathlib.Core.Path.{_≡_, refl, sym, ap, _∙_}
+use Prim.Native.Nat.{ℕ, _+_, _*_, _/_, _%_, _≤_, _<_}
+use native.Mathlib.Nat.{mod-lt}
+use native.Mathlib.Omega.{arith}
+use lib.ListN.{length, getD}
+use Rattle.command_bodies.proofs.read_route_request.Statement.{statement}
+use Rattle.command_bodies.proofs.read_route_request.Tie as tie
+use Rattle.octets.specs.Fields.{fields}
+use Rattle.octets.specs.Numbers.{leAt}
+use Rattle.octets.specs.Strings.{tab}
+use Rattle.commands.specs.Format.{bodyEnd, headEnd, announced, summed, plus, readFields, readField, kept, partSizes, size, sizes, values}
+use Rattle.commands.specs.Reading.{formatOf, commandOf}
+use Rattle.commands.specs.declared.NwkCommandId.{NwkCommandId}
+use Rattle.commands.specs.declared.NwkCommand.{NwkCommand}
+use Rattle.commands.specs.declared.TypedBody.{TypedBody}
+use Rattle.command_bodies.proofs.Whole.{short, whole}
+use Rattle.commands.specs.Codes.{manyToOneOf}
+use Rattle.commands.specs.Commands.{routeRequestFormat, routeRequestOf, routeRequestBy, addressOf}
+use Rattle.command_bodies.proofs.Entries.{only-entry}
+
+byte-at-requires : tie.Need-byte-at-requires
+byte-at-requires c κs = search needs
+
+cast-if1 : tie.Need-cast-if1
+cast-if1 c = search needs
+
+mul-if1 : tie.Need-mul-if1
+mul-if1 c = search needs
+
+add-if1 : tie.Need-add-if1
+add-if1 c = search needs
+
+returns : tie.Need-returns
+unfolding values bodyEnd headEnd announced summed plus readFields readField kept partSizes size sizes fields formatOf commandOf routeRequestFormat routeRequestOf
+returns c =
+    short NwkCommandId.RouteRequest (c .before .before .before .args .s .now) (rw (c .before .byte-at .ensures) at (c .if1 .taken))
+
+try-from-requires : tie.Need-try-from-requires
+try-from-requires c κs = search needs
+
+enum-known-many-to-one : tie.Need-enum-known-many-to-one
+enum-known-many-to-one c = search needs
+
+enum-told : tie.Need-enum-told
+enum-told c = search needs
+
+returns-2 : tie.Need-returns-2
+unfolding values bodyEnd headEnd announced summed plus readFields readField kept partSizes size sizes fields formatOf commandOf routeRequestFormat routeRequestOf routeRequestBy
+returns-2 c =
+    let s = c .before .before .before .before .before .before .args .s .now in
+    ap (λ k. routeRequestBy k (values routeRequestFormat s)) (sym (c .enum-told .given .1) ∙ c .before .before .try-from .ensures ∙ ap (λ (x : ℕ). manyToOneOf (x / 8 % 4)) (c .before .before .before .before .byte-at .ensures))
+    ∙ whole NwkCommandId.RouteRequest s (rw (c .before .before .before .before .byte-at .ensures) at (c .before .before .before .if1 .left))
+
+address-at-requires : tie.Need-address-at-requires
+address-at-requires c κs = search needs
+
+byte-at-requires-2 : tie.Need-byte-at-requires-2
+byte-at-requires-2 c κs = search needs
+
+read-u16-requires : tie.Need-read-u16-requires
+read-u16-requires c κs = search needs
+
+byte-at-requires-3 : tie.Need-byte-at-requires-3
+byte-at-requires-3 c κs = search needs
+
+returns-3 : tie.Need-returns-3
+unfolding values bodyEnd headEnd announced summed plus readFields readField kept partSizes size sizes fields formatOf commandOf routeRequestFormat routeRequestOf routeRequestBy
+returns-3 c =
+    let s = c .before .before .before .before .before .before .before .before .before .before .before .args .s .now in
+    let has : ℕ = getD s 1 0 / 8 / 4 % 2 in
+    (λ i. TypedBody.Typed (NwkCommand.RouteRequest (record {
+      «many_to_one» = c .before .before .before .before .before .many-to-one .given .0 .0;
+      «route_request_identifier» = c .before .before .byte-at2 .ensures i;
+      «destination_address» = c .before .read-u16 .ensures i;
+      «path_cost» = c .byte-at3 .ensures i;
+      «destination_eui64» = (c .before .before .before .address-at .ensures ∙ ap (λ (x : ℕ). addressOf (x / 8 / 4 % 2) (leAt 8 s 6)) (c .before .before .before .before .before .before .before .before .before .byte-at .ensures) ∙ sym (only-entry s 6 has (mod-lt (getD s 1 0 / 8 / 4) (omega arith)))) i;
+    })))
+    ∙ ap (λ k. routeRequestBy k (values routeRequestFormat s)) (sym (c .before .before .before .before .before .many-to-one .given .1) ∙ c .before .before .before .before .before .before .before .try-from .ensures ∙ ap (λ (x : ℕ). manyToOneOf (x / 8 % 4)) (c .before .before .before .before .before .before .before .before .before .byte-at .ensures))
+    ∙ whole NwkCommandId.RouteRequest s (rw (c .before .before .before .before .before .before .before .before .before .byte-at .ensures) at (c .before .before .before .before .before .before .before .before .if1 .left))
+
+pub read-route-request-spec : {M : Type 1} → statement M
+read-route-request-spec =
+    tie.close
+    (tie.spec
+    byte-at-requires
+    cast-if1
+    mul-if1
+    add-if1
+    returns
+    try-from-requires
+    enum-known-many-to-one
+    enum-told
+    returns-2
+    address-at-requires
+    byte-at-requires-2
+    read-u16-requires
+    byte-at-requires-3
+    returns-3)

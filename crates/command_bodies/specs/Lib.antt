@@ -1,0 +1,2 @@
+-- What the readers of parts of a body give.
+pub mod Capability

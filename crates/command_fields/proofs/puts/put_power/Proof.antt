@@ -1,0 +1,33 @@
+-- `command_fields::puts::put_power` meets its contract: the address and the delta, one behind the other. Assumes nothing.
+use borrow.Author.Needs.{needs}
+use native.Mathlib.Omega.{arith}
+use mathlib.Core.Path.{refl}
+use mathlib.Core.List.{[], _∷_}
+use Rattle.command_fields.proofs.puts.put_power.Statement.{statement}
+use Rattle.command_fields.proofs.puts.put_power.Tie as tie
+use Rattle.octets.specs.Numbers.{le}
+use Rattle.commands.specs.Format.{width, writeField, writeFields}
+use Rattle.commands.specs.Commands.{linkPowerDeltaFormat, powerEntry}
+use Rattle.command_fields.proofs.Chain.{next}
+
+put-u16-requires : tie.Need-put-u16-requires
+put-u16-requires c κs = search needs
+
+add-put-byte : tie.Need-add-put-byte
+add-put-byte c = search needs
+
+put-byte-requires : tie.Need-put-byte-requires
+put-byte-requires c κs = search needs
+
+same-length : tie.Need-same-length
+same-length c = search needs
+
+returns : tie.Need-returns
+unfolding le width writeField writeFields linkPowerDeltaFormat powerEntry
+returns c =
+    let a = c .before .before .before .before .before .before .before .before .before .args in
+    next (a .out .now) (c .before .before .before .before .before .before .put-u16 .last .0) (c .before .before .put-byte .last .0) (a .i) _ (le 2 (a .power .«device_address»)) (a .power .«power_delta» ∷ []) (omega arith) (c .before .before .before .before .before .before .put-u16 .ensures) (c .before .before .put-byte .ensures) refl
+
+pub put-power-spec : {M : Type 1} → statement M
+put-power-spec =
+    tie.close (tie.spec put-u16-requires add-put-byte put-byte-requires same-length returns)

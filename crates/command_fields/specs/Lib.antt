@@ -1,0 +1,2 @@
+-- What the parts of a command's bytes are.
+pub mod Options

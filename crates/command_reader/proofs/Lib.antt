@@ -1,0 +1,3 @@
+-- The loops that fill a list, and a command with its list.
+mod Filling
+mod Listed

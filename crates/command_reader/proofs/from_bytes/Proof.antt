@@ -1,0 +1,63 @@
+-- `command_reader::from_bytes` meets its contract: above 108 bytes the refusal, else the typed command with its list, else all
+-- the bytes. Assumes nothing.
+use borrow.Author.Needs.{needs}
+use mathlib.Core.Path.{_≡_, sym, ap, _∙_}
+use borrow.Author.Tests.{lt-ltb}
+use lib.ListN.{length}
+use native.Mathlib.Omega.{arith}
+use Rattle.command_reader.proofs.from_bytes.Statement.{statement}
+use Rattle.command_reader.proofs.from_bytes.Tie as tie
+use Rattle.commands.specs.Reading.{readCommand, refused, accepted, unparsed, frameOf, typed}
+use Rattle.commands.specs.declared.TypedBody.{TypedBody}
+use Rattle.commands.proofs.RoundTrip.{read-accepts}
+
+blank-requires : tie.Need-blank-requires
+blank-requires c κs = search needs
+
+returns : tie.Need-returns
+unfolding readCommand refused unparsed
+returns c = rw (c .blank .ensures, lt-ltb _ _ (c .before .if1 .taken))
+
+try-parse-requires : tie.Need-try-parse-requires
+try-parse-requires c κs = search needs
+
+enum-known-command : tie.Need-enum-known-command
+enum-known-command c = search needs
+
+enum-told : tie.Need-enum-told
+enum-told c = search needs
+
+keep-unparsed-requires : tie.Need-keep-unparsed-requires
+keep-unparsed-requires c κs = search needs
+
+returns-2 : tie.Need-returns-2
+unfolding accepted frameOf
+returns-2 c =
+    let s = c .before .before .before .before .before .before .args .s .now in
+    ap accepted (c .keep-unparsed .ensures ∙ ap (λ (b : TypedBody). frameOf b s) (sym (c .before .enum-told .given .1) ∙ c .before .before .before .try-parse .ensures))
+    ∙ sym (read-accepts s (c .before .before .before .before .if1 .left))
+
+with-list-requires : tie.Need-with-list-requires
+with-list-requires c κs =
+    (sym (c .before .before .before .try-parse .ensures) ∙ c .before .command .given .1, omega arith)
+
+returns-3 : tie.Need-returns-3
+unfolding accepted frameOf
+returns-3 c =
+    let s = c .before .before .before .before .before .before .before .args .s .now in
+    ap accepted (c .with-list .ensures ∙ ap (λ (b : TypedBody). frameOf b s) (sym (c .before .before .command .given .1) ∙ c .before .before .before .before .try-parse .ensures))
+    ∙ sym (read-accepts s (c .before .before .before .before .before .if1 .left))
+
+pub from-bytes-spec : {M : Type 1} → statement M
+from-bytes-spec =
+    tie.close
+    (tie.spec
+    blank-requires
+    returns
+    try-parse-requires
+    enum-known-command
+    enum-told
+    keep-unparsed-requires
+    returns-2
+    with-list-requires
+    returns-3)

@@ -1,0 +1,70 @@
+-- `command_reader::lists::read_power_list` meets its contract. The loop's invariant: the first k places are filled. Assumes nothing.
+use mathlib.Core.Path.{_≡_, refl, sym, ap, _∙_}
+use Prim.Native.Nat.{ℕ, _+_, _-_, _*_, _≤_}
+use native.Mathlib.Omega.{arith}
+use lib.ListN.{length, getD}
+use Rattle.command_reader.proofs.lists.read_power_list.Statement.{statement}
+use Rattle.command_reader.proofs.lists.read_power_list.Tie as tie
+use Rattle.octets.specs.Strings.{tab}
+use Rattle.octets.specs.Numbers.{leAt}
+use Rattle.command_reader.proofs.Filling.{Filled, fill-next, fill-end}
+use Rattle.commands.specs.Commands.{noPower}
+use Rattle.command_reader.specs.Entries.{powerAt}
+
+abbrev Inv-loop : tie.InvT-loop
+Inv-loop s n powers₀ k₀ powers k = (k ≤ n) × Filled (λ (j : ℕ). powerAt (s) (3 + j * 3)) 35 noPower k powers
+
+abbrev μ-loop : tie.MeasureT-loop
+μ-loop s n powers₀ k₀ powers k = n - k
+
+loop-holds : tie.Need-loop-holds Inv-loop μ-loop
+unfolding tab
+loop-holds c = (omega arith, refl)
+
+mul-power-at : tie.Need-mul-power-at Inv-loop μ-loop
+mul-power-at c = omega arith
+
+add-power-at : tie.Need-add-power-at Inv-loop μ-loop
+add-power-at c = omega arith
+
+power-at-requires : tie.Need-power-at-requires Inv-loop μ-loop
+power-at-requires c κs = omega arith
+
+mul-powers : tie.Need-mul-powers Inv-loop μ-loop
+mul-powers c = omega arith
+
+array-set-from-powers : tie.Need-array-set-from-powers Inv-loop μ-loop
+array-set-from-powers c = omega arith
+
+add-k : tie.Need-add-k Inv-loop μ-loop
+add-k c = omega arith
+
+loop-less : tie.Need-loop-less Inv-loop μ-loop
+loop-less c = omega arith
+
+loop-again : tie.Need-loop-again Inv-loop μ-loop
+loop-again c =
+    let l = c .before .before .loop in
+    (omega arith, fill-next (λ (j : ℕ). powerAt (c .before .before .before .before .args .s .now) (3 + j * 3)) 35 noPower (l .k) (l .powers) (c .power-at .result) (omega arith) (l .inv .1) (c .power-at .ensures))
+
+returns : tie.Need-returns Inv-loop μ-loop
+returns c =
+    let l = c .before .loop in
+    fill-end (λ (j : ℕ). powerAt (c .before .before .before .args .s .now) (3 + j * 3)) 35 noPower (l .k) (c .before .before .before .args .n) (l .powers) (l .inv .0) (c .loop-test .left) (l .inv .1)
+
+pub read-power-list-spec : {M : Type 1} → statement M
+read-power-list-spec =
+    tie.close
+    (tie.spec
+    Inv-loop
+    μ-loop
+    loop-holds
+    mul-power-at
+    add-power-at
+    power-at-requires
+    mul-powers
+    array-set-from-powers
+    add-k
+    loop-less
+    loop-again
+    returns)

@@ -1,0 +1,2 @@
+-- What the readers of a list's entries give.
+pub mod Entries

@@ -1,0 +1,207 @@
+// The lists of a command: filled from the bytes, with 0 past the count.
+
+ghost use mathlib.Core.Path.{_≡_};
+ghost use mathlib.Core.List.{[]};
+ghost use Prim.Native.Nat.{ℕ, _+_, _*_, _%_, _≤_};
+ghost use lib.ListN.{length, getD};
+ghost use Rattle.octets.specs.Strings.{tab};
+ghost use Rattle.octets.specs.Numbers.{leAt};
+ghost use Rattle.commands.specs.Commands.{noLink, noPower};
+ghost use Rattle.commands.specs.Reading.{frame, listed, places, unparsed};
+ghost use Rattle.commands.specs.declared.NwkCommandList.{NwkCommandList};
+ghost use Rattle.command_reader.specs.Entries.{linkAt, powerAt};
+use commands::NwkCommand;
+use commands::NwkCommandFrame;
+use commands::NwkLinkStatus;
+use commands::NwkPowerListEntry;
+
+const NO_LINK: NwkLinkStatus = NwkLinkStatus {
+    address: 0,
+    incoming_cost: 0,
+    outgoing_cost: 0,
+};
+
+const NO_POWER: NwkPowerListEntry = NwkPowerListEntry {
+    device_address: 0,
+    power_delta: 0,
+};
+
+// A command with no list: every count and every place 0.
+pub fn blank(command: NwkCommand) -> NwkCommandFrame
+    ensures { λ r. ⌜ r ≡ frame command [] [] [] [] [] ⌝ }
+{
+    let relays = [0u16; 53];
+    let link_statuses = [NO_LINK; 31];
+    let pan_ids = [0u16; 31];
+    let power_list = [NO_POWER; 35];
+    let unparsed = [0u8; 108];
+    NwkCommandFrame {
+        command,
+        relay_count: 0,
+        relays,
+        link_statuses_len: 0,
+        link_statuses,
+        report_information_count: 0,
+        pan_ids,
+        list_count: 0,
+        power_list,
+        unparsed_len: 0,
+        unparsed,
+    }
+}
+
+// The n relays of a route record.
+fn read_relays(s: &[u8], n: usize) -> [u16; 53]
+    requires { ⌜ n ≤ 53 ⌝ }
+    ensures { λ r. ⌜ r ≡ places 0 53 (tab (λ (k : ℕ). leAt 2 (now (s .entry)) (2 + k * 2)) n) ⌝ }
+{
+    let mut relays = [0u16; 53];
+    let mut k = 0;
+    while k < n {
+        relays[k] = octets::read_u16(s, 2 + k * 2);
+        k += 1;
+    }
+    relays
+}
+
+// The n PAN ids of a network report.
+fn read_pan_ids(s: &[u8], n: usize) -> [u16; 31]
+    requires { ⌜ n ≤ 31 ⌝ }
+    ensures { λ r. ⌜ r ≡ places 0 31 (tab (λ (k : ℕ). leAt 2 (now (s .entry)) (10 + k * 2)) n) ⌝ }
+{
+    let mut pan_ids = [0u16; 31];
+    let mut k = 0;
+    while k < n {
+        pan_ids[k] = octets::read_u16(s, 10 + k * 2);
+        k += 1;
+    }
+    pan_ids
+}
+
+// The link status entry at place i: an address, and the two costs in one byte.
+fn link_at(s: &[u8], i: usize) -> NwkLinkStatus
+    requires { ⌜ i ≤ 1000 ⌝ }
+    ensures { λ r. ⌜ r ≡ linkAt (now (s .entry)) i ⌝ }
+{
+    let costs = octets::byte_at(s, i + 2);
+    NwkLinkStatus {
+        address: octets::read_u16(s, i),
+        incoming_cost: costs % 8,
+        outgoing_cost: costs / 8 / 2 % 8,
+    }
+}
+
+// The n entries of a link status.
+fn read_link_statuses(s: &[u8], n: usize) -> [NwkLinkStatus; 31]
+    requires { ⌜ n ≤ 31 ⌝ }
+    ensures { λ r. ⌜ r ≡ places noLink 31 (tab (λ (k : ℕ). linkAt (now (s .entry)) (2 + k * 3)) n) ⌝ }
+{
+    let mut links = [NO_LINK; 31];
+    let mut k = 0;
+    while k < n {
+        links[k] = link_at(s, 2 + k * 3);
+        k += 1;
+    }
+    links
+}
+
+// The power list entry at place i.
+fn power_at(s: &[u8], i: usize) -> NwkPowerListEntry
+    requires { ⌜ i ≤ 1000 ⌝ }
+    ensures { λ r. ⌜ r ≡ powerAt (now (s .entry)) i ⌝ }
+{
+    NwkPowerListEntry {
+        device_address: octets::read_u16(s, i),
+        power_delta: octets::byte_at(s, i + 2),
+    }
+}
+
+// The n entries of a link power delta.
+fn read_power_list(s: &[u8], n: usize) -> [NwkPowerListEntry; 35]
+    requires { ⌜ n ≤ 35 ⌝ }
+    ensures { λ r. ⌜ r ≡ places noPower 35 (tab (λ (k : ℕ). powerAt (now (s .entry)) (3 + k * 3)) n) ⌝ }
+{
+    let mut powers = [NO_POWER; 35];
+    let mut k = 0;
+    while k < n {
+        powers[k] = power_at(s, 3 + k * 3);
+        k += 1;
+    }
+    powers
+}
+
+// A route record with its relays.
+pub fn with_relays(command: NwkCommand, s: &[u8]) -> NwkCommandFrame
+    requires { ⌜ getD (now s) 1 0 ≤ 53 ⌝ }
+    ensures { λ r. ⌜ r ≡ listed NwkCommandList.Relays command (now (s .entry)) ⌝ }
+{
+    let mut filled = blank(command);
+    let n = octets::byte_at(s, 1);
+    let relays = read_relays(s, n as usize);
+    filled.relay_count = n;
+    filled.relays = relays;
+    filled
+}
+
+// A link status with its entries.
+pub fn with_link_statuses(command: NwkCommand, s: &[u8]) -> NwkCommandFrame
+    ensures { λ r. ⌜ r ≡ listed NwkCommandList.LinkStatuses command (now (s .entry)) ⌝ }
+{
+    let mut filled = blank(command);
+    let n = octets::byte_at(s, 1) % 32;
+    let links = read_link_statuses(s, n as usize);
+    filled.link_statuses_len = n;
+    filled.link_statuses = links;
+    filled
+}
+
+// A network report with its PAN ids.
+pub fn with_pan_ids(command: NwkCommand, s: &[u8]) -> NwkCommandFrame
+    ensures { λ r. ⌜ r ≡ listed NwkCommandList.PanIds command (now (s .entry)) ⌝ }
+{
+    let mut filled = blank(command);
+    let n = octets::byte_at(s, 1) % 32;
+    let pan_ids = read_pan_ids(s, n as usize);
+    filled.report_information_count = n;
+    filled.pan_ids = pan_ids;
+    filled
+}
+
+// A link power delta with its power list.
+pub fn with_power_list(command: NwkCommand, s: &[u8]) -> NwkCommandFrame
+    requires { ⌜ getD (now s) 2 0 ≤ 35 ⌝ }
+    ensures { λ r. ⌜ r ≡ listed NwkCommandList.PowerList command (now (s .entry)) ⌝ }
+{
+    let mut filled = blank(command);
+    let n = octets::byte_at(s, 2);
+    let powers = read_power_list(s, n as usize);
+    filled.list_count = n;
+    filled.power_list = powers;
+    filled
+}
+
+// The bytes of an unparsed command, in an array.
+fn read_bytes(s: &[u8]) -> [u8; 108]
+    requires { ⌜ length (now s) ≤ 108 ⌝ }
+    ensures { λ r. ⌜ r ≡ places 0 108 (now (s .entry)) ⌝ }
+{
+    let mut bytes = [0u8; 108];
+    let mut k = 0;
+    while k < s.len() {
+        bytes[k] = s[k];
+        k += 1;
+    }
+    bytes
+}
+
+// An unparsed command: all the bytes, as they are.
+pub fn keep_unparsed(s: &[u8]) -> NwkCommandFrame
+    requires { ⌜ length (now s) ≤ 108 ⌝ }
+    ensures { λ r. ⌜ r ≡ unparsed (now (s .entry)) ⌝ }
+{
+    let mut kept = blank(NwkCommand::Unparsed);
+    let bytes = read_bytes(s);
+    kept.unparsed_len = s.len() as u8;
+    kept.unparsed = bytes;
+    kept
+}

@@ -1,0 +1,301 @@
+-- Each of the fifteen commands: its values have the shape of its format, they mean the command, and the list that they
+-- hold is the command's own. The equations are the codes' laws, one for each coded field.
+-- Assumes nothing.
+use mathlib.Core.Path.{_≡_, refl, sym, ap, _∙_}
+use mathlib.Core.Bool.{Bool, true, false, cond}
+use mathlib.Core.List.{List, [], _∷_, _++_, map}
+use Prim.Native.Nat.{ℕ, zero, suc, _+_, _≤_, _<_}
+use native.Mathlib.Omega.{arith}
+use native.Mathlib.Nat.{not-suc-le-zero}
+use lib.ListN.{length, getD, drop}
+use lib.Dec.{eqb}
+use Rattle.octets.specs.Strings.{tab}
+use Rattle.octets.proofs.Strings.{length-tab, getD-tab}
+use Rattle.commands.specs.Codes.{isSet, bit}
+use Rattle.commands.specs.Format.{Field, Format, Values, partSizes, keptCount, size, width, sizes, widths, plus, summed, values}
+use Rattle.commands.specs.Commands.{routeRequestFormat, routeRequestOf, routeRequestValues, routeReplyFormat, routeReplyOf, routeReplyValues, networkStatusFormat, networkStatusOf, networkStatusValues, leaveFormat, leaveOf, leaveValues, routeRecordFormat, routeRecordOf, routeRecordValues, rejoinRequestFormat, rejoinRequestOf, rejoinRequestValues, rejoinResponseFormat, rejoinResponseOf, rejoinResponseValues, linkStatusFormat, linkStatusOf, linkStatusValues, networkReportFormat, networkReportOf, networkReportValues, networkUpdateFormat, networkUpdateOf, networkUpdateValues, timeoutRequestFormat, timeoutRequestOf, timeoutRequestValues, timeoutResponseFormat, timeoutResponseOf, timeoutResponseValues, linkPowerDeltaFormat, linkPowerDeltaOf, linkPowerDeltaValues, commissioningRequestFormat, commissioningRequestOf, commissioningRequestValues, commissioningResponseFormat, commissioningResponseOf, commissioningResponseValues, routeRequestBy, networkStatusBy, rejoinResponseBy, networkReportBy, networkUpdateBy, timeoutRequestBy, timeoutResponseBy, linkPowerDeltaBy, commissioningRequestBy, commissioningResponseBy, capabilityField, capabilityOf, capabilityValues, has, addressEntry, addressOf, firsts, relayOf, relayEntry, linkOf, linkEntry, noLink, powerOf, powerEntry, noPower}
+use Rattle.commands.specs.Reading.{formatOf, commandOf, frame, listOf, listed, clearedBy}
+use Rattle.commands.specs.Writing.{Wire, wireOf}
+use Rattle.commands.specs.Writing.Wire.{body, raw}
+use Rattle.commands.proofs.Format.{Fit, Shaped}
+use Rattle.commands.proofs.CodeLaws.{manyToOne-back, status-back, associationStatus-back, reportIdentifier-back, updateIdentifier-back, timeout-back, timeoutStatus-back, powerType-back, commissioningType-back, isSet-bit, deviceType-back, powerSource-back}
+use Rattle.commands.specs.declared.MaybeEui64.{MaybeEui64}
+use Rattle.commands.specs.declared.NwkCommandId.{NwkCommandId}
+use Rattle.commands.specs.declared.NwkCommand.{NwkCommand}
+use Rattle.commands.specs.declared.NwkCommandFrame.{NwkCommandFrame}
+use Rattle.commands.specs.declared.NwkCommandList.{NwkCommandList}
+use Rattle.commands.specs.declared.TypedBody.{TypedBody}
+use Rattle.commands.specs.declared.NwkRejoinCapabilityInformation.{NwkRejoinCapabilityInformation}
+use Rattle.commands.specs.declared.NwkRouteRequestCommand.{NwkRouteRequestCommand}
+use Rattle.commands.specs.declared.NwkRouteReplyCommand.{NwkRouteReplyCommand}
+use Rattle.commands.specs.declared.NwkLeaveCommand.{NwkLeaveCommand}
+use Rattle.commands.specs.declared.NwkLinkStatusCommand.{NwkLinkStatusCommand}
+use Rattle.commands.specs.declared.NwkNetworkReportCommand.{NwkNetworkReportCommand}
+use Rattle.commands.specs.declared.NwkLinkPowerDeltaCommand.{NwkLinkPowerDeltaCommand}
+use Rattle.commands.specs.declared.NwkLinkStatus.{NwkLinkStatus}
+use Rattle.commands.specs.declared.NwkPowerListEntry.{NwkPowerListEntry}
+use Rattle.commands.specs.declared.NwkNetworkStatusCommand.{NwkNetworkStatusCommand}
+use Rattle.commands.specs.declared.NwkRejoinRequestCommand.{NwkRejoinRequestCommand}
+use Rattle.commands.specs.declared.NwkRejoinResponseCommand.{NwkRejoinResponseCommand}
+use Rattle.commands.specs.declared.NwkNetworkUpdateCommand.{NwkNetworkUpdateCommand}
+use Rattle.commands.specs.declared.NwkEndDeviceTimeoutRequestCommand.{NwkEndDeviceTimeoutRequestCommand}
+use Rattle.commands.specs.declared.NwkNetworkCommissioningRequestCommand.{NwkNetworkCommissioningRequestCommand}
+use Rattle.commands.specs.declared.NwkNetworkCommissioningResponseCommand.{NwkNetworkCommissioningResponseCommand}
+use Rattle.commands.specs.declared.NwkEndDeviceTimeoutResponseCommand.{NwkEndDeviceTimeoutResponseCommand}
+
+-- ---- lists
+
+pub map-tab : {A B : Type 0} (f : A → B) (g : ℕ → A) (n : ℕ) → map f (tab g n) ≡ tab (λ (k : ℕ). f (g k)) n
+unfolding tab
+map-tab f g zero = refl
+map-tab f g (suc n) = map-append f (tab g n) (g n ∷ []) ∙ ap (λ (l : List _). l ++ (f (g n) ∷ [])) (map-tab f g n)
+  where
+    map-append : {A B : Type 0} (f : A → B) (xs ys : List A) → map f (xs ++ ys) ≡ map f xs ++ map f ys
+    map-append f [] ys = refl
+    map-append f (x ∷ xs) ys = ap (λ (l : List _). f x ∷ l) (map-append f xs ys)
+
+-- no entries
+none-shaped : (fs : List Field) → Shaped fs []
+none-shaped fs k h = absurd (not-suc-le-zero h)
+
+tab-shaped : (fs : List Field) (g : ℕ → List ℕ) (n : ℕ) → ((k : ℕ) → length (g k) ≡ widths fs) → Shaped fs (tab g n)
+tab-shaped fs g n h k l = ap length (getD-tab g n k [] (rw (length-tab g n) at l)) ∙ h k
+
+-- ---- optional IEEE addresses
+
+address-shaped : (fs : List Field) (a : MaybeEui64) → widths fs ≡ 1 → Shaped fs (addressEntry a)
+address-shaped fs MaybeEui64.Absent w k h = absurd (not-suc-le-zero h)
+address-shaped fs (MaybeEui64.Present x) w zero h = sym w
+address-shaped fs (MaybeEui64.Present x) w (suc k) h = absurd (omega arith)
+
+addresses-shaped : (fs : List Field) (a b : MaybeEui64) → widths fs ≡ 1 → Shaped fs (addressEntry a ++ addressEntry b)
+addresses-shaped fs MaybeEui64.Absent b w k h = address-shaped fs b w k h
+addresses-shaped fs (MaybeEui64.Present x) b w zero h = sym w
+addresses-shaped fs (MaybeEui64.Present x) b w (suc k) h = address-shaped fs b w k (omega arith)
+
+address-count : (a : MaybeEui64) → has a ≡ length (addressEntry a)
+address-count MaybeEui64.Absent = refl
+address-count (MaybeEui64.Present x) = refl
+
+addresses-count : (a b : MaybeEui64) → has a + has b ≡ length (addressEntry a ++ addressEntry b)
+addresses-count MaybeEui64.Absent MaybeEui64.Absent = refl
+addresses-count MaybeEui64.Absent (MaybeEui64.Present x) = refl
+addresses-count (MaybeEui64.Present x) MaybeEui64.Absent = refl
+addresses-count (MaybeEui64.Present x) (MaybeEui64.Present y) = refl
+
+first-address : (a : MaybeEui64) (es : List (List ℕ)) → addressOf (has a) (getD (getD (addressEntry a ++ es) 0 []) 0 0) ≡ a
+unfolding addressOf
+first-address MaybeEui64.Absent es = refl
+first-address (MaybeEui64.Present x) es = refl
+
+second-address : (a b : MaybeEui64) → addressOf (has b) (getD (getD (addressEntry a ++ addressEntry b) (has a) []) 0 0) ≡ b
+unfolding addressOf
+second-address MaybeEui64.Absent MaybeEui64.Absent = refl
+second-address MaybeEui64.Absent (MaybeEui64.Present y) = refl
+second-address (MaybeEui64.Present x) MaybeEui64.Absent = refl
+second-address (MaybeEui64.Present x) (MaybeEui64.Present y) = refl
+
+only-address : (a : MaybeEui64) → addressOf (has a) (getD (getD (addressEntry a) 0 []) 0 0) ≡ a
+unfolding addressOf
+only-address MaybeEui64.Absent = refl
+only-address (MaybeEui64.Present x) = refl
+
+-- ---- capability information
+
+capability-back : (c : NwkRejoinCapabilityInformation) → capabilityOf (capabilityValues c) ≡ c
+unfolding capabilityOf capabilityValues
+capability-back c =
+    λ i. record {
+      «alternate_pan_coordinator» = isSet-bit (c .«alternate_pan_coordinator») i;
+      «device_type» = deviceType-back (c .«device_type») i;
+      «power_source» = powerSource-back (c .«power_source») i;
+      «receiver_on_when_idle» = isSet-bit (c .«receiver_on_when_idle») i;
+      reserved1 = isSet-bit (c .reserved1) i;
+      reserved2 = isSet-bit (c .reserved2) i;
+      «security_capability» = isSet-bit (c .«security_capability») i;
+      «allocate_address» = isSet-bit (c .«allocate_address») i;
+    }
+
+-- ---- the fifteen
+
+-- what is written of a command means that command, with its list
+pub record Back (c : NwkCommand) (f : NwkCommandFrame) (id : NwkCommandId) (v : Values) : Type 0 where
+  pub fit : Fit (formatOf id) v
+  pub command : commandOf id v ≡ TypedBody.Typed c
+  pub list : (s : List ℕ) → values (formatOf id) s ≡ v → listed (listOf c) c s ≡ clearedBy (listOf c) c f
+
+abbrev pub WireBack : NwkCommand → NwkCommandFrame → Wire → Type 0
+WireBack c f (body id v) = Back c f id v
+WireBack c f (raw bs) = c ≡ NwkCommand.Unparsed
+
+routeRequest-back : (c : NwkRouteRequestCommand) (f : NwkCommandFrame) → Back (NwkCommand.RouteRequest c) f NwkCommandId.RouteRequest (routeRequestValues c)
+unfolding formatOf commandOf listed clearedBy routeRequestFormat routeRequestOf routeRequestValues routeRequestBy partSizes keptCount size width sizes widths summed plus
+routeRequest-back c f =
+    record {
+      fit = record { head = refl; count = address-count (c .«destination_eui64»); entries = address-shaped (routeRequestFormat .entry) (c .«destination_eui64») refl };
+      command =
+          ap (λ k. routeRequestBy k (routeRequestValues c)) (manyToOne-back (c .«many_to_one»))
+          ∙ (λ i. TypedBody.Typed (NwkCommand.RouteRequest (record { «many_to_one» = c .«many_to_one»; «route_request_identifier» = c .«route_request_identifier»; «destination_address» = c .«destination_address»; «path_cost» = c .«path_cost»; «destination_eui64» = only-address (c .«destination_eui64») i })));
+      list = λ s e. refl;
+    }
+
+routeReply-back : (c : NwkRouteReplyCommand) (f : NwkCommandFrame) → Back (NwkCommand.RouteReply c) f NwkCommandId.RouteReply (routeReplyValues c)
+unfolding formatOf commandOf listed clearedBy routeReplyFormat routeReplyOf routeReplyValues partSizes keptCount size width sizes widths summed plus
+routeReply-back c f =
+    record {
+      fit = record { head = refl; count = addresses-count (c .«originator_eui64») (c .«responder_eui64»); entries = addresses-shaped (routeReplyFormat .entry) (c .«originator_eui64») (c .«responder_eui64») refl };
+      command =
+          (λ i. TypedBody.Typed (NwkCommand.RouteReply (record { «route_request_identifier» = c .«route_request_identifier»; «originator_nwk» = c .«originator_nwk»; «responder_nwk» = c .«responder_nwk»; «path_cost» = c .«path_cost»; «originator_eui64» = first-address (c .«originator_eui64») (addressEntry (c .«responder_eui64»)) i; «responder_eui64» = second-address (c .«originator_eui64») (c .«responder_eui64») i })));
+      list = λ s e. refl;
+    }
+
+networkStatus-back : (c : NwkNetworkStatusCommand) (f : NwkCommandFrame) → Back (NwkCommand.NetworkStatus c) f NwkCommandId.NetworkStatus (networkStatusValues c)
+unfolding formatOf commandOf listed clearedBy networkStatusFormat networkStatusOf networkStatusValues networkStatusBy partSizes keptCount size width sizes widths summed plus
+networkStatus-back c f =
+    record {
+      fit = record { head = refl; count = refl; entries = none-shaped (networkStatusFormat .entry) };
+      command =
+          ap (λ k. networkStatusBy k (networkStatusValues c)) (status-back (c .«status_code»));
+      list = λ s e. refl;
+    }
+
+leave-back : (c : NwkLeaveCommand) (f : NwkCommandFrame) → Back (NwkCommand.Leave c) f NwkCommandId.Leave (leaveValues c)
+unfolding formatOf commandOf listed clearedBy leaveFormat leaveOf leaveValues partSizes keptCount size width sizes widths summed plus
+leave-back c f =
+    record {
+      fit = record { head = refl; count = refl; entries = none-shaped (leaveFormat .entry) };
+      command =
+          λ i. TypedBody.Typed (NwkCommand.Leave (record { rejoin = isSet-bit (c .rejoin) i; request = isSet-bit (c .request) i; «remove_children» = isSet-bit (c .«remove_children») i }));
+      list = λ s e. refl;
+    }
+
+routeRecord-back : (f : NwkCommandFrame) → Back NwkCommand.RouteRecord f NwkCommandId.RouteRecord (routeRecordValues (f .relays) (f .«relay_count»))
+unfolding formatOf commandOf listed clearedBy routeRecordFormat routeRecordOf routeRecordValues relayOf relayEntry firsts partSizes keptCount size width sizes widths summed plus
+routeRecord-back f =
+    record {
+      fit = record { head = refl; count = sym (length-tab (λ (k : ℕ). relayEntry (getD (f .relays) k 0)) (f .«relay_count»)); entries = tab-shaped (routeRecordFormat .entry) (λ (k : ℕ). relayEntry (getD (f .relays) k 0)) (f .«relay_count») (λ k. refl) };
+      command =
+          refl;
+      list = λ s e. ap (λ (x : List ℕ). frame NwkCommand.RouteRecord x [] [] [] []) (ap (λ (v : Values). map relayOf (v .entries)) e ∙ map-tab relayOf (λ (k : ℕ). relayEntry (getD (f .relays) k 0)) (f .«relay_count»));
+    }
+
+rejoinRequest-back : (c : NwkRejoinRequestCommand) (f : NwkCommandFrame) → Back (NwkCommand.RejoinRequest c) f NwkCommandId.RejoinRequest (rejoinRequestValues c)
+unfolding formatOf commandOf listed clearedBy rejoinRequestFormat rejoinRequestOf rejoinRequestValues capabilityField capabilityValues partSizes keptCount size width sizes widths summed plus
+rejoinRequest-back c f =
+    record {
+      fit = record { head = refl; count = refl; entries = none-shaped (rejoinRequestFormat .entry) };
+      command =
+          λ i. TypedBody.Typed (NwkCommand.RejoinRequest (record { «capability_information» = capability-back (c .«capability_information») i }));
+      list = λ s e. refl;
+    }
+
+rejoinResponse-back : (c : NwkRejoinResponseCommand) (f : NwkCommandFrame) → Back (NwkCommand.RejoinResponse c) f NwkCommandId.RejoinResponse (rejoinResponseValues c)
+unfolding formatOf commandOf listed clearedBy rejoinResponseFormat rejoinResponseOf rejoinResponseValues rejoinResponseBy partSizes keptCount size width sizes widths summed plus
+rejoinResponse-back c f =
+    record {
+      fit = record { head = refl; count = refl; entries = none-shaped (rejoinResponseFormat .entry) };
+      command =
+          ap (λ k. rejoinResponseBy k (rejoinResponseValues c)) (associationStatus-back (c .«rejoin_status»));
+      list = λ s e. refl;
+    }
+
+linkStatus-back : (c : NwkLinkStatusCommand) (f : NwkCommandFrame) → Back (NwkCommand.LinkStatus c) f NwkCommandId.LinkStatus (linkStatusValues c (f .«link_statuses») (f .«link_statuses_len»))
+unfolding formatOf commandOf listed clearedBy linkStatusFormat linkStatusOf linkStatusValues linkOf linkEntry firsts partSizes keptCount size width sizes widths summed plus
+linkStatus-back c f =
+    record {
+      fit = record { head = refl; count = sym (length-tab (λ (k : ℕ). linkEntry (getD (f .«link_statuses») k noLink)) (f .«link_statuses_len»)); entries = tab-shaped (linkStatusFormat .entry) (λ (k : ℕ). linkEntry (getD (f .«link_statuses») k noLink)) (f .«link_statuses_len») (λ k. refl) };
+      command =
+          λ i. TypedBody.Typed (NwkCommand.LinkStatus (record { «is_first_frame» = isSet-bit (c .«is_first_frame») i; «is_last_frame» = isSet-bit (c .«is_last_frame») i }));
+      list = λ s e. ap (λ (x : List NwkLinkStatus). frame (NwkCommand.LinkStatus c) [] x [] [] []) (ap (λ (v : Values). map linkOf (v .entries)) e ∙ map-tab linkOf (λ (k : ℕ). linkEntry (getD (f .«link_statuses») k noLink)) (f .«link_statuses_len»));
+    }
+
+networkReport-back : (c : NwkNetworkReportCommand) (f : NwkCommandFrame) → Back (NwkCommand.NetworkReport c) f NwkCommandId.NetworkReport (networkReportValues c (f .«pan_ids») (f .«report_information_count»))
+unfolding formatOf commandOf listed clearedBy networkReportFormat networkReportOf networkReportValues networkReportBy relayOf relayEntry firsts partSizes keptCount size width sizes widths summed plus
+networkReport-back c f =
+    record {
+      fit = record { head = refl; count = sym (length-tab (λ (k : ℕ). relayEntry (getD (f .«pan_ids») k 0)) (f .«report_information_count»)); entries = tab-shaped (networkReportFormat .entry) (λ (k : ℕ). relayEntry (getD (f .«pan_ids») k 0)) (f .«report_information_count») (λ k. refl) };
+      command =
+          ap (λ k. networkReportBy k (networkReportValues c (f .«pan_ids») (f .«report_information_count»))) (reportIdentifier-back (c .«report_command_identifier»));
+      list = λ s e. ap (λ (x : List ℕ). frame (NwkCommand.NetworkReport c) [] [] x [] []) (ap (λ (v : Values). map relayOf (v .entries)) e ∙ map-tab relayOf (λ (k : ℕ). relayEntry (getD (f .«pan_ids») k 0)) (f .«report_information_count»));
+    }
+
+networkUpdate-back : (c : NwkNetworkUpdateCommand) (f : NwkCommandFrame) → Back (NwkCommand.NetworkUpdate c) f NwkCommandId.NetworkUpdate (networkUpdateValues c)
+unfolding formatOf commandOf listed clearedBy networkUpdateFormat networkUpdateOf networkUpdateValues networkUpdateBy partSizes keptCount size width sizes widths summed plus
+networkUpdate-back c f =
+    record {
+      fit = record { head = refl; count = refl; entries = none-shaped (networkUpdateFormat .entry) };
+      command =
+          ap (λ k. networkUpdateBy k (networkUpdateValues c)) (updateIdentifier-back (c .«update_command_identifier»));
+      list = λ s e. refl;
+    }
+
+timeoutRequest-back : (c : NwkEndDeviceTimeoutRequestCommand) (f : NwkCommandFrame) → Back (NwkCommand.EndDeviceTimeoutRequest c) f NwkCommandId.EndDeviceTimeoutRequest (timeoutRequestValues c)
+unfolding formatOf commandOf listed clearedBy timeoutRequestFormat timeoutRequestOf timeoutRequestValues timeoutRequestBy partSizes keptCount size width sizes widths summed plus
+timeoutRequest-back c f =
+    record {
+      fit = record { head = refl; count = refl; entries = none-shaped (timeoutRequestFormat .entry) };
+      command =
+          ap (λ k. timeoutRequestBy k (timeoutRequestValues c)) (timeout-back (c .«request_timeout_enum»));
+      list = λ s e. refl;
+    }
+
+timeoutResponse-back : (c : NwkEndDeviceTimeoutResponseCommand) (f : NwkCommandFrame) → Back (NwkCommand.EndDeviceTimeoutResponse c) f NwkCommandId.EndDeviceTimeoutResponse (timeoutResponseValues c)
+unfolding formatOf commandOf listed clearedBy timeoutResponseFormat timeoutResponseOf timeoutResponseValues timeoutResponseBy partSizes keptCount size width sizes widths summed plus
+timeoutResponse-back c f =
+    record {
+      fit = record { head = refl; count = refl; entries = none-shaped (timeoutResponseFormat .entry) };
+      command =
+          ap (λ k. timeoutResponseBy k (timeoutResponseValues c)) (timeoutStatus-back (c .status))
+          ∙ (λ i. TypedBody.Typed (NwkCommand.EndDeviceTimeoutResponse (record { status = c .status; «mac_data_poll_keepalive_supported» = isSet-bit (c .«mac_data_poll_keepalive_supported») i; «end_device_timeout_request_keepalive_supported» = isSet-bit (c .«end_device_timeout_request_keepalive_supported») i; «power_negotation_support» = isSet-bit (c .«power_negotation_support») i })));
+      list = λ s e. refl;
+    }
+
+linkPowerDelta-back : (c : NwkLinkPowerDeltaCommand) (f : NwkCommandFrame) → Back (NwkCommand.LinkPowerDelta c) f NwkCommandId.LinkPowerDelta (linkPowerDeltaValues c (f .«power_list») (f .«list_count»))
+unfolding formatOf commandOf listed clearedBy linkPowerDeltaFormat linkPowerDeltaOf linkPowerDeltaValues linkPowerDeltaBy powerOf powerEntry firsts partSizes keptCount size width sizes widths summed plus
+linkPowerDelta-back c f =
+    record {
+      fit = record { head = refl; count = sym (length-tab (λ (k : ℕ). powerEntry (getD (f .«power_list») k noPower)) (f .«list_count»)); entries = tab-shaped (linkPowerDeltaFormat .entry) (λ (k : ℕ). powerEntry (getD (f .«power_list») k noPower)) (f .«list_count») (λ k. refl) };
+      command =
+          ap (λ k. linkPowerDeltaBy k (linkPowerDeltaValues c (f .«power_list») (f .«list_count»))) (powerType-back (c .«command_type»));
+      list = λ s e. ap (λ (x : List NwkPowerListEntry). frame (NwkCommand.LinkPowerDelta c) [] [] [] x []) (ap (λ (v : Values). map powerOf (v .entries)) e ∙ map-tab powerOf (λ (k : ℕ). powerEntry (getD (f .«power_list») k noPower)) (f .«list_count»));
+    }
+
+commissioningRequest-back : (c : NwkNetworkCommissioningRequestCommand) (f : NwkCommandFrame) → Back (NwkCommand.NetworkCommissioningRequest c) f NwkCommandId.NetworkCommissioningRequest (commissioningRequestValues c)
+unfolding formatOf commandOf listed clearedBy commissioningRequestFormat commissioningRequestOf commissioningRequestValues commissioningRequestBy capabilityField capabilityValues partSizes keptCount size width sizes widths summed plus
+commissioningRequest-back c f =
+    record {
+      fit = record { head = refl; count = refl; entries = none-shaped (commissioningRequestFormat .entry) };
+      command =
+          ap (λ k. commissioningRequestBy k (commissioningRequestValues c)) (commissioningType-back (c .«commissioning_type»))
+          ∙ (λ i. TypedBody.Typed (NwkCommand.NetworkCommissioningRequest (record { «commissioning_type» = c .«commissioning_type»; «capability_information» = capability-back (c .«capability_information») i })));
+      list = λ s e. refl;
+    }
+
+commissioningResponse-back : (c : NwkNetworkCommissioningResponseCommand) (f : NwkCommandFrame) → Back (NwkCommand.NetworkCommissioningResponse c) f NwkCommandId.NetworkCommissioningResponse (commissioningResponseValues c)
+unfolding formatOf commandOf listed clearedBy commissioningResponseFormat commissioningResponseOf commissioningResponseValues commissioningResponseBy partSizes keptCount size width sizes widths summed plus
+commissioningResponse-back c f =
+    record {
+      fit = record { head = refl; count = refl; entries = none-shaped (commissioningResponseFormat .entry) };
+      command =
+          ap (λ k. commissioningResponseBy k (commissioningResponseValues c)) (associationStatus-back (c .status));
+      list = λ s e. refl;
+    }
+
+pub back : (c : NwkCommand) (f : NwkCommandFrame) → WireBack c f (wireOf c f)
+unfolding wireOf
+back (NwkCommand.RouteRequest c) f = routeRequest-back c f
+back (NwkCommand.RouteReply c) f = routeReply-back c f
+back (NwkCommand.NetworkStatus c) f = networkStatus-back c f
+back (NwkCommand.Leave c) f = leave-back c f
+back NwkCommand.RouteRecord f = routeRecord-back f
+back (NwkCommand.RejoinRequest c) f = rejoinRequest-back c f
+back (NwkCommand.RejoinResponse c) f = rejoinResponse-back c f
+back (NwkCommand.LinkStatus c) f = linkStatus-back c f
+back (NwkCommand.NetworkReport c) f = networkReport-back c f
+back (NwkCommand.NetworkUpdate c) f = networkUpdate-back c f
+back (NwkCommand.EndDeviceTimeoutRequest c) f = timeoutRequest-back c f
+back (NwkCommand.EndDeviceTimeoutResponse c) f = timeoutResponse-back c f
+back (NwkCommand.LinkPowerDelta c) f = linkPowerDelta-back c f
+back (NwkCommand.NetworkCommissioningRequest c) f = commissioningRequest-back c f
+back (NwkCommand.NetworkCommissioningResponse c) f = commissioningResponse-back c f
+back NwkCommand.Unparsed f = refl

@@ -1,0 +1,85 @@
+-- A value of a Rattle type is within its type's range: what owning a command tells of its numbers and of its lists.
+-- Assumes nothing.
+use mathlib.Core.Path.{_≡_}
+use mathlib.Core.List.{List, [], _∷_, map}
+use Prim.Native.Nat.{ℕ, zero, suc, _<_, _^_}
+use native.Mathlib.Omega.{arith}
+use lib.ListN.{getD}
+use borrow.Author.Needs.{needs}
+use mir.Syntax.{w16}
+use mir.Val.{Val, Fits}
+use denote.Shadow.{shadow}
+use denote.Array.{each}
+use Rattle.commands.specs.Commands.{noPower}
+use Rattle.commands.specs.Reading.{listOf}
+use Rattle.commands.specs.Writing.{wire, misfits}
+use Rattle.commands.proofs.Ranges.{InAddress, Ranged, RangedList, tooBig, misfits-is}
+use Rattle.commands.proofs.MaybeEui64 as maybe-eui64
+use Rattle.commands.proofs.NwkCommand as nwk-command
+use Rattle.commands.proofs.NwkCommandFrame as nwk-command-frame
+use Rattle.commands.proofs.NwkPowerListEntry as nwk-power-list-entry
+use Rattle.commands.specs.declared.MaybeEui64.{MaybeEui64}
+use Rattle.commands.specs.declared.NwkCommand.{NwkCommand}
+use Rattle.commands.specs.declared.NwkCommandFrame.{NwkCommandFrame}
+use Rattle.commands.specs.declared.NwkCommandList.{NwkCommandList}
+use Rattle.commands.specs.declared.NwkPowerListEntry.{NwkPowerListEntry}
+
+address-in : (a : MaybeEui64) (vs : List Val) → shadow (maybe-eui64.the-row .own a vs) → InAddress a
+address-in MaybeEui64.Absent vs s = tt
+address-in (MaybeEui64.Present x) vs s = omega arith
+
+command-in : (c : NwkCommand) (vs : List Val) → shadow (nwk-command.the-row .own c vs) → Ranged c
+command-in (NwkCommand.RouteRequest c) vs s = (omega arith, omega arith, omega arith, search address-in)
+command-in (NwkCommand.RouteReply c) vs s = (omega arith, omega arith, omega arith, omega arith, search address-in, search address-in)
+command-in (NwkCommand.NetworkStatus c) vs s = omega arith
+command-in (NwkCommand.Leave c) vs s = tt
+command-in NwkCommand.RouteRecord vs s = tt
+command-in (NwkCommand.RejoinRequest c) vs s = tt
+command-in (NwkCommand.RejoinResponse c) vs s = omega arith
+command-in (NwkCommand.LinkStatus c) vs s = tt
+command-in (NwkCommand.NetworkReport c) vs s = omega arith
+command-in (NwkCommand.NetworkUpdate c) vs s = (omega arith, omega arith, omega arith)
+command-in (NwkCommand.EndDeviceTimeoutRequest c) vs s = omega arith
+command-in (NwkCommand.EndDeviceTimeoutResponse c) vs s = tt
+command-in (NwkCommand.LinkPowerDelta c) vs s = tt
+command-in (NwkCommand.NetworkCommissioningRequest c) vs s = tt
+command-in (NwkCommand.NetworkCommissioningResponse c) vs s = omega arith
+command-in NwkCommand.Unparsed vs s = tt
+
+-- each entry of the power list, noPower past the end
+powers-in : (xs : List NwkPowerListEntry) (us : List Val)
+    → shadow (each (nwk-power-list-entry.the-field .row .Denot) (nwk-power-list-entry.the-field .row .own) (map (nwk-power-list-entry.the-field .into) xs) us)
+    → (k : ℕ) → (getD xs k noPower .«device_address» < 65536) × (getD xs k noPower .«power_delta» < 256)
+powers-in [] us s k = omega arith
+powers-in (x ∷ xs) [] s k = absurd s
+powers-in (x ∷ xs) (u ∷ us) s zero = omega arith
+powers-in (x ∷ xs) (u ∷ us) s (suc k) = powers-in xs us (s .1) k
+
+-- a command's numbers and lists are within their types
+pub record InRange (f : NwkCommandFrame) : Type 0 where
+  pub command : Ranged (f .command)
+  pub relays : (k : ℕ) → getD (f .relays) k 0 < 65536
+  pub panIds : (k : ℕ) → getD (f .«pan_ids») k 0 < 65536
+  pub powers : (k : ℕ) → (getD (f .«power_list») k noPower .«device_address» < 65536) × (getD (f .«power_list») k noPower .«power_delta» < 256)
+
+pub in-range : (f : NwkCommandFrame) (vs : List Val) → shadow (nwk-command-frame.the-row .own f vs) → InRange f
+in-range f vs s =
+    record {
+      command = search command-in;
+      relays = λ k. let h : Fits w16 (getD (f .relays) k 0) = search needs in h .fits;
+      panIds = λ k. let h : Fits w16 (getD (f .«pan_ids») k 0) = search needs in h .fits;
+      powers = powers-in (f .«power_list») _ (s .1 .1 .1 .1 .1 .1 .1 .1 .1 .1 .0 .1 .1);
+    }
+
+listed-in : (k : NwkCommandList) (f : NwkCommandFrame) → InRange f → RangedList k f
+listed-in NwkCommandList.NoList f r = tt
+listed-in NwkCommandList.Relays f r = λ k l. r .relays k
+listed-in NwkCommandList.LinkStatuses f r = tt
+listed-in NwkCommandList.PanIds f r = λ k l. r .panIds k
+listed-in NwkCommandList.PowerList f r = λ k l. r .powers k
+listed-in NwkCommandList.Bytes f r = tt
+
+-- of a value of the type, a field misfits exactly if one of the tests says so
+pub misfits-test : (f : NwkCommandFrame) → InRange f → misfits (listOf (f .command)) (wire f) ≡ tooBig (listOf (f .command)) (f .command) f
+unfolding wire
+misfits-test f r = misfits-is (f .command) f (r .command) (listed-in (listOf (f .command)) f r)

@@ -1,0 +1,81 @@
+-- How long a command is: a typed one that fits its fields never passes 108 bytes, so number 17 is met by unparsed bytes
+-- alone. Each length is the format's by computation.
+-- Assumes nothing.
+use mathlib.Core.Path.{_≡_, refl, sym, ap, _∙_}
+use mathlib.Core.Bool.{Bool, true, false, not, _||_, true≢false}
+use mathlib.Core.List.{List, [], _∷_, _++_}
+use Prim.Native.Nat.{ℕ, zero, suc, _+_, _*_, _≤_, _<_}
+use native.Mathlib.Nat.{one-mul}
+use native.Mathlib.Omega.{arith}
+use borrow.Author.Tests.{ltb-false, not-false}
+use lib.Dec.{ltb}
+use lib.ListN.{length, getD, length-append}
+use Rattle.octets.specs.Strings.{tab}
+use Rattle.octets.proofs.Strings.{length-tab}
+use Rattle.commands.specs.Format.{Format, Values, size, sizes, heldValues, bodyBytes}
+use Rattle.commands.specs.Commands.{routeRequestFormat, routeRequestValues, routeReplyFormat, routeReplyValues, networkStatusFormat, networkStatusValues, leaveFormat, leaveValues, routeRecordFormat, routeRecordValues, rejoinRequestFormat, rejoinRequestValues, rejoinResponseFormat, rejoinResponseValues, linkStatusFormat, linkStatusValues, networkReportFormat, networkReportValues, networkUpdateFormat, networkUpdateValues, timeoutRequestFormat, timeoutRequestValues, timeoutResponseFormat, timeoutResponseValues, linkPowerDeltaFormat, linkPowerDeltaValues, commissioningRequestFormat, commissioningRequestValues, commissioningResponseFormat, commissioningResponseValues, capabilityField, addressEntry, relayEntry, linkEntry, noLink, powerEntry, noPower}
+use Rattle.commands.specs.Reading.{formatOf, listOf, maxNsduSize}
+use Rattle.commands.specs.Writing.{Wire, wireOf, wireBytes, overPlaces, misfits}
+use Rattle.commands.specs.Writing.Wire.{body, raw}
+use Rattle.commands.proofs.Format.{length-bodyBytes}
+use Rattle.commands.specs.declared.MaybeEui64.{MaybeEui64}
+use Rattle.commands.specs.declared.NwkCommandId.{NwkCommandId}
+use Rattle.commands.specs.declared.NwkCommand.{NwkCommand}
+use Rattle.commands.specs.declared.NwkCommandFrame.{NwkCommandFrame}
+use Rattle.commands.specs.declared.NwkCommandList.{NwkCommandList}
+
+-- the length of a body behind its identifier
+abbrev pub wireLength : NwkCommandId → Values → ℕ
+wireLength id v = 1 + (sizes (formatOf id .head) + length (v .entries) * sizes (formatOf id .entry))
+
+pub length-wire : (id : NwkCommandId) (v : Values) → length (wireBytes (body id v)) ≡ wireLength id v
+unfolding wireBytes
+length-wire id v = rw (length-bodyBytes (formatOf id) v) (sym (native.Mathlib.Numerals.one-add _))
+
+address-few : (a : MaybeEui64) → length (addressEntry a) ≤ 1
+address-few MaybeEui64.Absent = omega arith
+address-few (MaybeEui64.Present x) = omega arith
+
+addresses-few : (a b : MaybeEui64) → length (addressEntry a ++ addressEntry b) ≤ 2
+addresses-few a b = rw (length-append (addressEntry a) (addressEntry b)) (let p = address-few a in let q = address-few b in omega arith)
+
+-- a list with its places not exceeded
+or-left : (a b : Bool) → (a || b) ≡ false → a ≡ false
+or-left true b e = e
+or-left false b e = refl
+
+pub or-right : (a b : Bool) → (a || b) ≡ false → b ≡ false
+or-right true b e = absurd (true≢false e)
+or-right false b e = e
+
+within : (m n : ℕ) (b : Bool) → (ltb m n || b) ≡ false → n ≤ m
+within m n b e = ltb-false m n (or-left (ltb m n) b e)
+
+-- typed commands
+abbrev pub Typed : NwkCommandList → Type 0
+Typed NwkCommandList.NoList = Unit {0}
+Typed NwkCommandList.Relays = Unit {0}
+Typed NwkCommandList.LinkStatuses = Unit {0}
+Typed NwkCommandList.PanIds = Unit {0}
+Typed NwkCommandList.PowerList = Unit {0}
+Typed NwkCommandList.Bytes = ⊥
+
+pub typed-short : (c : NwkCommand) (f : NwkCommandFrame) → Typed (listOf c) → misfits (listOf c) (wireOf c f) ≡ false
+    → length (wireBytes (wireOf c f)) ≤ 108
+unfolding wireOf misfits overPlaces formatOf size sizes routeRequestFormat routeRequestValues routeReplyFormat routeReplyValues networkStatusFormat networkStatusValues leaveFormat leaveValues routeRecordFormat routeRecordValues rejoinRequestFormat rejoinRequestValues rejoinResponseFormat rejoinResponseValues linkStatusFormat linkStatusValues networkReportFormat networkReportValues networkUpdateFormat networkUpdateValues timeoutRequestFormat timeoutRequestValues timeoutResponseFormat timeoutResponseValues linkPowerDeltaFormat linkPowerDeltaValues commissioningRequestFormat commissioningRequestValues commissioningResponseFormat commissioningResponseValues capabilityField
+typed-short (NwkCommand.RouteRequest c) f t e = rw (length-wire NwkCommandId.RouteRequest _) (let p = address-few (c .«destination_eui64») in omega arith)
+typed-short (NwkCommand.RouteReply c) f t e = rw (length-wire NwkCommandId.RouteReply _) (let p = addresses-few (c .«originator_eui64») (c .«responder_eui64») in omega arith)
+typed-short (NwkCommand.NetworkStatus c) f t e = rw (length-wire NwkCommandId.NetworkStatus _) (omega arith)
+typed-short (NwkCommand.Leave c) f t e = rw (length-wire NwkCommandId.Leave _) (omega arith)
+typed-short NwkCommand.RouteRecord f t e = rw (length-wire NwkCommandId.RouteRecord _) (let p = within 53 (length (tab (λ (k : ℕ). relayEntry (getD (f .relays) k 0)) (f .«relay_count»))) _ e in omega arith)
+typed-short (NwkCommand.RejoinRequest c) f t e = rw (length-wire NwkCommandId.RejoinRequest _) (omega arith)
+typed-short (NwkCommand.RejoinResponse c) f t e = rw (length-wire NwkCommandId.RejoinResponse _) (omega arith)
+typed-short (NwkCommand.LinkStatus c) f t e = rw (length-wire NwkCommandId.LinkStatus _) (let p = within 31 (length (tab (λ (k : ℕ). linkEntry (getD (f .«link_statuses») k noLink)) (f .«link_statuses_len»))) _ e in omega arith)
+typed-short (NwkCommand.NetworkReport c) f t e = rw (length-wire NwkCommandId.NetworkReport _) (let p = within 31 (length (tab (λ (k : ℕ). relayEntry (getD (f .«pan_ids») k 0)) (f .«report_information_count»))) _ e in omega arith)
+typed-short (NwkCommand.NetworkUpdate c) f t e = rw (length-wire NwkCommandId.NetworkUpdate _) (omega arith)
+typed-short (NwkCommand.EndDeviceTimeoutRequest c) f t e = rw (length-wire NwkCommandId.EndDeviceTimeoutRequest _) (omega arith)
+typed-short (NwkCommand.EndDeviceTimeoutResponse c) f t e = rw (length-wire NwkCommandId.EndDeviceTimeoutResponse _) (omega arith)
+typed-short (NwkCommand.LinkPowerDelta c) f t e = rw (length-wire NwkCommandId.LinkPowerDelta _) (let p = within 35 (length (tab (λ (k : ℕ). powerEntry (getD (f .«power_list») k noPower)) (f .«list_count»))) _ e in omega arith)
+typed-short (NwkCommand.NetworkCommissioningRequest c) f t e = rw (length-wire NwkCommandId.NetworkCommissioningRequest _) (omega arith)
+typed-short (NwkCommand.NetworkCommissioningResponse c) f t e = rw (length-wire NwkCommandId.NetworkCommissioningResponse _) (omega arith)
+typed-short NwkCommand.Unparsed f t e = absurd t

@@ -1,0 +1,10 @@
+-- The laws of the fifteen NWK commands.
+pub mod Format
+pub mod CodeLaws
+pub mod Commands
+pub mod Ranges
+pub mod Lengths
+pub mod InRange
+pub mod Reread
+pub mod RoundTrip
+pub mod Cases
