@@ -23,6 +23,13 @@ micLength = 4
 abbrev pub blankMic : List ℕ
 blankMic = 0 ∷ 0 ∷ 0 ∷ 0 ∷ []
 
+-- the two processes under the key: what the crates above cite
+abbrev pub sealedBy : ℕ → List ℕ → List ℕ → List ℕ → List ℕ → Generated
+sealedBy t key nonce a p = generationEncryption t (aes128 key) nonce a p
+
+abbrev pub openedBy : ℕ → List ℕ → List ℕ → List ℕ → List ℕ → List ℕ → Verified
+openedBy t key nonce a c mic = decryptionVerification t (aes128 key) nonce a c mic
+
 -- ---- encrypt_ccm
 
 -- 1 for the authenticated data, a bytes, and for the payload, p bytes; 18 for the output's room

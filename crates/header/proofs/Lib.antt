@@ -6,3 +6,4 @@ pub mod ReadBack
 pub mod WriteBack
 pub mod AuxiliaryLaws
 pub mod Answers
+pub mod ReadFacts

@@ -179,7 +179,7 @@ fn relay_at(f: &[u8], first: usize, i: usize, n: usize) -> u16
 
 impl NwkHeader {
     // The header of zeros that stands beside a refusal.
-    fn blank() -> NwkHeader
+    pub fn blank() -> NwkHeader
         ensures { λ r. ⌜ r ≡ blankHeader ⌝ }
     {
         NwkHeader {

@@ -1,108 +1,98 @@
 // Replays data/types_rs.txt, what the Rust's types.rs answers, on the port, and says how many cases agree.
 
-ghost use Prim.Native.Nat.{_≤_};
-ghost use lib.ListN.{length};
+ghost use mathlib.Core.Path.{_≡_};
+ghost use Prim.Native.Nat.{_+_, _≤_, _<_};
 
 mod replay;
-mod text;
 
-use libc::STDOUT_FILENO;
+use casefile::fields::field;
+use casefile::file;
+use casefile::report;
 use replay::Answer;
-use text::Bytes;
 
-// How many cases agree and how many differ, and the line that is next.
+// How many cases agree, of how many, and how many lines were passed.
 struct Count {
     agree: u64,
-    differ: u64,
+    tried: u64,
     line: u64,
 }
 
-// Whether two byte strings are the same, in length and in every byte.
-fn same(a: Bytes, b: Bytes) -> bool {
-    if a.n != b.n {
-        return false;
-    }
-    let x = a.bytes;
-    let y = b.bytes;
-    let mut i = 0;
-    while i < 32 {
-        if i < a.n {
-            if x[i] != y[i] {
-                return false;
-            }
-        }
-        i += 1;
-    }
-    true
-}
-
 // Whether the answer is the case's: its bytes, and what remains unless it is refused.
-fn agrees(a: Answer, bytes: Bytes, rest: Bytes) -> bool {
-    let r = rest.bytes;
-    if a.bytes.n == 0 {
-        return bytes.n == 0 && rest.n == 0;
+fn agrees(a: Answer, bytes: &[u8], rest: &[u8]) -> bool {
+    if a.n == 0 {
+        return bytes.len() == 0 && rest.len() == 0;
     }
-    if rest.n != 1 {
+    if rest.len() != 1 {
         return false;
     }
-    if a.rest != octets::wide(r[0]) as usize {
+    if a.rest != octets::wide(rest[0]) as usize {
         return false;
     }
-    same(a.bytes, bytes)
+    let places = replay::places(a);
+    let n = file::within(a.n, &places);
+    check::same(&places[..n], bytes)
 }
 
 // Whether one line of the list agrees with the port.
 fn case(line: &[u8]) -> bool {
-    let input = text::word(line, 1);
-    let bytes = text::places(input);
-    let n = input.n;
-    let a = replay::replay(octets::byte_at(line, 0), &bytes[..n]);
-    agrees(a, text::word(line, 2), text::word(line, 3))
+    let mut input = [0u8; 32];
+    let mut bytes = [0u8; 16];
+    let mut rest = [0u8; 1];
+    let i = field(line, 1, &mut input);
+    let b = field(line, 2, &mut bytes);
+    let r = field(line, 3, &mut rest);
+    let good = i.good && b.good && r.good;
+    if !good {
+        return false;
+    }
+    let m = i.n;
+    let n = b.n;
+    let k = r.n;
+    let a = replay::replay(octets::byte_at(line, 0), &input[..m]);
+    agrees(a, &bytes[..n], &rest[..k])
 }
 
 // Counts one line, a case unless it is empty or a comment, and names it where it differs.
-fn one_line(line: &[u8], c: Count) -> Count {
-    let n = if c.line < 1_000_000 { c.line + 1 } else { 0 };
-    if line.len() == 0 || octets::byte_at(line, 0) == b'#' {
+fn one_line(line: &[u8], c: Count) -> Count
+    requires { ⌜ (c .agree ≤ c .line) × (c .tried ≤ c .line) × (c .line < 65536) ⌝ }
+    ensures { λ r. ⌜ (r .agree ≤ r .line) × (r .tried ≤ r .line) × (r .line ≡ c .line + 1) ⌝ }
+{
+    let n = c.line + 1;
+    if octets::byte_at(line, 0) == b'#' {
         return Count {
             agree: c.agree,
-            differ: c.differ,
+            tried: c.tried,
             line: n,
         };
     }
     if case(line) {
-        let more = if c.agree < 1_000_000 { c.agree + 1 } else { 0 };
         return Count {
-            agree: more,
-            differ: c.differ,
+            agree: c.agree + 1,
+            tried: c.tried + 1,
             line: n,
         };
     }
-    io::write_all(STDOUT_FILENO, b"differs: line ");
-    io::print_decimal(STDOUT_FILENO, n);
-    io::write_all(STDOUT_FILENO, b"\n");
-    let more = if c.differ < 1_000_000 {
-        c.differ + 1
-    } else {
-        0
-    };
+    report::of_case(b"types_rs.txt", n);
     Count {
         agree: c.agree,
-        differ: more,
+        tried: c.tried + 1,
         line: n,
     }
 }
 
-// Counts every line of the list.
+// Counts every line of the list, as far as it is read.
 fn every_line(s: &[u8]) -> Count {
     let mut c = Count {
         agree: 0,
-        differ: 0,
+        tried: 0,
         line: 0,
     };
     let mut at = 0;
     while at < s.len() {
-        let e = text::find(s, at, b'\n');
+        if c.line == 65536 {
+            return c;
+        }
+        let e = file::next(s, at, b'\n');
         c = one_line(&s[at..e], c);
         at = e + 1;
     }
@@ -110,18 +100,12 @@ fn every_line(s: &[u8]) -> Count {
 }
 
 fn main() {
-    let path = b"types_rs.txt";
-    let fd = os::open_read(path);
-    if fd < 0 {
-        os::fail(path);
+    let name = b"types_rs.txt";
+    let mut bytes = io::large_buffer();
+    let n = file::load(name, &mut bytes);
+    if n == 0 {
         return;
     }
-    let mut buf = io::large_buffer();
-    let n = io::read_full(fd, &mut buf);
-    libc::close(fd);
-    let c = every_line(&buf[..n]);
-    io::print_decimal(STDOUT_FILENO, c.agree);
-    io::write_all(STDOUT_FILENO, b" cases agree, ");
-    io::print_decimal(STDOUT_FILENO, c.differ);
-    io::write_all(STDOUT_FILENO, b" differ\n");
+    let c = every_line(&bytes[..n]);
+    report::total(name, c.agree, c.tried, b"cases");
 }

@@ -2,29 +2,31 @@
 
 ghost use Prim.Native.Nat.{_+_, _≤_};
 ghost use lib.ListN.{length};
-use crate::text::Bytes;
 use types::Eui64;
 use types::Key;
 use types::Nwk;
 use types::PanId;
 
-// An answer: its bytes, and how many bytes of the input remain. No bytes where the port refuses.
+// An answer: up to 16 bytes, and how many bytes of the input remain. No bytes where the port refuses.
 pub struct Answer {
-    pub bytes: Bytes,
+    pub bytes: [u8; 16],
+    pub n: usize,
     pub rest: usize,
 }
 
 // An answer of these bytes.
 fn made_of(s: &[u8], rest: usize) -> Answer
-    requires { ⌜ length (now s) ≤ 32 ⌝ }
+    requires { ⌜ length (now s) ≤ 16 ⌝ }
 {
-    let mut bytes = [0u8; 32];
+    let mut bytes = [0u8; 16];
     octets::copy_at(&mut bytes, 0, s);
     let n = s.len();
-    Answer {
-        bytes: Bytes { bytes, n },
-        rest,
-    }
+    Answer { bytes, n, rest }
+}
+
+// The places of an answer.
+pub fn places(a: Answer) -> [u8; 16] {
+    a.bytes
 }
 
 // A 16-bit number as its two digits, most significant first.

@@ -8,9 +8,6 @@ use Rattle.ccm.proofs.Answers.{within}
 use Rattle.ccm.proofs.Runs.{decrypt-refused}
 use Rattle.ccm.proofs.Returns.{decrypt-done, decrypt-not}
 
-refusal-requires : tie.Need-refusal-requires
-refusal-requires c κs = search needs
-
 returns : tie.Need-returns
 returns c =
     let a = c .before .before .before .before .before .args in
@@ -24,9 +21,6 @@ open-requires c κs =
     let r = c .before .before .refusal in
     within (length (a .auth .now)) (length (a .ciphertext .now)) (length (a .out .now)) (sym (r .ensures) ∙ c .before .if1 .left)
 
-same-length : tie.Need-same-length
-same-length c = search needs
-
 returns-2 : tie.Need-returns-2
 returns-2 c =
     let a = c .before .before .before .before .before .before .before .before .before .before .args in
@@ -34,9 +28,6 @@ returns-2 c =
     let s = c .before .before .before .«open» in
     decrypt-done (a .key) (a .nonce) (a .auth .now) (a .ciphertext .now) (a .mic) (a .out .now) _ (s .result)
     (sym (r .ensures) ∙ c .before .before .before .before .before .if1 .left) (s .ensures .0) (s .ensures .1) (c .if2 .taken)
-
-same-length-2 : tie.Need-same-length-2
-same-length-2 c = search needs
 
 returns-3 : tie.Need-returns-3
 returns-3 c =
@@ -49,4 +40,4 @@ returns-3 c =
 pub decrypt-ccm-spec : {M : Type 1} → statement M
 decrypt-ccm-spec =
     tie.close
-    (tie.spec refusal-requires returns open-requires same-length returns-2 same-length-2 returns-3)
+    (tie.spec (λ c κs. search needs) returns open-requires (λ c. search needs) returns-2 (λ c. search needs) returns-3)

@@ -8,9 +8,6 @@ use Rattle.ccm.proofs.Answers.{within}
 use Rattle.ccm.proofs.Runs.{encrypt-refused}
 use Rattle.ccm.proofs.Returns.{encrypt-done}
 
-refusal-requires : tie.Need-refusal-requires
-refusal-requires c κs = search needs
-
 returns : tie.Need-returns
 returns c =
     let a = c .before .before .before .before .before .args in
@@ -24,9 +21,6 @@ seal-requires c κs =
     let r = c .before .before .refusal in
     within (length (a .auth .now)) (length (a .payload .now)) (length (a .out .now)) (sym (r .ensures) ∙ c .before .if1 .left)
 
-same-length : tie.Need-same-length
-same-length c = search needs
-
 returns-2 : tie.Need-returns-2
 returns-2 c =
     let a = c .before .before .before .before .before .before .before .before .before .args in
@@ -37,4 +31,4 @@ returns-2 c =
 
 pub encrypt-ccm-spec : {M : Type 1} → statement M
 encrypt-ccm-spec =
-    tie.close (tie.spec refusal-requires returns seal-requires same-length returns-2)
+    tie.close (tie.spec (λ c κs. search needs) returns seal-requires (λ c. search needs) returns-2)

@@ -8,12 +8,6 @@ use Rattle.ccm.proofs.open.Statement.{statement}
 use Rattle.ccm.proofs.open.Tie as tie
 use Rattle.ccm.proofs.Answers.{valid-given, payload-given, nothing-given}
 
-key-expansion-requires : tie.Need-key-expansion-requires
-key-expansion-requires c κs = search needs
-
-counter-mode-requires : tie.Need-counter-mode-requires
-counter-mode-requires c κs = search needs
-
 array-share-prefix-payload : tie.Need-array-share-prefix-payload
 array-share-prefix-payload c =
     let l : length (c .before .counter-mode .result) ≡ 128 = search needs in
@@ -37,9 +31,6 @@ copy-at-requires : tie.Need-copy-at-requires
 copy-at-requires c κs =
     rw (length-take-le _ _ (array-share-prefix-payload (c .before .before .before .before .before)))
     (omega (arith, c .before .before .before .before .before .before .before .before .before .before .before .before .pre))
-
-same-length : tie.Need-same-length
-same-length c = search needs
 
 returns : tie.Need-returns
 returns c =
@@ -68,14 +59,14 @@ pub open-spec : {M : Type 1} → statement M
 open-spec =
     tie.close
     (tie.spec
-    key-expansion-requires
-    counter-mode-requires
+    (λ c κs. search needs)
+    (λ c κs. search needs)
     array-share-prefix-payload
     slice-aggregate-tag-valid
     tag-valid-requires
     array-share-prefix-payload-2
     slice-aggregate-copy-at
     copy-at-requires
-    same-length
+    (λ c. search needs)
     returns
     returns-2)

@@ -8,12 +8,6 @@ use Rattle.ccm.proofs.seal.Statement.{statement}
 use Rattle.ccm.proofs.seal.Tie as tie
 use Rattle.ccm.proofs.Answers.{tag-given, ciphertext-given}
 
-key-expansion-requires : tie.Need-key-expansion-requires
-key-expansion-requires c κs = search needs
-
-counter-mode-requires : tie.Need-counter-mode-requires
-counter-mode-requires c κs = search needs
-
 array-share-prefix-ciphertext : tie.Need-array-share-prefix-ciphertext
 array-share-prefix-ciphertext c =
     let l : length (c .before .counter-mode .result) ≡ 128 = search needs in
@@ -30,9 +24,6 @@ encrypted-tag-requires : tie.Need-encrypted-tag-requires
 encrypted-tag-requires c κs =
     omega (arith, c .before .before .before .before .before .before .before .before .before .before .before .before .pre)
 
-same-length : tie.Need-same-length
-same-length c = search needs
-
 returns : tie.Need-returns
 returns c =
     let s = c .before .before .before .before .before .before .before .before .before .before .before .before .before in
@@ -47,11 +38,11 @@ pub seal-spec : {M : Type 1} → statement M
 seal-spec =
     tie.close
     (tie.spec
-    key-expansion-requires
-    counter-mode-requires
+    (λ c κs. search needs)
+    (λ c κs. search needs)
     array-share-prefix-ciphertext
     slice-aggregate-copy-at
     copy-at-requires
     encrypted-tag-requires
-    same-length
+    (λ c. search needs)
     returns)

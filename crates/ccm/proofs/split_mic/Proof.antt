@@ -12,30 +12,6 @@ returns : tie.Need-returns
 unfolding splitMic
 returns c = rw (lt-ltb _ _ (c .if1 .taken)) refl
 
-sub-n : tie.Need-sub-n
-sub-n c = search needs
-
-shared-slice-read-t7 : tie.Need-shared-slice-read-t7
-shared-slice-read-t7 c = search needs
-
-add-t3 : tie.Need-add-t3
-add-t3 c = search needs
-
-shared-slice-read-t9 : tie.Need-shared-slice-read-t9
-shared-slice-read-t9 c = search needs
-
-add-t10 : tie.Need-add-t10
-add-t10 c = search needs
-
-shared-slice-read-t12 : tie.Need-shared-slice-read-t12
-shared-slice-read-t12 c = search needs
-
-add-t13 : tie.Need-add-t13
-add-t13 c = search needs
-
-shared-slice-read-t15 : tie.Need-shared-slice-read-t15
-shared-slice-read-t15 c = search needs
-
 returns-2 : tie.Need-returns-2
 unfolding splitMic tab
 returns-2 c =
@@ -47,12 +23,12 @@ split-mic-spec =
     tie.close
     (tie.spec
     returns
-    sub-n
-    shared-slice-read-t7
-    add-t3
-    shared-slice-read-t9
-    add-t10
-    shared-slice-read-t12
-    add-t13
-    shared-slice-read-t15
+    (λ c. search needs)
+    (λ c. search needs)
+    (λ c. search needs)
+    (λ c. search needs)
+    (λ c. search needs)
+    (λ c. search needs)
+    (λ c. search needs)
+    (λ c. search needs)
     returns-2)

@@ -4,12 +4,9 @@ use Rattle.ccm.proofs.counter.counter_block.Statement.{statement}
 use Rattle.ccm.proofs.counter.counter_block.Tie as tie
 use Rattle.ccm.specs.Counters.{counterBlock}
 
-with-nonce-requires : tie.Need-with-nonce-requires
-with-nonce-requires c κs = search needs
-
 returns : tie.Need-returns
 unfolding counterBlock
 returns c = c .with-nonce .ensures
 
 pub counter-block-spec : {M : Type 1} → statement M
-counter-block-spec = tie.close (tie.spec with-nonce-requires returns)
+counter-block-spec = tie.close (tie.spec (λ c κs. search needs) returns)

@@ -21,9 +21,6 @@ Inv-loop keys d s x₀ i₀ x i = (i ≤ length d) × (x ≡ tab (λ (k : ℕ). 
 abbrev μ-loop : tie.MeasureT-loop
 μ-loop keys d s x₀ i₀ x i = length d - i
 
-blocks-of-requires : tie.Need-blocks-of-requires Inv-loop μ-loop
-blocks-of-requires c κs = search needs
-
 key-stream-requires : tie.Need-key-stream-requires Inv-loop μ-loop
 unfolding blocksOf
 key-stream-requires c κs = rw (c .blocks-of .ensures .0) (omega arith)
@@ -31,21 +28,6 @@ key-stream-requires c κs = rw (c .blocks-of .ensures .0) (omega arith)
 loop-holds : tie.Need-loop-holds Inv-loop μ-loop
 unfolding tab
 loop-holds c = (omega arith, refl)
-
-shared-slice-read-x : tie.Need-shared-slice-read-x Inv-loop μ-loop
-shared-slice-read-x c = search needs
-
-array-read-x : tie.Need-array-read-x Inv-loop μ-loop
-array-read-x c = search needs
-
-array-write-x : tie.Need-array-write-x Inv-loop μ-loop
-array-write-x c = search needs
-
-add-i : tie.Need-add-i Inv-loop μ-loop
-add-i c = search needs
-
-loop-less : tie.Need-loop-less Inv-loop μ-loop
-loop-less c = search needs
 
 loop-again : tie.Need-loop-again Inv-loop μ-loop
 loop-again c =
@@ -67,13 +49,13 @@ counter-mode-spec =
     (tie.spec
     Inv-loop
     μ-loop
-    blocks-of-requires
+    (λ c κs. search needs)
     key-stream-requires
     loop-holds
-    shared-slice-read-x
-    array-read-x
-    array-write-x
-    add-i
-    loop-less
+    (λ c. search needs)
+    (λ c. search needs)
+    (λ c. search needs)
+    (λ c. search needs)
+    (λ c. search needs)
     loop-again
     returns)

@@ -5,15 +5,9 @@ use Rattle.ccm.proofs.counter.key_block.Statement.{statement}
 use Rattle.ccm.proofs.counter.key_block.Tie as tie
 use Rattle.ccm.specs.Counters.{keyBlock}
 
-counter-block-requires : tie.Need-counter-block-requires
-counter-block-requires c κs = search needs
-
-cipher-requires : tie.Need-cipher-requires
-cipher-requires c κs = search needs
-
 returns : tie.Need-returns
 unfolding keyBlock
 returns c = rw (c .cipher .ensures, c .before .counter-block .ensures) refl
 
 pub key-block-spec : {M : Type 1} → statement M
-key-block-spec = tie.close (tie.spec counter-block-requires cipher-requires returns)
+key-block-spec = tie.close (tie.spec (λ c κs. search needs) (λ c κs. search needs) returns)

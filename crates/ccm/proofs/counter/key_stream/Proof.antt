@@ -25,29 +25,8 @@ loop-holds : tie.Need-loop-holds Inv-loop μ-loop
 unfolding keyStream
 loop-holds c = (omega arith, refl, sym (over-nil _ 0))
 
-add-key-block : tie.Need-add-key-block Inv-loop μ-loop
-add-key-block c = search needs
-
-key-block-requires : tie.Need-key-block-requires Inv-loop μ-loop
-key-block-requires c κs = search needs
-
-slice-aggregate-copy-at : tie.Need-slice-aggregate-copy-at Inv-loop μ-loop
-slice-aggregate-copy-at c = search needs
-
-mul-copy-at : tie.Need-mul-copy-at Inv-loop μ-loop
-mul-copy-at c = search needs
-
-slice-aggregate-copy-at-2 : tie.Need-slice-aggregate-copy-at-2 Inv-loop μ-loop
-slice-aggregate-copy-at-2 c = search needs
-
 copy-at-requires : tie.Need-copy-at-requires Inv-loop μ-loop
 copy-at-requires c κs = omega (arith, c .before .before .key-block .ok)
-
-add-j : tie.Need-add-j Inv-loop μ-loop
-add-j c = search needs
-
-loop-less : tie.Need-loop-less Inv-loop μ-loop
-loop-less c = search needs
 
 loop-again : tie.Need-loop-again Inv-loop μ-loop
 loop-again c =
@@ -75,13 +54,13 @@ key-stream-spec =
     Inv-loop
     μ-loop
     loop-holds
-    add-key-block
-    key-block-requires
-    slice-aggregate-copy-at
-    mul-copy-at
-    slice-aggregate-copy-at-2
+    (λ c. search needs)
+    (λ c κs. search needs)
+    (λ c. search needs)
+    (λ c. search needs)
+    (λ c. search needs)
     copy-at-requires
-    add-j
-    loop-less
+    (λ c. search needs)
+    (λ c. search needs)
     loop-again
     returns)

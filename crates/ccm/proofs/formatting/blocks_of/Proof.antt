@@ -6,12 +6,9 @@ use Rattle.ccm.proofs.formatting.blocks_of.Statement.{statement}
 use Rattle.ccm.proofs.formatting.blocks_of.Tie as tie
 use Rattle.ccm.specs.Formatting.{blocksOf}
 
-add-result : tie.Need-add-result
-add-result c = search needs
-
 returns : tie.Need-returns
 unfolding blocksOf
 returns c = (refl, omega arith)
 
 pub blocks-of-spec : {M : Type 1} → statement M
-blocks-of-spec = tie.close (tie.spec add-result returns)
+blocks-of-spec = tie.close (tie.spec (λ c. search needs) returns)

@@ -22,23 +22,8 @@ loop-holds : tie.Need-loop-holds Inv-loop μ-loop
 unfolding tab
 loop-holds c = (omega arith, refl)
 
-mul-data-byte : tie.Need-mul-data-byte Inv-loop μ-loop
-mul-data-byte c = search needs
-
-add-data-byte : tie.Need-add-data-byte Inv-loop μ-loop
-add-data-byte c = search needs
-
-data-byte-requires : tie.Need-data-byte-requires Inv-loop μ-loop
-data-byte-requires c κs = search needs
-
 array-write-b : tie.Need-array-write-b Inv-loop μ-loop
 array-write-b c = omega arith
-
-add-j : tie.Need-add-j Inv-loop μ-loop
-add-j c = search needs
-
-loop-less : tie.Need-loop-less Inv-loop μ-loop
-loop-less c = search needs
 
 loop-again : tie.Need-loop-again Inv-loop μ-loop
 loop-again c =
@@ -60,11 +45,11 @@ data-block-spec =
     Inv-loop
     μ-loop
     loop-holds
-    mul-data-byte
-    add-data-byte
-    data-byte-requires
+    (λ c. search needs)
+    (λ c. search needs)
+    (λ c κs. search needs)
     array-write-b
-    add-j
-    loop-less
+    (λ c. search needs)
+    (λ c. search needs)
     loop-again
     returns)

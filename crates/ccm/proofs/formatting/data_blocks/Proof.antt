@@ -6,18 +6,9 @@ use Rattle.ccm.proofs.formatting.data_blocks.Tie as tie
 use Rattle.ccm.specs.Formatting.{blocksOf}
 use Rattle.ccm.proofs.Blocks.{length-data-none, length-data}
 
-blocks-of-requires : tie.Need-blocks-of-requires
-blocks-of-requires c κs = search needs
-
 returns : tie.Need-returns
 returns c =
     (c .blocks-of .ensures .0 ∙ ap blocksOf (length-data-none (c .before .before .before .args .auth .now) (c .before .if1 .taken)), c .blocks-of .ensures .1)
-
-add-blocks-of : tie.Need-add-blocks-of
-add-blocks-of c = search needs
-
-blocks-of-requires-2 : tie.Need-blocks-of-requires-2
-blocks-of-requires-2 c κs = search needs
 
 returns-2 : tie.Need-returns-2
 returns-2 c =
@@ -25,4 +16,4 @@ returns-2 c =
 
 pub data-blocks-spec : {M : Type 1} → statement M
 data-blocks-spec =
-    tie.close (tie.spec blocks-of-requires returns add-blocks-of blocks-of-requires-2 returns-2)
+    tie.close (tie.spec (λ c κs. search needs) returns (λ c. search needs) (λ c κs. search needs) returns-2)

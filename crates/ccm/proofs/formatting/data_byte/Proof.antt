@@ -9,27 +9,15 @@ returns : tie.Need-returns
 returns c =
     data-none (c .before .before .args .auth .now) (c .before .before .args .i) (c .if1 .taken)
 
-cast-result : tie.Need-cast-result
-cast-result c = search needs
-
 returns-2 : tie.Need-returns-2
 returns-2 c =
     let a = c .before .before .before .args in
     rw (c .if2 .taken) (data-high (a .auth .now) (c .before .if1 .left))
 
-cast-result-2 : tie.Need-cast-result-2
-cast-result-2 c = search needs
-
 returns-3 : tie.Need-returns-3
 returns-3 c =
     let a = c .before .before .before .before .args in
     rw (c .if3 .taken) (data-low (a .auth .now) (c .before .before .if1 .left))
-
-sub-byte-at : tie.Need-sub-byte-at
-sub-byte-at c = search needs
-
-byte-at-requires : tie.Need-byte-at-requires
-byte-at-requires c κs = search needs
 
 returns-4 : tie.Need-returns-4
 returns-4 c =
@@ -41,10 +29,10 @@ data-byte-spec =
     tie.close
     (tie.spec
     returns
-    cast-result
+    (λ c. search needs)
     returns-2
-    cast-result-2
+    (λ c. search needs)
     returns-3
-    sub-byte-at
-    byte-at-requires
+    (λ c. search needs)
+    (λ c κs. search needs)
     returns-4)

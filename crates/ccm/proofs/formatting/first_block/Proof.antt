@@ -5,15 +5,9 @@ use Rattle.ccm.proofs.formatting.first_block.Statement.{statement}
 use Rattle.ccm.proofs.formatting.first_block.Tie as tie
 use Rattle.ccm.specs.Formatting.{firstBlock}
 
-flags-requires : tie.Need-flags-requires
-flags-requires c κs = search needs
-
-with-nonce-requires : tie.Need-with-nonce-requires
-with-nonce-requires c κs = search needs
-
 returns : tie.Need-returns
 unfolding firstBlock
 returns c = rw (c .with-nonce .ensures, c .before .flags .ensures) refl
 
 pub first-block-spec : {M : Type 1} → statement M
-first-block-spec = tie.close (tie.spec flags-requires with-nonce-requires returns)
+first-block-spec = tie.close (tie.spec (λ c κs. search needs) (λ c κs. search needs) returns)

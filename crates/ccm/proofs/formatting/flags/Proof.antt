@@ -8,32 +8,11 @@ use Rattle.ccm.proofs.formatting.flags.Statement.{statement}
 use Rattle.ccm.proofs.formatting.flags.Tie as tie
 use Rattle.ccm.specs.Formatting.{flags}
 
-sub-tag : tie.Need-sub-tag
-sub-tag c = search needs
-
-mul-tag : tie.Need-mul-tag
-mul-tag c = search needs
-
-add-result : tie.Need-add-result
-add-result c = search needs
-
-add-result-2 : tie.Need-add-result-2
-add-result-2 c = search needs
-
-cast-result : tie.Need-cast-result
-cast-result c = search needs
-
 returns : tie.Need-returns
 unfolding flags
 returns c =
     let h : 0 < c .before .args .a = c .if1 .taken in
     rw (lt-ltb 0 (c .before .args .a) h) refl
-
-add-result-3 : tie.Need-add-result-3
-add-result-3 c = search needs
-
-cast-result-2 : tie.Need-cast-result-2
-cast-result-2 c = search needs
 
 returns-2 : tie.Need-returns-2
 unfolding flags
@@ -45,12 +24,12 @@ pub flags-spec : {M : Type 1} → statement M
 flags-spec =
     tie.close
     (tie.spec
-    sub-tag
-    mul-tag
-    add-result
-    add-result-2
-    cast-result
+    (λ c. search needs)
+    (λ c. search needs)
+    (λ c. search needs)
+    (λ c. search needs)
+    (λ c. search needs)
     returns
-    add-result-3
-    cast-result-2
+    (λ c. search needs)
+    (λ c. search needs)
     returns-2)

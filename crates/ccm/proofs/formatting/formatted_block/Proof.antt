@@ -7,22 +7,10 @@ use Rattle.ccm.proofs.formatting.formatted_block.Tie as tie
 use Rattle.ccm.specs.Formatting.{blockAt}
 use Rattle.ccm.proofs.Blocks.{formatted-first, formatted-data, formatted-payload}
 
-first-block-requires : tie.Need-first-block-requires
-first-block-requires c κs = search needs
-
 returns : tie.Need-returns
 returns c =
     let a = c .before .before .before .before .args in
     c .first-block .ensures ∙ formatted-first (a .t) (a .nonce) (a .auth .now) (a .payload .now) (a .i) (c .before .if1 .taken)
-
-sub-k : tie.Need-sub-k
-sub-k c = search needs
-
-data-blocks-requires : tie.Need-data-blocks-requires
-data-blocks-requires c κs = search needs
-
-data-block-requires : tie.Need-data-block-requires
-data-block-requires c κs = search needs
 
 returns-2 : tie.Need-returns-2
 returns-2 c =
@@ -30,9 +18,6 @@ returns-2 c =
     let m = c .before .before .data-blocks in
     c .data-block .ensures
     ∙ formatted-data (a .t) (a .nonce) (a .auth .now) (a .payload .now) (a .i) (c .before .before .before .if1 .left) (rw (← m .ensures .0) (c .before .if2 .taken))
-
-payload-block-requires : tie.Need-payload-block-requires
-payload-block-requires c κs = search needs
 
 returns-3 : tie.Need-returns-3
 returns-3 c =
@@ -46,11 +31,11 @@ pub formatted-block-spec : {M : Type 1} → statement M
 formatted-block-spec =
     tie.close
     (tie.spec
-    first-block-requires
+    (λ c κs. search needs)
     returns
-    sub-k
-    data-blocks-requires
-    data-block-requires
+    (λ c. search needs)
+    (λ c κs. search needs)
+    (λ c κs. search needs)
     returns-2
-    payload-block-requires
+    (λ c κs. search needs)
     returns-3)

@@ -16,36 +16,9 @@ Inv-loop keys t nonce auth payload last y₀ i₀ y i = (i ≤ last) × (y ≡ c
 abbrev μ-loop : tie.MeasureT-loop
 μ-loop keys t nonce auth payload last y₀ i₀ y i = last - i
 
-last-block-requires : tie.Need-last-block-requires Inv-loop μ-loop
-last-block-requires c κs = search needs
-
-formatted-block-requires : tie.Need-formatted-block-requires Inv-loop μ-loop
-formatted-block-requires c κs = search needs
-
-cipher-requires : tie.Need-cipher-requires Inv-loop μ-loop
-cipher-requires c κs = search needs
-
 loop-holds : tie.Need-loop-holds Inv-loop μ-loop
 unfolding chain
 loop-holds c = (omega arith, rw (c .cipher .ensures, c .before .formatted-block .ensures) refl)
-
-add-formatted-block : tie.Need-add-formatted-block Inv-loop μ-loop
-add-formatted-block c = search needs
-
-formatted-block-requires-2 : tie.Need-formatted-block-requires-2 Inv-loop μ-loop
-formatted-block-requires-2 c κs = search needs
-
-xor-block-requires : tie.Need-xor-block-requires Inv-loop μ-loop
-xor-block-requires c κs = search needs
-
-cipher-requires-2 : tie.Need-cipher-requires-2 Inv-loop μ-loop
-cipher-requires-2 c κs = search needs
-
-add-i : tie.Need-add-i Inv-loop μ-loop
-add-i c = search needs
-
-loop-less : tie.Need-loop-less Inv-loop μ-loop
-loop-less c = search needs
 
 loop-again : tie.Need-loop-again Inv-loop μ-loop
 loop-again c =
@@ -71,15 +44,15 @@ cbc-mac-spec =
     (tie.spec
     Inv-loop
     μ-loop
-    last-block-requires
-    formatted-block-requires
-    cipher-requires
+    (λ c κs. search needs)
+    (λ c κs. search needs)
+    (λ c κs. search needs)
     loop-holds
-    add-formatted-block
-    formatted-block-requires-2
-    xor-block-requires
-    cipher-requires-2
-    add-i
-    loop-less
+    (λ c. search needs)
+    (λ c κs. search needs)
+    (λ c κs. search needs)
+    (λ c κs. search needs)
+    (λ c. search needs)
+    (λ c. search needs)
     loop-again
     returns)

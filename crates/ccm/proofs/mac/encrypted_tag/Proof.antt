@@ -10,36 +10,6 @@ use Rattle.ccm.specs.Counters.{keyBlock}
 use Rattle.ccm.specs.Generation.{encryptedTag}
 use Rattle.ccm.proofs.Tags.{xored-front}
 
-cbc-mac-requires : tie.Need-cbc-mac-requires
-cbc-mac-requires c κs = search needs
-
-key-block-requires : tie.Need-key-block-requires
-key-block-requires c κs = search needs
-
-array-read-t10 : tie.Need-array-read-t10
-array-read-t10 c = search needs
-
-array-read-t13 : tie.Need-array-read-t13
-array-read-t13 c = search needs
-
-array-read-t17 : tie.Need-array-read-t17
-array-read-t17 c = search needs
-
-array-read-t20 : tie.Need-array-read-t20
-array-read-t20 c = search needs
-
-array-read-t24 : tie.Need-array-read-t24
-array-read-t24 c = search needs
-
-array-read-t27 : tie.Need-array-read-t27
-array-read-t27 c = search needs
-
-array-read-t31 : tie.Need-array-read-t31
-array-read-t31 c = search needs
-
-array-read-t34 : tie.Need-array-read-t34
-array-read-t34 c = search needs
-
 returns : tie.Need-returns
 unfolding encryptedTag mac xored tab
 returns c =
@@ -52,14 +22,14 @@ pub encrypted-tag-spec : {M : Type 1} → statement M
 encrypted-tag-spec =
     tie.close
     (tie.spec
-    cbc-mac-requires
-    key-block-requires
-    array-read-t10
-    array-read-t13
-    array-read-t17
-    array-read-t20
-    array-read-t24
-    array-read-t27
-    array-read-t31
-    array-read-t34
+    (λ c κs. search needs)
+    (λ c κs. search needs)
+    (λ c. search needs)
+    (λ c. search needs)
+    (λ c. search needs)
+    (λ c. search needs)
+    (λ c. search needs)
+    (λ c. search needs)
+    (λ c. search needs)
+    (λ c. search needs)
     returns)

@@ -16,9 +16,6 @@ returns : tie.Need-returns
 unfolding readEui64 tab
 returns c = rw (lt-ltb _ _ (c .if1 .taken)) refl
 
-slice-aggregate-copy-at : tie.Need-slice-aggregate-copy-at
-slice-aggregate-copy-at c = search needs
-
 slice-aggregate-copy-at-2 : tie.Need-slice-aggregate-copy-at-2
 slice-aggregate-copy-at-2 c =
     sym (length-take-le 8 (c .before .before .before .before .args .bytes .now) (c .before .before .if1 .left))
@@ -36,4 +33,4 @@ returns-2 c =
 pub deserialize-spec : {M : Type 1} → statement M
 deserialize-spec =
     tie.close
-    (tie.spec returns slice-aggregate-copy-at slice-aggregate-copy-at-2 copy-at-requires returns-2)
+    (tie.spec returns (λ c. search needs) slice-aggregate-copy-at-2 copy-at-requires returns-2)

@@ -7,16 +7,10 @@ use Rattle.octets.specs.Numbers.{le}
 use Rattle.octets.proofs.Numbers.{length-le}
 use Rattle.octets.proofs.Strings.{over-all}
 
-slice-aggregate-put-u64 : tie.Need-slice-aggregate-put-u64
-slice-aggregate-put-u64 c = search needs
-
-put-u64-requires : tie.Need-put-u64-requires
-put-u64-requires c κs = search needs
-
 returns : tie.Need-returns
 returns c =
     let x = c .before .before .before .args .x in
     c .before .put-u64 .ensures ∙ over-all _ (le 8 x) (sym (length-le 8 x))
 
 pub from-u64-spec : {M : Type 1} → statement M
-from-u64-spec = tie.close (tie.spec slice-aggregate-put-u64 put-u64-requires returns)
+from-u64-spec = tie.close (tie.spec (λ c. search needs) (λ c κs. search needs) returns)

@@ -12,12 +12,6 @@ returns : tie.Need-returns
 unfolding readKey tab
 returns c = rw (ne-eqb _ _ (c .if1 .taken)) refl
 
-slice-aggregate-copy-at : tie.Need-slice-aggregate-copy-at
-slice-aggregate-copy-at c = search needs
-
-copy-at-requires : tie.Need-copy-at-requires
-copy-at-requires c κs = search needs
-
 returns-2 : tie.Need-returns-2
 unfolding readKey
 returns-2 c =
@@ -25,4 +19,4 @@ returns-2 c =
     rw (eq-eqb _ _ (c .before .before .before .if1 .left), c .before .copy-at .ensures, over-all _ s (sym (c .before .before .before .if1 .left))) refl
 
 pub from-bytes-spec : {M : Type 1} → statement M
-from-bytes-spec = tie.close (tie.spec returns slice-aggregate-copy-at copy-at-requires returns-2)
+from-bytes-spec = tie.close (tie.spec returns (λ c. search needs) (λ c κs. search needs) returns-2)

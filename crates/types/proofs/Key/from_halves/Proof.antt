@@ -12,18 +12,6 @@ use Rattle.octets.proofs.Numbers.{length-le}
 use Rattle.octets.proofs.Strings.{over-over, over-all}
 use Rattle.types.specs.Keys.{keyBytes}
 
-slice-aggregate-put-u64 : tie.Need-slice-aggregate-put-u64
-slice-aggregate-put-u64 c = search needs
-
-put-u64-requires : tie.Need-put-u64-requires
-put-u64-requires c κs = search needs
-
-slice-aggregate-put-u64-2 : tie.Need-slice-aggregate-put-u64-2
-slice-aggregate-put-u64-2 c = search needs
-
-put-u64-requires-2 : tie.Need-put-u64-requires-2
-put-u64-requires-2 c κs = search needs
-
 returns : tie.Need-returns
 unfolding keyBytes
 returns c =
@@ -39,8 +27,8 @@ pub from-halves-spec : {M : Type 1} → statement M
 from-halves-spec =
     tie.close
     (tie.spec
-    slice-aggregate-put-u64
-    put-u64-requires
-    slice-aggregate-put-u64-2
-    put-u64-requires-2
+    (λ c. search needs)
+    (λ c κs. search needs)
+    (λ c. search needs)
+    (λ c κs. search needs)
     returns)

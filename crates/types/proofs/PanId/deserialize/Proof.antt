@@ -10,12 +10,9 @@ returns : tie.Need-returns
 unfolding readPanId
 returns c = rw (lt-ltb _ _ (c .if1 .taken)) refl
 
-read-u16-requires : tie.Need-read-u16-requires
-read-u16-requires c κs = search needs
-
 returns-2 : tie.Need-returns-2
 unfolding readPanId
 returns-2 c = rw (le-ltb _ _ (c .before .if1 .left), c .read-u16 .ensures) refl
 
 pub deserialize-spec : {M : Type 1} → statement M
-deserialize-spec = tie.close (tie.spec returns read-u16-requires returns-2)
+deserialize-spec = tie.close (tie.spec returns (λ c κs. search needs) returns-2)

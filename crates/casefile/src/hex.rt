@@ -1,0 +1,44 @@
+// Bytes as hexadecimal digits.
+ghost use mathlib.Core.Path.{_≡_};
+ghost use mathlib.Core.Bool.{true};
+ghost use Prim.Native.Nat.{ℕ, _≤_, _<_};
+ghost use lib.ListN.{length, getD};
+ghost use Rattle.casefile.specs.Hex.{digitValue, hexByte};
+
+// The value of a digit, and 16 for what is none.
+fn digit(b: u8) -> u8
+    ensures { λ r. ⌜ (r ≡ digitValue b) × (r ≤ 16) ⌝ }
+{
+    match b {
+        b'0'..=b'9' => b - b'0',
+        b'a'..=b'f' => b - b'a' + 10,
+        b'A'..=b'F' => b - b'A' + 10,
+        _ => 16,
+    }
+}
+
+// Fills `out` with what `digits` stand for, two digits a byte, and answers whether they are digits and just as many.
+pub fn decode(digits: &[u8], out: &mut [u8]) -> bool
+    ensures { λ r. ⌜ (r ≡ true → (k : ℕ) → k < length (now (out .entry)) → getD (now (out .exit)) k 0 ≡ hexByte (now (digits .entry)) k) ⌝ }
+{
+    if digits.len() % 2 != 0 {
+        return false;
+    }
+    if digits.len() / 2 != out.len() {
+        return false;
+    }
+    let mut i = 0;
+    while i < out.len() {
+        let high = digit(digits[2 * i]);
+        let low = digit(digits[2 * i + 1]);
+        if high == 16 {
+            return false;
+        }
+        if low == 16 {
+            return false;
+        }
+        out[i] = high * 16 + low;
+        i += 1;
+    }
+    true
+}

@@ -1,0 +1,2 @@
+-- The laws of a route reply's bytes.
+mod ReplyBytes

@@ -1,0 +1,42 @@
+-- `command_encoders::write_link_status` meets its contract: one field behind the other. Assumes nothing.
+use borrow.Author.Needs.{needs}
+use mathlib.Core.Path.{_≡_, refl, sym, ap, _∙_}
+use mathlib.Core.List.{List, [], _∷_, _++_}
+use Prim.Native.Nat.{ℕ, _+_, _*_}
+use native.Mathlib.Omega.{arith}
+use lib.ListN.{getD}
+use Rattle.command_encoders.proofs.write_link_status.Statement.{statement}
+use Rattle.command_encoders.proofs.write_link_status.Tie as tie
+use Rattle.octets.specs.Strings.{over, tab}
+use Rattle.octets.specs.Numbers.{le}
+use Rattle.octets.specs.Fields.{packed}
+use Rattle.commands.specs.Format.{partSizes, keptCount, filled, width, writeField, writeFields, writeEntries, bodyBytes}
+use Rattle.commands.specs.Commands.{linkStatusFormat, linkStatusValues, linkEntry, noLink}
+use Rattle.commands.specs.Reading.{formatOf}
+use Rattle.commands.specs.Writing.{wireBytes}
+use Rattle.command_fields.proofs.Chain.{next}
+
+link-status-options-requires : tie.Need-link-status-options-requires
+link-status-options-requires c κs = search needs
+
+put-two-requires : tie.Need-put-two-requires
+put-two-requires c κs = search needs
+
+put-links-requires : tie.Need-put-links-requires
+put-links-requires c κs = search needs
+
+same-length : tie.Need-same-length
+same-length c = search needs
+
+returns : tie.Need-returns
+unfolding wireBytes bodyBytes formatOf partSizes keptCount filled width writeField writeFields le linkStatusFormat linkStatusValues
+returns c =
+    let a = c .before .before .before .before .before .before .before .before .before .before .args in
+    (next (a .out .now) (c .before .before .before .before .before .before .put-two .last .0) (c .before .before .put-links .last .0) 0 2 (0x08 ∷ c .before .before .before .before .before .before .before .before .link-status-options .result ∷ []) (writeEntries (linkStatusFormat .entry) (tab (λ (k : ℕ). linkEntry (getD (a .links) k noLink)) (a .n))) (omega arith) (c .before .before .before .before .before .before .put-two .ensures)
+    (c .before .before .put-links .ensures) refl)
+    ∙ (λ i. over (a .out .now) 0 (0x08 ∷ c .before .before .before .before .before .before .before .before .link-status-options .ensures i ∷ writeEntries (linkStatusFormat .entry) (tab (λ (k : ℕ). linkEntry (getD (a .links) k noLink)) (a .n))))
+
+pub write-link-status-spec : {M : Type 1} → statement M
+write-link-status-spec =
+    tie.close
+    (tie.spec link-status-options-requires put-two-requires put-links-requires same-length returns)

@@ -1,0 +1,40 @@
+-- `command_encoders::write_network_status` meets its contract: one field behind the other. Assumes nothing.
+use borrow.Author.Needs.{needs}
+use mathlib.Core.Path.{_≡_, refl, sym, ap, _∙_}
+use mathlib.Core.List.{List, [], _∷_, _++_}
+use Prim.Native.Nat.{ℕ, _+_, _*_}
+use native.Mathlib.Omega.{arith}
+use Rattle.command_encoders.proofs.write_network_status.Statement.{statement}
+use Rattle.command_encoders.proofs.write_network_status.Tie as tie
+use Rattle.octets.specs.Strings.{over, tab}
+use Rattle.octets.specs.Numbers.{le}
+use Rattle.octets.specs.Fields.{packed}
+use Rattle.commands.specs.Format.{partSizes, keptCount, filled, width, writeField, writeFields, writeEntries, bodyBytes}
+use Rattle.commands.specs.Commands.{networkStatusFormat, networkStatusValues}
+use Rattle.commands.specs.Reading.{formatOf}
+use Rattle.commands.specs.Writing.{wireBytes}
+use Rattle.command_fields.proofs.Chain.{next}
+
+code-requires : tie.Need-code-requires
+code-requires c κs = search needs
+
+put-two-requires : tie.Need-put-two-requires
+put-two-requires c κs = search needs
+
+put-u16-requires : tie.Need-put-u16-requires
+put-u16-requires c κs = search needs
+
+same-length : tie.Need-same-length
+same-length c = search needs
+
+returns : tie.Need-returns
+unfolding wireBytes bodyBytes formatOf partSizes keptCount filled width writeField writeFields le networkStatusFormat networkStatusValues writeEntries
+returns c =
+    let a = c .before .before .before .before .before .before .before .before .before .before .args in
+    (next (a .out .now) (c .before .before .before .before .before .before .put-two .last .0) (c .before .before .put-u16 .last .0) 0 2 (0x03 ∷ c .before .before .before .before .before .before .before .code .result ∷ []) (le 2 (a .c .«network_address»)) (omega arith) (c .before .before .before .before .before .before .put-two .ensures)
+    (c .before .before .put-u16 .ensures) refl)
+    ∙ (λ i. over (a .out .now) 0 (0x03 ∷ c .before .before .before .before .before .before .before .code .ensures i ∷ le 2 (a .c .«network_address»)))
+
+pub write-network-status-spec : {M : Type 1} → statement M
+write-network-status-spec =
+    tie.close (tie.spec code-requires put-two-requires put-u16-requires same-length returns)

@@ -1,0 +1,37 @@
+-- `command_encoders::write_rejoin_request` meets its contract: one field behind the other. Assumes nothing.
+use borrow.Author.Needs.{needs}
+use mathlib.Core.Path.{_≡_, refl, sym, ap, _∙_}
+use mathlib.Core.List.{List, [], _∷_, _++_}
+use Prim.Native.Nat.{ℕ, _+_, _*_}
+use native.Mathlib.Omega.{arith}
+use Rattle.command_encoders.proofs.write_rejoin_request.Statement.{statement}
+use Rattle.command_encoders.proofs.write_rejoin_request.Tie as tie
+use Rattle.octets.specs.Strings.{over, tab}
+use Rattle.octets.specs.Numbers.{le}
+use Rattle.octets.specs.Fields.{packed}
+use Rattle.commands.specs.Format.{partSizes, keptCount, filled, width, writeField, writeFields, writeEntries, bodyBytes}
+use Rattle.commands.specs.Commands.{rejoinRequestFormat, rejoinRequestValues, capabilityField, capabilityValues}
+use Rattle.commands.specs.Reading.{formatOf}
+use Rattle.commands.specs.Writing.{wireBytes}
+use Rattle.command_fields.proofs.Chain.{next}
+use Rattle.command_fields.specs.Options.{capabilityByte}
+
+capability-byte-requires : tie.Need-capability-byte-requires
+capability-byte-requires c κs = search needs
+
+put-two-requires : tie.Need-put-two-requires
+put-two-requires c κs = search needs
+
+same-length : tie.Need-same-length
+same-length c = search needs
+
+returns : tie.Need-returns
+unfolding wireBytes bodyBytes formatOf partSizes keptCount filled width writeField writeFields le rejoinRequestFormat rejoinRequestValues capabilityField capabilityValues capabilityByte writeEntries
+returns c =
+    let a = c .before .before .before .before .before .before .before .args in
+    (c .before .before .put-two .ensures)
+    ∙ (λ i. over (a .out .now) 0 (0x06 ∷ c .before .before .before .capability-byte .ensures i ∷ []))
+
+pub write-rejoin-request-spec : {M : Type 1} → statement M
+write-rejoin-request-spec =
+    tie.close (tie.spec capability-byte-requires put-two-requires same-length returns)

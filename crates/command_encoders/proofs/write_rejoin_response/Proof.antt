@@ -1,0 +1,51 @@
+-- `command_encoders::write_rejoin_response` meets its contract: one field behind the other. Assumes nothing.
+use borrow.Author.Needs.{needs}
+use mathlib.Core.Path.{_≡_, refl, sym, ap, _∙_}
+use mathlib.Core.List.{List, [], _∷_, _++_}
+use Prim.Native.Nat.{ℕ, _+_, _*_}
+use native.Mathlib.Omega.{arith}
+use Rattle.command_encoders.proofs.write_rejoin_response.Statement.{statement}
+use Rattle.command_encoders.proofs.write_rejoin_response.Tie as tie
+use Rattle.octets.specs.Strings.{over, tab}
+use Rattle.octets.specs.Numbers.{le}
+use Rattle.octets.specs.Fields.{packed}
+use Rattle.commands.specs.Format.{partSizes, keptCount, filled, width, writeField, writeFields, writeEntries, bodyBytes}
+use Rattle.commands.specs.Commands.{rejoinResponseFormat, rejoinResponseValues}
+use Rattle.commands.specs.Reading.{formatOf}
+use Rattle.commands.specs.Writing.{wireBytes}
+use Rattle.command_fields.proofs.Chain.{next}
+
+put-byte-requires : tie.Need-put-byte-requires
+put-byte-requires c κs = search needs
+
+put-u16-requires : tie.Need-put-u16-requires
+put-u16-requires c κs = search needs
+
+code-requires : tie.Need-code-requires
+code-requires c κs = search needs
+
+put-byte-requires-2 : tie.Need-put-byte-requires-2
+put-byte-requires-2 c κs = search needs
+
+same-length : tie.Need-same-length
+same-length c = search needs
+
+returns : tie.Need-returns
+unfolding wireBytes bodyBytes formatOf partSizes keptCount filled width writeField writeFields le rejoinResponseFormat rejoinResponseValues writeEntries
+returns c =
+    let a = c .before .before .before .before .before .before .before .before .before .before .before .before .before .before .args in
+    (next (a .out .now) (c .before .before .before .before .before .before .before .put-u16 .last .0) (c .before .before .put-byte2 .last .0) 0 3 ((0x07 ∷ []) ++ (le 2 (a .c .«network_address»))) (c .before .before .before .code .result ∷ []) (omega arith) (next (a .out .now) (c .before .before .before .before .before .before .before .before .before .before .before .put-byte .last .0) (c .before .before .before .before .before .before .before .put-u16 .last .0) 0 1 (0x07 ∷ []) (le 2 (a .c .«network_address»)) (omega arith) (c .before .before .before .before .before .before .before .before .before .before .before .put-byte .ensures)
+    (c .before .before .before .before .before .before .before .put-u16 .ensures) refl)
+    (c .before .before .put-byte2 .ensures) refl)
+    ∙ (λ i. over (a .out .now) 0 (0x07 ∷ (le 2 (a .c .«network_address») ++ (c .before .before .before .code .ensures i ∷ []))))
+
+pub write-rejoin-response-spec : {M : Type 1} → statement M
+write-rejoin-response-spec =
+    tie.close
+    (tie.spec
+    put-byte-requires
+    put-u16-requires
+    code-requires
+    put-byte-requires-2
+    same-length
+    returns)

@@ -1,0 +1,47 @@
+-- `command_encoders::write_route_record` meets its contract: one field behind the other. Assumes nothing.
+use borrow.Author.Needs.{needs}
+use mathlib.Core.Path.{_≡_, refl, sym, ap, _∙_}
+use mathlib.Core.List.{List, [], _∷_, _++_}
+use Prim.Native.Nat.{ℕ, _+_, _*_}
+use native.Mathlib.Omega.{arith}
+use lib.ListN.{getD}
+use Rattle.command_encoders.proofs.write_route_record.Statement.{statement}
+use Rattle.command_encoders.proofs.write_route_record.Tie as tie
+use Rattle.octets.specs.Strings.{over, tab}
+use Rattle.octets.specs.Numbers.{le}
+use Rattle.octets.specs.Fields.{packed}
+use Rattle.commands.specs.Format.{partSizes, keptCount, filled, width, writeField, writeFields, writeEntries, bodyBytes}
+use Rattle.commands.specs.Commands.{routeRecordFormat, routeRecordValues, relayEntry}
+use Rattle.commands.specs.Reading.{formatOf}
+use Rattle.commands.specs.Writing.{wireBytes}
+use Rattle.command_fields.proofs.Chain.{next}
+
+put-two-requires : tie.Need-put-two-requires
+put-two-requires c κs = search needs
+
+slice-aggregate-put-numbers : tie.Need-slice-aggregate-put-numbers
+slice-aggregate-put-numbers c = search needs
+
+put-numbers-requires : tie.Need-put-numbers-requires
+put-numbers-requires c κs = search needs
+
+same-length : tie.Need-same-length
+same-length c = search needs
+
+returns : tie.Need-returns
+unfolding wireBytes bodyBytes formatOf partSizes keptCount filled width writeField writeFields le routeRecordFormat routeRecordValues
+returns c =
+    let a = c .before .before .before .before .before .before .before .before .before .before .args in
+    (next (a .out .now) (c .before .before .before .before .before .before .before .put-two .last .0) (c .before .before .put-numbers .last .0) 0 2 (0x05 ∷ a .n ∷ []) (writeEntries (routeRecordFormat .entry) (tab (λ (k : ℕ). relayEntry (getD (a .t1) k 0)) (a .n))) (omega arith) (c .before .before .before .before .before .before .before .put-two .ensures)
+    (c .before .before .put-numbers .ensures) refl)
+    ∙ (λ i. over (a .out .now) 0 (0x05 ∷ a .n ∷ writeEntries (routeRecordFormat .entry) (tab (λ (k : ℕ). relayEntry (getD (a .t1) k 0)) (a .n))))
+
+pub write-route-record-spec : {M : Type 1} → statement M
+write-route-record-spec =
+    tie.close
+    (tie.spec
+    put-two-requires
+    slice-aggregate-put-numbers
+    put-numbers-requires
+    same-length
+    returns)

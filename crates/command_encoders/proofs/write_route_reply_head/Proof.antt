@@ -1,0 +1,67 @@
+-- `command_encoders::write_route_reply_head` meets its contract: one field behind the other. Assumes nothing.
+use borrow.Author.Needs.{needs}
+use mathlib.Core.Path.{_≡_, refl, sym, ap, _∙_}
+use mathlib.Core.List.{List, [], _∷_, _++_}
+use Prim.Native.Nat.{ℕ, _+_, _*_}
+use native.Mathlib.Omega.{arith}
+use Rattle.command_encoders.proofs.write_route_reply_head.Statement.{statement}
+use Rattle.command_encoders.proofs.write_route_reply_head.Tie as tie
+use Rattle.octets.specs.Strings.{over, tab}
+use Rattle.octets.specs.Numbers.{le}
+use Rattle.octets.specs.Fields.{packed}
+use Rattle.commands.specs.Format.{partSizes, keptCount, filled, width, writeField, writeFields, writeEntries, bodyBytes}
+use Rattle.commands.specs.Commands.{routeReplyFormat, routeReplyValues, has}
+use Rattle.commands.specs.Reading.{formatOf}
+use Rattle.commands.specs.Writing.{wireBytes}
+use Rattle.command_fields.proofs.Chain.{next}
+use Rattle.command_encoders.specs.Reply.{replyHead}
+
+has-address-requires : tie.Need-has-address-requires
+has-address-requires c κs = search needs
+
+has-address-requires-2 : tie.Need-has-address-requires-2
+has-address-requires-2 c κs = search needs
+
+route-reply-options-requires : tie.Need-route-reply-options-requires
+route-reply-options-requires c κs = search needs
+
+put-three-requires : tie.Need-put-three-requires
+put-three-requires c κs = search needs
+
+put-u16-requires : tie.Need-put-u16-requires
+put-u16-requires c κs = search needs
+
+put-u16-requires-2 : tie.Need-put-u16-requires-2
+put-u16-requires-2 c κs = search needs
+
+put-byte-requires : tie.Need-put-byte-requires
+put-byte-requires c κs = search needs
+
+same-length : tie.Need-same-length
+same-length c = search needs
+
+returns : tie.Need-returns
+unfolding wireBytes bodyBytes formatOf partSizes keptCount filled width writeField writeFields le routeReplyFormat routeReplyValues replyHead
+returns c =
+    let a = c .before .before .before .before .before .before .before .before .before .before .before .before .before .before .before .before .before .before .before .before .args in
+    let flags : c .before .before .before .before .before .before .before .before .before .before .before .before .before .before .before .before .route-reply-options .result ≡ packed (4 ∷ 1 ∷ 1 ∷ 2 ∷ []) (0 ∷ has (a .c .«originator_eui64») ∷ has (a .c .«responder_eui64») ∷ 0 ∷ []) =
+    c .before .before .before .before .before .before .before .before .before .before .before .before .before .before .before .before .route-reply-options .ensures ∙ (λ i. packed (4 ∷ 1 ∷ 1 ∷ 2 ∷ []) (0 ∷ c .before .before .before .before .before .before .before .before .before .before .before .before .before .before .before .before .before .before .has-address .ensures .0 i ∷ c .before .before .before .before .before .before .before .before .before .before .before .before .before .before .before .before .before .has-address2 .ensures .0 i ∷ 0 ∷ [])) in
+    (next (a .out .now) (c .before .before .before .before .before .before .put-u162 .last .0) (c .before .before .put-byte .last .0) 0 7 (((0x02 ∷ c .before .before .before .before .before .before .before .before .before .before .before .before .before .before .before .before .route-reply-options .result ∷ a .c .«route_request_identifier» ∷ []) ++ (le 2 (a .c .«originator_nwk»))) ++ (le 2 (a .c .«responder_nwk»))) (a .c .«path_cost» ∷ []) (omega arith) (next (a .out .now) (c .before .before .before .before .before .before .before .before .before .before .put-u16 .last .0) (c .before .before .before .before .before .before .put-u162 .last .0) 0 5 ((0x02 ∷ c .before .before .before .before .before .before .before .before .before .before .before .before .before .before .before .before .route-reply-options .result ∷ a .c .«route_request_identifier» ∷ []) ++ (le 2 (a .c .«originator_nwk»))) (le 2 (a .c .«responder_nwk»)) (omega arith) (next (a .out .now) (c .before .before .before .before .before .before .before .before .before .before .before .before .before .before .put-three .last .0) (c .before .before .before .before .before .before .before .before .before .before .put-u16 .last .0) 0 3 (0x02 ∷ c .before .before .before .before .before .before .before .before .before .before .before .before .before .before .before .before .route-reply-options .result ∷ a .c .«route_request_identifier» ∷ []) (le 2 (a .c .«originator_nwk»)) (omega arith) (c .before .before .before .before .before .before .before .before .before .before .before .before .before .before .put-three .ensures)
+    (c .before .before .before .before .before .before .before .before .before .before .put-u16 .ensures) refl)
+    (c .before .before .before .before .before .before .put-u162 .ensures) refl)
+    (c .before .before .put-byte .ensures) refl)
+    ∙ (λ i. over (a .out .now) 0 (0x02 ∷ flags i ∷ a .c .«route_request_identifier» ∷ (le 2 (a .c .«originator_nwk») ++ (le 2 (a .c .«responder_nwk») ++ (a .c .«path_cost» ∷ [])))))
+
+pub write-route-reply-head-spec : {M : Type 1} → statement M
+write-route-reply-head-spec =
+    tie.close
+    (tie.spec
+    has-address-requires
+    has-address-requires-2
+    route-reply-options-requires
+    put-three-requires
+    put-u16-requires
+    put-u16-requires-2
+    put-byte-requires
+    same-length
+    returns)

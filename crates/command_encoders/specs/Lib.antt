@@ -1,0 +1,2 @@
+-- A part of a command's bytes.
+pub mod Reply

@@ -1,0 +1,194 @@
+-- The first half of the sealing law: reading the sealed bytes gives the headers back, CCM opens what it sealed, and so opening
+-- gives exactly one record, from which the claim is read off. For every level and tag length.
+-- Assumes nothing.
+use mathlib.Core.Path.{_≡_, refl, sym, ap, _∙_}
+use mathlib.Core.Bool.{Bool, true, false, cond, not, _&&_}
+use mathlib.Core.List.{List, [], _∷_, _++_, append-assoc}
+use Prim.Native.Nat.{ℕ, zero, suc, _+_, _-_, _≤_}
+use native.Mathlib.Omega.{arith}
+use lib.ListN.{length, take, drop, length-append}
+use lib.Seq.{take-at, drop-at}
+use lib.Dec.{ltb}
+use Rattle.octets.specs.Strings.{over}
+use Rattle.octets.proofs.Refusals.{none-join, skip, empty}
+use Rattle.header.specs.declared.auxiliary.NwkSecurityLevel.{NwkSecurityLevel}
+use Rattle.header.specs.declared.auxiliary.NwkAuxHeader.{NwkAuxHeader}
+use Rattle.header.specs.declared.auxiliary.AuxRead.{AuxRead}
+use Rattle.header.specs.declared.control.NwkFrameControl.{NwkFrameControl}
+use Rattle.header.specs.declared.nwk.HeaderRead.{HeaderRead}
+use Rattle.header.specs.declared.nwk.NwkHeader.{NwkHeader}
+use Rattle.header.specs.Reading.{readHeader}
+use Rattle.header.specs.Auxiliary.{auxBytes, readAux}
+use Rattle.header.specs.Writing.{headerBytes, badHeader}
+use Rattle.header.specs.Same.{Agrees, AuxAgrees, SameHeader, cleared, HeaderFits, AuxFits}
+use Rattle.header.proofs.ReadBack.{read-back, same-cleared}
+use Rattle.header.proofs.AuxiliaryLaws.{aux-read-back}
+use Rattle.ccm.specs.Verification.{Verified}
+use Rattle.ccm.specs.Operations.{sealedBy, openedBy}
+use Rattle.ccm.proofs.Opening.{length-ciphertext, length-tag, opened-sealed}
+use Rattle.frame.specs.declared.OptionAuxHeader.{OptionAuxHeader}
+use Rattle.frame.specs.declared.FrameRead.{FrameRead}
+use Rattle.frame.specs.Reading.{secured, auxIf, auxBehind, frameRefusal, frameAnswer, frameBy, readFrame}
+use Rattle.frame.specs.Security.{sentLevel, atLevel, auxOf, noIeee, nonce, authenticated}
+use Rattle.frame.specs.Sealing.{generated, sealedBytes, sealedLength}
+use Rattle.frame.specs.Opening as opening
+use Rattle.frame.specs.Opening.{behind, ciphertextOf, micOf, verified, openRefusal, opened, openBy}
+use Rattle.frame.proofs.Levels.{level-agrees, level-fits, level-length, level-nonce, level-authenticated, level-ieee}
+use Rattle.frame.proofs.Accepted.{Sealable, Openable, open-accepts}
+
+-- ---- reading a secured frame from its parts
+
+-- the frame whose headers have been read, the security bit being set
+pub secured-frame : (f : List ℕ) (h : HeaderRead) (a : AuxRead) → secured h ≡ true → h .refusal ≡ 0 → a .refusal ≡ 0
+    → frameBy f h a ≡ record { refusal = 0; length = h .length + a .length; header = h .header; aux = OptionAuxHeader.Present (a .aux) }
+unfolding frameBy frameRefusal frameAnswer
+secured-frame f h a s e g =
+    let none : frameRefusal (h .refusal) (secured h) (a .refusal) (length f - h .length) ≡ 0 =
+    none-join (h .refusal) _ e
+    (none-join (cond (secured h) (a .refusal) 0) _ (ap (λ (b : Bool). cond b (a .refusal) 0) s ∙ g)
+    (skip 12 _ _ (ap (λ (b : Bool). not b && ltb 108 (length f - h .length)) s) ∙ empty)) in
+    ap (frameAnswer h a) none
+    ∙ (λ i. record { refusal = 0; length = h .length + cond (s i) (a .length) 0; header = h .header; aux = auxIf (s i) (a .aux) })
+
+-- ---- the sealed bytes
+
+module _ (l : NwkSecurityLevel) (t : ℕ) (key : List ℕ) (h : NwkHeader) (x : NwkAuxHeader) (p : List ℕ) where
+  -- ciphertext and MIC
+  pub sealedPart : List ℕ
+  sealedPart = generated l t key h x p .ciphertext ++ generated l t key h x p .tag
+
+  in-two : sealedBytes l t key h x p ≡ (headerBytes h ++ auxBytes (atLevel sentLevel x)) ++ sealedPart
+  unfolding sealedBytes sealedPart
+  in-two = refl
+
+  in-three : sealedBytes l t key h x p ≡ headerBytes h ++ (auxBytes (atLevel sentLevel x) ++ sealedPart)
+  in-three = in-two ∙ append-assoc (headerBytes h) (auxBytes (atLevel sentLevel x)) sealedPart
+
+  pub ciphertext-length : length (generated l t key h x p .ciphertext) ≡ length p
+  unfolding generated
+  ciphertext-length = length-ciphertext t _ (nonce l h x) (authenticated l h x) p
+
+  pub mic-length : length (generated l t key h x p .tag) ≡ t
+  unfolding generated
+  mic-length = length-tag t _ (nonce l h x) (authenticated l h x) p
+
+  part-length : length sealedPart ≡ length p + t
+  unfolding sealedPart
+  part-length = length-append (generated l t key h x p .ciphertext) (generated l t key h x p .tag) ∙ (λ i. ciphertext-length i + mic-length i)
+
+  pub sealed-length : length (sealedBytes l t key h x p) ≡ sealedLength t h x p
+  unfolding sealedLength
+  sealed-length =
+      ap length in-three ∙ length-append (headerBytes h) _
+      ∙ ap (λ (n : ℕ). length (headerBytes h) + n) (length-append (auxBytes (atLevel sentLevel x)) sealedPart)
+      ∙ (λ i. length (headerBytes h) + (level-length sentLevel sentLevel x i + part-length i))
+      ∙ omega arith
+
+  -- ---- reading them
+
+  readBack : FrameRead
+  readBack =
+      record {
+        refusal = 0;
+        length = length (headerBytes h) + length (auxBytes (atLevel sentLevel x));
+        header = cleared h;
+        aux = OptionAuxHeader.Present (atLevel sentLevel x);
+      }
+
+  module _ (fits : HeaderFits h) (afits : AuxFits x) (good : badHeader h ≡ false) (sec : h .«frame_control» .security ≡ true)
+      (agrees : Agrees h) (aagrees : AuxAgrees x) (whole : sealedLength t h x p ≤ 118) where
+    short : length (headerBytes h ++ (auxBytes (atLevel sentLevel x) ++ sealedPart)) ≤ 118
+    short = rw (← in-three, sealed-length) whole
+
+    header-part : readHeader (sealedBytes l t key h x p) ≡ record { refusal = 0; length = length (headerBytes h); header = cleared h }
+    header-part = ap readHeader in-three ∙ read-back h _ fits good agrees short
+
+    behind-header : drop (length (headerBytes h)) (sealedBytes l t key h x p) ≡ auxBytes (atLevel sentLevel x) ++ sealedPart
+    behind-header = ap (drop (length (headerBytes h))) in-three ∙ drop-at (headerBytes h) _ (length (headerBytes h)) refl
+
+    short-behind : length (auxBytes (atLevel sentLevel x) ++ sealedPart) ≤ 118
+    short-behind = omega (arith, short, length-append (headerBytes h) (auxBytes (atLevel sentLevel x) ++ sealedPart))
+
+    aux-part : auxBehind (sealedBytes l t key h x p) (readHeader (sealedBytes l t key h x p))
+        ≡ record { refusal = 0; length = length (auxBytes (atLevel sentLevel x)); aux = atLevel sentLevel x }
+    aux-part =
+        ap (λ (r : HeaderRead). readAux (drop (r .length) (sealedBytes l t key h x p))) header-part
+        ∙ ap readAux behind-header
+        ∙ aux-read-back (atLevel sentLevel x) sealedPart (level-fits sentLevel sentLevel x afits) (level-agrees sentLevel sentLevel x aagrees) short-behind
+
+    frame-read : readFrame (sealedBytes l t key h x p) ≡ readBack
+    unfolding readFrame readBack
+    frame-read =
+        (λ i. frameBy (sealedBytes l t key h x p) (header-part i) (aux-part i))
+        ∙ secured-frame (sealedBytes l t key h x p) _ _ (ap (λ (k : NwkFrameControl). k .security) (sym (same-cleared h good .control)) ∙ sec) refl refl
+
+    -- ---- opening them
+
+    same-nonce : nonce l (readBack .header) (auxOf (readBack .aux)) ≡ nonce l h x
+    unfolding readBack
+    same-nonce = level-nonce l sentLevel x h (cleared h) (same-cleared h good)
+
+    same-authenticated : authenticated l (readBack .header) (auxOf (readBack .aux)) ≡ authenticated l h x
+    unfolding readBack
+    same-authenticated = level-authenticated l sentLevel x h (cleared h) (same-cleared h good)
+
+    behind-headers : behind (sealedBytes l t key h x p) readBack ≡ sealedPart
+    unfolding behind readBack
+    behind-headers =
+        ap (drop (length (headerBytes h) + length (auxBytes (atLevel sentLevel x)))) in-two
+        ∙ drop-at (headerBytes h ++ auxBytes (atLevel sentLevel x)) sealedPart _ (length-append (headerBytes h) (auxBytes (atLevel sentLevel x)))
+
+    front-size : length sealedPart - t ≡ length p
+    front-size = omega (arith, part-length)
+
+    ciphertext-back : ciphertextOf t sealedPart ≡ generated l t key h x p .ciphertext
+    unfolding ciphertextOf sealedPart
+    ciphertext-back = take-at (generated l t key h x p .ciphertext) (generated l t key h x p .tag) _ (ciphertext-length ∙ sym front-size)
+
+    mic-back : micOf t sealedPart ≡ generated l t key h x p .tag
+    unfolding micOf sealedPart
+    mic-back = drop-at (generated l t key h x p .ciphertext) (generated l t key h x p .tag) _ (ciphertext-length ∙ sym front-size)
+
+    opened-back : verified l t key (sealedBytes l t key h x p) readBack
+        ≡ openedBy t key (nonce l h x) (authenticated l h x) (generated l t key h x p .ciphertext) (generated l t key h x p .tag)
+    unfolding verified
+    opened-back =
+        λ i. openedBy t key (same-nonce i) (same-authenticated i)
+        ((ap (ciphertextOf t) behind-headers ∙ ciphertext-back) i) ((ap (micOf t) behind-headers ∙ mic-back) i)
+
+    made : (verified l t key (sealedBytes l t key h x p) readBack .valid ≡ true) × (verified l t key (sealedBytes l t key h x p) readBack .payload ≡ p)
+    unfolding generated
+    made =
+        let o = opened-sealed t _ (nonce l h x) (authenticated l h x) p in
+        (ap (λ (v : Verified). v .valid) opened-back ∙ o .0, ap (λ (v : Verified). v .payload) opened-back ∙ o .1)
+
+    openable-back : (room : ℕ) → noIeee h x ≡ false → length p ≤ room
+        → Openable l t key (sealedBytes l t key h x p) readBack room
+    unfolding readBack
+    openable-back room ieee fits-room =
+        let size : length (behind (sealedBytes l t key h x p) readBack) ≡ length p + t = ap length behind-headers ∙ part-length in
+        record {
+          read = refl;
+          present = refl;
+          ieee = level-ieee l sentLevel x h (cleared h) (same-cleared h good) ∙ ieee;
+          tagged = omega (arith, size);
+          fits = omega (arith, size);
+          valid = made .0;
+        }
+
+    -- opening the sealed bytes gives exactly this
+    pub reopened : (out : List ℕ) → noIeee h x ≡ false → length p ≤ length out
+        → openBy l t key (sealedBytes l t key h x p) (readFrame (sealedBytes l t key h x p)) out
+        ≡ record {
+          answer = record { refusal = 0; length = length p; header = cleared h; aux = OptionAuxHeader.Present (atLevel sentLevel x) };
+          out = over out 0 p;
+        }
+    unfolding openBy opened readBack
+    reopened out ieee room =
+        ap (λ (r : FrameRead). openBy l t key (sealedBytes l t key h x p) r out) frame-read
+        ∙ ap (λ (n : ℕ). opened n readBack (verified l t key (sealedBytes l t key h x p) readBack) out)
+        (open-accepts l t key (sealedBytes l t key h x p) readBack (length out) (openable-back (length out) ieee room))
+        ∙ (λ i. record {
+          answer = record { refusal = 0; length = length (made .1 i); header = cleared h; aux = OptionAuxHeader.Present (atLevel sentLevel x) };
+          out = over out 0 (made .1 i);
+        })

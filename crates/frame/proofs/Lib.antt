@@ -1,0 +1,7 @@
+-- The laws of frames, the sealing law among them, and what the proofs of the functions cite.
+pub mod Levels
+pub mod Accepted
+pub mod FirstHalf
+pub mod SecondHalf
+pub mod SealingLaw
+pub mod Returns

@@ -1,0 +1,269 @@
+-- What the functions return, over plain values: each lemma turns what the calls promised into the answer of one `return`.
+-- Assumes nothing.
+use mathlib.Core.Path.{_≡_, refl, sym, ap, _∙_}
+use mathlib.Core.Bool.{Bool, true, false, cond, not, _&&_, _||_}
+use mathlib.Core.List.{List, [], _∷_, _++_, append-nil}
+use Prim.Native.Nat.{ℕ, zero, suc, _+_, _-_, _≤_, _<_}
+use lib.ListN.{length, drop, take, length-append, length-drop, drop-of-length-le}
+use lib.Seq.{take-all, drop-length, length-take-le}
+use lib.Dec.{ltb}
+use native.Mathlib.Nat.{add-zero, zero-add}
+use native.Mathlib.Omega.{arith}
+use borrow.Author.Tests.{lt-ltb, le-ltb, ltb-false}
+use Rattle.octets.specs.Strings.{over, Below}
+use Rattle.octets.proofs.Strings.{over-part, over-then}
+use Rattle.octets.specs.Refusals.{on, firstOf, orElse}
+use Rattle.octets.proofs.Refusals.{none-split, not-on, stop, skip, empty}
+use Rattle.header.specs.declared.auxiliary.AuxRead.{AuxRead}
+use Rattle.header.specs.declared.nwk.HeaderRead.{HeaderRead}
+use Rattle.header.specs.Reading.{readHeader}
+use Rattle.header.specs.declared.auxiliary.NwkSecurityLevel.{NwkSecurityLevel}
+use Rattle.header.specs.declared.auxiliary.NwkAuxHeader.{NwkAuxHeader}
+use Rattle.header.specs.declared.nwk.NwkHeader.{NwkHeader}
+use Rattle.header.specs.Writing.{headerBytes, badHeader}
+use Rattle.header.specs.Auxiliary.{auxBytes, readAux}
+use Rattle.header.proofs.ReadFacts.{header-facts, aux-facts}
+use Rattle.ccm.specs.declared.Split.{Split}
+use Rattle.ccm.specs.Verification.{Verified}
+use Rattle.ccm.specs.Operations.{micLength, sealedBy, openedBy, splitMic, givenIf}
+use Rattle.frame.specs.declared.OptionAuxHeader.{OptionAuxHeader}
+use Rattle.frame.specs.Security.{networkLevel, sentLevel, atLevel, isAbsent, auxOf, nonce, authenticated}
+use Rattle.frame.specs.Sealing.{generated, sealedBytes}
+use Rattle.frame.specs.Opening.{behind, ciphertextOf, micOf, verified, openRefusals, openRefusal, openRefused, opened, openBy, openFrame}
+use Rattle.frame.proofs.Levels.{level-length}
+use Rattle.frame.proofs.SecondHalf.{drop-below, secured-facts, payload-length}
+use Rattle.frame.specs.declared.FrameRead.{FrameRead}
+use Rattle.frame.specs.Reading.{secured, auxBehind, frameRefusal, frameRefused, frameAnswer, frameBy, readFrame}
+
+-- ---- a part of a slice
+
+pub part-behind : (f : List ℕ) (n : ℕ) → take (length f - n) (drop n f) ≡ drop n f
+part-behind f n = take-all (length f - n) (drop n f) (rw (length-drop n f) (omega arith))
+
+pub nothing-behind : (f : List ℕ) (n : ℕ) → length f ≤ n → take (length f - length f) (drop (length f) f) ≡ drop n f
+nothing-behind f n h = part-behind f (length f) ∙ drop-length f ∙ sym (drop-of-length-le f h)
+
+-- ---- reading
+
+-- a number that is not 0 comes first
+pub first-number : (n : ℕ) (ns : List ℕ) → (n ≡ 0 → ⊥) → firstOf (n ∷ ns) ≡ n
+unfolding firstOf orElse
+first-number zero ns h = absurd (h refl)
+first-number (suc n) ns h = refl
+
+pub no-number : (n : ℕ) (ns : List ℕ) → n ≡ 0 → firstOf (n ∷ ns) ≡ firstOf ns
+unfolding firstOf orElse
+no-number zero ns h = refl
+no-number (suc n) ns h = absurd (omega arith)
+
+behind-zero : (n : ℕ) → firstOf (n ∷ 0 ∷ []) ≡ n
+unfolding firstOf orElse
+behind-zero zero = refl
+behind-zero (suc n) = refl
+
+pub header-number : (h : ℕ) (s : Bool) (a p : ℕ) → (h ≡ 0 → ⊥) → h ≡ frameRefusal h s a p
+unfolding frameRefusal
+header-number h s a p e = sym (first-number h _ e)
+
+-- past the header's number, by the security bit
+past-header : (h : ℕ) (s b : Bool) (a p : ℕ) → h ≡ 0 → s ≡ b → frameRefusal h s a p ≡ firstOf (cond b a 0 ∷ on 12 (not b && ltb 108 p) ∷ [])
+unfolding frameRefusal
+past-header h s b a p e t =
+    no-number h (cond s a 0 ∷ on 12 (not s && ltb 108 p) ∷ []) e
+    ∙ ap (λ (x : Bool). firstOf (cond x a 0 ∷ on 12 (not x && ltb 108 p) ∷ [])) t
+
+pub aux-number : (h : ℕ) (s : Bool) (a p : ℕ) → h ≡ 0 → s ≡ true → a ≡ frameRefusal h s a p
+aux-number h s a p e t = sym (past-header h s true a p e t ∙ behind-zero a)
+
+pub payload-number : (h : ℕ) (s : Bool) (a p : ℕ) → h ≡ 0 → s ≡ false → 108 < p → 12 ≡ frameRefusal h s a p
+payload-number h s a p e t l = sym (past-header h s false a p e t ∙ no-number 0 _ refl ∙ stop 11 _ [] (lt-ltb 108 p l))
+
+pub no-refusal : (h : ℕ) (s : Bool) (a p : ℕ) → h ≡ 0 → s ≡ false → p ≤ 108 → 0 ≡ frameRefusal h s a p
+no-refusal h s a p e t l = sym (past-header h s false a p e t ∙ no-number 0 _ refl ∙ skip 12 _ [] (le-ltb 108 p l) ∙ empty)
+
+pub frame-refused : (h : HeaderRead) (a : AuxRead) (n : ℕ) → (n ≡ 0 → ⊥) → frameRefused n ≡ frameAnswer h a n
+unfolding frameAnswer
+frame-refused h a zero e = absurd (e refl)
+frame-refused h a (suc n) e = refl
+
+-- the answer by what the calls gave is the answer of reading
+pub frame-done : (f : List ℕ) (h : HeaderRead) (a : AuxRead) (rest : List ℕ) (n : ℕ) → h ≡ readHeader f → rest ≡ drop (h .length) f
+    → a ≡ readAux rest → n ≡ frameRefusal (h .refusal) (secured h) (a .refusal) (length rest) → frameAnswer h a n ≡ readFrame f
+unfolding readFrame frameBy
+frame-done f h a rest n eh er ea en =
+    ap (frameAnswer h a) (en ∙ ap (frameRefusal (h .refusal) (secured h) (a .refusal)) (ap length er ∙ length-drop (h .length) f))
+    ∙ ap (frameBy f h) (ea ∙ ap readAux er)
+    ∙ ap (λ (k : HeaderRead). frameBy f k (auxBehind f k)) eh
+
+-- ---- lengths
+
+pub long-payload : (p w : ℕ) → 108 < p → (ltb 108 p || ltb 118 w) ≡ true
+long-payload p w h = rw (lt-ltb 108 p h) refl
+
+pub long-whole : (p w : ℕ) → p ≤ 108 → 118 < w → (ltb 108 p || ltb 118 w) ≡ true
+long-whole p w h k = rw (le-ltb 108 p h) (lt-ltb 118 w k)
+
+pub not-long : (p w : ℕ) → p ≤ 108 → w ≤ 118 → (ltb 108 p || ltb 118 w) ≡ false
+not-long p w h k = rw (le-ltb 108 p h) (le-ltb 118 w k)
+
+-- ---- writing to a part that starts at place s
+
+pub part-over : (o m bs : List ℕ) (s : ℕ) → s ≤ length o → m ≡ over (take (length o - s) (drop s o)) 0 bs
+    → take s o ++ (m ++ drop (length o - s) (drop s o)) ≡ over o s bs
+part-over o m bs s h e =
+    let rest : drop (length o - s) (drop s o) ≡ [] = drop-of-length-le (drop s o) {i = length o - s} (rw (length-drop s o) (omega arith)) in
+    let inner : m ≡ over (drop s o) 0 bs = e ∙ ap (λ (l : List ℕ). over l 0 bs) (part-behind o s) in
+    (λ i. take s o ++ (inner i ++ rest i))
+    ∙ ap (λ (l : List ℕ). take s o ++ l) (append-nil (over (drop s o) 0 bs))
+    ∙ over-part o s 0 bs h ∙ ap (λ (k : ℕ). over o k bs) (add-zero s)
+
+-- ---- the authenticated bytes
+
+pub auth-length : (l : NwkSecurityLevel) (h : NwkHeader) (x : NwkAuxHeader) → length (authenticated l h x) ≡ length (headerBytes h) + length (auxBytes x)
+unfolding authenticated
+auth-length l h x = length-append (headerBytes h) (auxBytes (atLevel l x)) ∙ ap (λ (n : ℕ). length (headerBytes h) + n) (level-length l l x)
+
+-- the first n bytes of the local array, n being the headers' length
+pub auth-taken : (l : NwkSecurityLevel) (h : NwkHeader) (x y : NwkAuxHeader) (b : List ℕ) (n : ℕ) → y ≡ atLevel l x
+    → take (length (headerBytes h) + length (auxBytes y)) b ≡ headerBytes h ++ auxBytes y
+    → n ≡ length (headerBytes h) + length (auxBytes x) → take n b ≡ authenticated l h x
+unfolding authenticated
+auth-taken l h x y b n e made size =
+    let same : length (auxBytes y) ≡ length (auxBytes x) = ap (λ (z : NwkAuxHeader). length (auxBytes z)) e ∙ level-length l l x in
+    ap (λ (k : ℕ). take k b) (size ∙ ap (λ (k : ℕ). length (headerBytes h) + k) (sym same)) ∙ made
+    ∙ ap (λ (z : NwkAuxHeader). headerBytes h ++ auxBytes z) e
+
+-- ---- splitting and opening
+
+pub mic-split : (s : List ℕ) (r : Split) → r ≡ splitMic s → 4 ≤ length s → r .mic ≡ micOf 4 s
+unfolding splitMic micOf
+mic-split s r e h = ap (λ (k : Split). k .mic) e ∙ rw (le-ltb (length s) 4 h) refl
+
+-- no refusal that needs no key
+pub record Ready (number : ℕ) (h : NwkHeader) (a : OptionAuxHeader) (part room : ℕ) : Type 0 where
+  pub read : number ≡ 0
+  pub present : isAbsent a ≡ false
+  pub tagged : 4 ≤ part
+  pub fits : part - 4 ≤ room
+
+pub ready : (number : ℕ) (h : NwkHeader) (a : OptionAuxHeader) (part room : ℕ) → firstOf (openRefusals 4 number h a part room) ≡ 0
+    → Ready number h a part room
+unfolding openRefusals
+ready number h a part room e =
+    let s1 = none-split _ _ e in
+    let s2 = none-split _ _ (s1 .1) in
+    let s3 = none-split _ _ (s2 .1) in
+    let s4 = none-split _ _ (s3 .1) in
+    let s5 = none-split _ _ (s4 .1) in
+    record {
+      read = s1 .0;
+      present = not-on 13 _ (s2 .0);
+      tagged = ltb-false part 4 (not-on 15 _ (s4 .0));
+      fits = ltb-false room (part - 4) (not-on 17 _ (s5 .0));
+    }
+
+-- what opening needs of a frame that was read and has an auxiliary header
+pub open-facts : (f : List ℕ) → Below 256 f → readFrame f .refusal ≡ 0 → isAbsent (readFrame f .aux) ≡ false
+    → (badHeader (readFrame f .header) ≡ false)
+    × (length (headerBytes (readFrame f .header)) + length (auxBytes (auxOf (readFrame f .aux))) ≤ 118)
+    × (length (drop (readFrame f .length) f) ≤ 127)
+open-facts f u e present =
+    let s = secured-facts f e present in
+    let hf = header-facts f u (s .header) in
+    let af = aux-facts (drop (readHeader f .length) f) (drop-below f (readHeader f .length) 256 u) (s .aux) in
+    let short = hf .short in
+    let within = hf .within in
+    let inside = af .within in
+    let size = af .size in
+    let header : length (headerBytes (readHeader f .header)) ≡ readHeader f .length = ap length (hf .bytes) ∙ length-take-le _ f within in
+    let part = length-drop (readHeader f .length) f in
+    let rest = length-drop (readHeader f .length + auxBehind f (readHeader f) .length) f in
+    rw (s .read) (hf .good, omega arith, omega arith)
+
+-- opening by a number that is not 0
+opened-stop : (n : ℕ) (r : FrameRead) (v : Verified) (o : List ℕ) → (n ≡ 0 → ⊥) → opened n r v o ≡ record { answer = openRefused n; out = o }
+unfolding opened
+opened-stop zero r v o h = absurd (h refl)
+opened-stop (suc n) r v o h = refl
+
+module _ (key f o : List ℕ) (r : FrameRead) (read : r ≡ readFrame f) (n : ℕ)
+    (number : n ≡ firstOf (openRefusals micLength (r .refusal) (r .header) (r .aux) (length (behind f r)) (length o))) where
+  -- the run's number: the first of those that need no key, else by the MIC
+  run-number : openFrame key f o
+      ≡ opened (firstOf (n ∷ on 19 (not (verified networkLevel micLength key f r .valid)) ∷ [])) r (verified networkLevel micLength key f r) o
+  unfolding openFrame openBy openRefusal
+  run-number =
+      ap (λ (k : FrameRead). openBy networkLevel micLength key f k o) (sym read)
+      ∙ ap (λ (k : ℕ). opened (firstOf (k ∷ on 19 (not (verified networkLevel micLength key f r .valid)) ∷ [])) r (verified networkLevel micLength key f r) o) (sym number)
+
+  pub open-stopped : (n ≡ 0 → ⊥) → openFrame key f o ≡ record { answer = openRefused n; out = o }
+  open-stopped h =
+      run-number ∙ ap (λ (k : ℕ). opened k r (verified networkLevel micLength key f r) o) (first-number n _ h)
+      ∙ opened-stop n r (verified networkLevel micLength key f r) o h
+
+  pub open-invalid : n ≡ 0 → verified networkLevel micLength key f r .valid ≡ false → openFrame key f o ≡ record { answer = openRefused 19; out = o }
+  open-invalid e bad =
+      run-number
+      ∙ ap (λ (k : ℕ). opened k r (verified networkLevel micLength key f r) o) (no-number n _ e ∙ stop 18 _ [] (ap not bad))
+      ∙ opened-stop 19 r (verified networkLevel micLength key f r) o (λ (z : 19 ≡ 0). omega arith)
+
+  pub open-valid : n ≡ 0 → verified networkLevel micLength key f r .valid ≡ true
+      → openFrame key f o ≡ record {
+        answer = record { refusal = 0; length = length (verified networkLevel micLength key f r .payload); header = r .header; aux = r .aux };
+        out = over o 0 (verified networkLevel micLength key f r .payload);
+      }
+  unfolding opened
+  open-valid e good =
+      run-number
+      ∙ ap (λ (k : ℕ). opened k r (verified networkLevel micLength key f r) o) (no-number n _ e ∙ skip 19 _ [] (ap not good) ∙ empty)
+
+-- what the output holds by the verdict on the MIC
+pub given-valid : (b : Bool) (v : Verified) (o : List ℕ) → b ≡ true → givenIf b v o ≡ over o 0 (v .payload)
+unfolding givenIf
+given-valid b v o e = ap (λ (x : Bool). cond x (over o 0 (v .payload)) o) e
+
+pub given-invalid : (b : Bool) (v : Verified) (o : List ℕ) → b ≡ false → givenIf b v o ≡ o
+unfolding givenIf
+given-invalid b v o e = ap (λ (x : Bool). cond x (over o 0 (v .payload)) o) e
+
+-- ---- sealing
+
+-- headers, then ciphertext and MIC right behind them
+pub sealed-done : (key : List ℕ) (h : NwkHeader) (x y : NwkAuxHeader) (p o o₁ o₂ : List ℕ) (start : ℕ) (n a : List ℕ)
+    → start ≡ length (headerBytes h) + length (auxBytes x) → y ≡ atLevel sentLevel x → o₁ ≡ over o 0 (headerBytes h ++ auxBytes y)
+    → n ≡ nonce networkLevel h x → a ≡ authenticated networkLevel h x
+    → o₂ ≡ over o₁ start (sealedBy 4 key n a p .ciphertext ++ sealedBy 4 key n a p .tag) → o₂ ≡ over o 0 (sealedBytes networkLevel 4 key h x p)
+unfolding sealedBytes generated
+sealed-done key h x y p o o₁ o₂ start n a size sent first en ea second =
+    let place : start ≡ 0 + length (headerBytes h ++ auxBytes (atLevel sentLevel x)) =
+    size ∙ ap (λ (k : ℕ). length (headerBytes h) + k) (sym (level-length sentLevel sentLevel x))
+    ∙ sym (zero-add _ ∙ length-append (headerBytes h) (auxBytes (atLevel sentLevel x))) in
+    over-then o o₁ o₂ 0 start (headerBytes h ++ auxBytes (atLevel sentLevel x)) _ (omega arith) place
+    (first ∙ ap (λ (z : NwkAuxHeader). over o 0 (headerBytes h ++ auxBytes z)) sent)
+    (second ∙ (λ i. over o₁ start (sealedBy 4 key (en i) (ea i) p .ciphertext ++ sealedBy 4 key (en i) (ea i) p .tag)))
+
+-- ---- opening, by what the calls gave
+
+pub verified-is : (key f part : List ℕ) (r : FrameRead) (x : NwkAuxHeader) → x ≡ auxOf (r .aux) → part ≡ drop (r .length) f
+    → openedBy 4 key (nonce networkLevel (r .header) x) (authenticated networkLevel (r .header) x) (ciphertextOf 4 part) (micOf 4 part)
+    ≡ verified networkLevel 4 key f r
+unfolding verified behind
+verified-is key f part r x ex ep =
+    λ i. openedBy 4 key (nonce networkLevel (r .header) (ex i)) (authenticated networkLevel (r .header) (ex i)) (ciphertextOf 4 (ep i)) (micOf 4 (ep i))
+
+pub ready-facts : (f : List ℕ) (r : FrameRead) → Below 256 f → r ≡ readFrame f → r .refusal ≡ 0 → isAbsent (r .aux) ≡ false
+    → (badHeader (r .header) ≡ false)
+    × (length (headerBytes (r .header)) + length (auxBytes (auxOf (r .aux))) ≤ 118)
+    × (length (drop (r .length) f) ≤ 127)
+ready-facts f r u e read present = rw e (open-facts f u (rw e at read) (rw e at present))
+
+-- the number of the refusals that need no key, by the part's length
+pub number-is : (f part : List ℕ) (r : FrameRead) (n room : ℕ) → part ≡ drop (r .length) f
+    → n ≡ firstOf (openRefusals 4 (r .refusal) (r .header) (r .aux) (length part) room)
+    → n ≡ firstOf (openRefusals micLength (r .refusal) (r .header) (r .aux) (length (behind f r)) room)
+unfolding behind
+number-is f part r n room e h = h ∙ ap (λ (l : List ℕ). firstOf (openRefusals 4 (r .refusal) (r .header) (r .aux) (length l) room)) e
+
+pub payload-size : (key f part : List ℕ) (r : FrameRead) → part ≡ drop (r .length) f → length part - 4 ≡ length (verified networkLevel 4 key f r .payload)
+unfolding behind
+payload-size key f part r e = ap (λ (l : List ℕ). length l - 4) e ∙ sym (payload-length networkLevel 4 key f r)

@@ -1,0 +1,87 @@
+-- The sealing law: a value of each of the two statements in specs/SealingLaw.antt.
+-- Assumes nothing.
+use mathlib.Core.Path.{_≡_, refl, sym, ap, _∙_}
+use mathlib.Core.List.{List}
+use Prim.Native.Nat.{ℕ, _<_}
+use native.Mathlib.Omega.{arith}
+use lib.ListN.{length, getD}
+use Rattle.octets.proofs.Strings.{take-over}
+use Rattle.header.specs.declared.nwk.NwkHeader.{NwkHeader}
+use Rattle.header.specs.Reading.{readHeader}
+use Rattle.header.specs.Writing.{written}
+use Rattle.header.proofs.ReadBack.{same-cleared}
+use Rattle.ccm.specs.Operations.{micLength}
+use Rattle.frame.specs.declared.OptionAuxHeader.{OptionAuxHeader}
+use Rattle.frame.specs.declared.FrameRead.{FrameRead}
+use Rattle.frame.specs.Reading.{readFrame}
+use Rattle.frame.specs.Security.{networkLevel, auxOf}
+use Rattle.frame.specs.Sealing.{sealRefusal, sealedBytes, sealFrame}
+use Rattle.frame.specs.Opening as opening
+use Rattle.frame.specs.Opening.{verified, opened, openBy, openFrame}
+use Rattle.frame.specs.SealingLaw.{FirstHalf, SecondHalf, Reopened, Resealed, bytesWritten, payloadGiven}
+use Rattle.frame.proofs.Accepted.{Sealable, sealable, seal-accepts, written-refusal, Openable, openable, open-accepts, opened-refusal}
+use Rattle.frame.proofs.FirstHalf.{reopened}
+use Rattle.frame.proofs.SecondHalf.{SecuredFacts, secured-facts, wholeRead, sealable-again, frame-again}
+
+-- the bytes of a writer that was not refused
+pub written-bytes : (n : ℕ) (bs o : List ℕ) → n ≡ 0 → bytesWritten (written n bs o) ≡ bs
+unfolding written
+written-bytes n bs o e = ap (λ (k : ℕ). bytesWritten (written k bs o)) e ∙ take-over o bs
+
+seal-number : (key : List ℕ) (h : NwkHeader) (a : OptionAuxHeader) (p o : List ℕ)
+    → sealFrame key h a p o .answer .refusal ≡ sealRefusal micLength h a p (length o)
+unfolding sealFrame
+seal-number key h a p o = written-refusal _ _ o
+
+seal-bytes : (key : List ℕ) (h : NwkHeader) (a : OptionAuxHeader) (p o : List ℕ) → sealRefusal micLength h a p (length o) ≡ 0
+    → bytesWritten (sealFrame key h a p o) ≡ sealedBytes networkLevel micLength key h (auxOf a) p
+unfolding sealFrame
+seal-bytes key h a p o e = written-bytes _ _ o e
+
+pub first-half : FirstHalf
+unfolding openFrame
+first-half key h OptionAuxHeader.Absent p out out₂ fits afits accepted sec agrees aagrees room =
+    absurd (mathlib.Core.Bool.true≢false (sealable micLength h OptionAuxHeader.Absent p (length out) (sym (seal-number key h OptionAuxHeader.Absent p out) ∙ accepted) .present))
+first-half key h (OptionAuxHeader.Present x) p out out₂ fits afits accepted sec agrees aagrees room =
+    let e = sym (seal-number key h (OptionAuxHeader.Present x) p out) ∙ accepted in
+    let s = sealable micLength h (OptionAuxHeader.Present x) p (length out) e in
+    let run = ap (λ (f : List ℕ). openBy networkLevel micLength key f (readFrame f) out₂) (seal-bytes key h (OptionAuxHeader.Present x) p out e)
+    ∙ reopened networkLevel micLength key h x p fits afits (s .good) sec agrees aagrees (s .whole) out₂ (s .ieee) room in
+    record {
+      accepted = ap (λ (r : opening.Run). r .answer .refusal) run;
+      header = rw run (same-cleared h (s .good));
+      auxiliary = ap (λ (r : opening.Run). r .answer .aux) run;
+      payload = ap payloadGiven run ∙ take-over out₂ p;
+    }
+
+opened-accepted : (key f o : List ℕ) → openFrame key f o .answer .refusal ≡ 0 → Openable networkLevel micLength key f (readFrame f) (length o)
+unfolding openFrame openBy
+opened-accepted key f o e = openable networkLevel micLength key f (readFrame f) (length o) (sym (opened-refusal _ _ _ o) ∙ e)
+
+-- what an accepted opening gives, by the parts of the frame
+opened-run : (key f o : List ℕ) → Openable networkLevel micLength key f (readFrame f) (length o) → SecuredFacts f
+    → openFrame key f o ≡ opened 0 (wholeRead f) (verified networkLevel micLength key f (wholeRead f)) o
+unfolding openFrame openBy
+opened-run key f o w s =
+    ap (λ (n : ℕ). opened n (readFrame f) (verified networkLevel micLength key f (readFrame f)) o) (open-accepts networkLevel micLength key f (readFrame f) (length o) w)
+    ∙ ap (λ (r : FrameRead). opened 0 r (verified networkLevel micLength key f r) o) (s .read)
+
+-- sealing afresh what an accepted opening gave
+resealed : (key f out₂ : List ℕ) (h : NwkHeader) (a : OptionAuxHeader) (p : List ℕ) → length out₂ ≡ 118 → Sealable micLength h a p 118
+    → sealedBytes networkLevel micLength key h (auxOf a) p ≡ f → Resealed f (sealFrame key h a p out₂)
+resealed key f out₂ h a p size able same =
+    let e : sealRefusal micLength h a p (length out₂) ≡ 0 = rw size (seal-accepts micLength h a p 118 able) in
+    record { accepted = seal-number key h a p out₂ ∙ e; bytes = seal-bytes key h a p out₂ e ∙ same }
+
+pub second-half : SecondHalf
+unfolding opened
+second-half key f out out₂ bytes accepted control size =
+    let w = opened-accepted key f out accepted in
+    let s = secured-facts f (w .read) (w .present) in
+    let run = opened-run key f out w s in
+    let v = verified networkLevel micLength key f (wholeRead f) in
+    let o : Openable networkLevel micLength key f (wholeRead f) (length out) = rw (s .read) at w in
+    let low : getD f (readHeader f .length) 0 < 128 = omega (arith, control .bit7) in
+    let able = sealable-again networkLevel micLength key f bytes s low (control .level) (length out) o in
+    let same = frame-again networkLevel micLength key f bytes s low (control .level) (o .tagged) (o .valid) in
+    rw (run, take-over out (v .payload)) (resealed key f out₂ _ _ (v .payload) size able same)

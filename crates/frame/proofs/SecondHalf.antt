@@ -1,0 +1,174 @@
+-- The second half of the sealing law: the bytes of the headers that were read are the frame's first bytes, CCM seals again what
+-- it opened to the ciphertext and MIC that follow them, and the two parts are the whole frame. For every level and tag length.
+-- Assumes nothing.
+use mathlib.Core.Path.{_≡_, refl, sym, ap, _∙_}
+use mathlib.Core.Bool.{Bool, true, false, cond, not, _&&_}
+use mathlib.Core.List.{List, [], _∷_, _++_, append-assoc}
+use Prim.Native.Nat.{ℕ, zero, suc, _+_, _-_, _%_, _/_, _≤_, _<_}
+use native.Mathlib.Nat.{add-zero}
+use native.Mathlib.Omega.{arith}
+use lib.ListN.{length, getD, take, drop, length-append, length-drop, take-append-drop}
+use lib.Seq.{take-add, getD-drop, length-take-le}
+use lib.Dec.{ltb}
+use Rattle.octets.specs.Strings.{Below}
+use Rattle.octets.proofs.Refusals.{none-split}
+use Rattle.header.specs.declared.auxiliary.NwkSecurityLevel.{NwkSecurityLevel}
+use Rattle.header.specs.declared.auxiliary.NwkAuxHeader.{NwkAuxHeader}
+use Rattle.header.specs.declared.auxiliary.AuxRead.{AuxRead}
+use Rattle.header.specs.declared.nwk.HeaderRead.{HeaderRead}
+use Rattle.header.specs.declared.nwk.NwkHeader.{NwkHeader}
+use Rattle.header.specs.Reading.{readHeader}
+use Rattle.header.specs.Auxiliary.{auxBytes, readAux}
+use Rattle.header.specs.AuxiliaryControl.{securityOf, withLevel}
+use Rattle.header.specs.Writing.{headerBytes, badHeader}
+use Rattle.header.proofs.ReadFacts.{HeaderFacts, header-facts, AuxFacts, aux-facts}
+use Rattle.header.proofs.AuxiliaryLaws.{aux-length}
+use Rattle.ccm.specs.Verification.{Verified}
+use Rattle.ccm.proofs.Opening.{length-payload, sealed-opened}
+use Rattle.frame.specs.declared.OptionAuxHeader.{OptionAuxHeader}
+use Rattle.frame.specs.declared.FrameRead.{FrameRead}
+use Rattle.frame.specs.Reading.{secured, auxIf, auxBehind, frameRefusal, frameAnswer, frameBy, readFrame}
+use Rattle.frame.specs.Security.{sentLevel, atLevel, isAbsent, auxOf, noIeee, nonce, authenticated}
+use Rattle.frame.specs.Sealing.{generated, sealedBytes, sealedLength}
+use Rattle.frame.specs.Opening.{behind, ciphertextOf, micOf, verified}
+use Rattle.frame.proofs.Accepted.{Sealable, Openable, frame-refusal}
+use Rattle.frame.proofs.FirstHalf.{secured-frame}
+
+-- ---- a frame that was read and has an auxiliary header
+
+-- the parts behind the header of a byte string are byte strings
+pub drop-below : (f : List ℕ) (n m : ℕ) → Below m f → Below m (drop n f)
+drop-below f n m b i = rw (getD-drop n f i 0) (b (n + i))
+
+-- what reading a secured frame gives, by its parts
+abbrev pub wholeRead : List ℕ → FrameRead
+wholeRead f =
+    record {
+      refusal = 0;
+      length = readHeader f .length + auxBehind f (readHeader f) .length;
+      header = readHeader f .header;
+      aux = OptionAuxHeader.Present (auxBehind f (readHeader f) .aux);
+    }
+
+pub record SecuredFacts (f : List ℕ) : Type 0 where
+  pub header : readHeader f .refusal ≡ 0
+  pub aux : auxBehind f (readHeader f) .refusal ≡ 0
+  pub read : readFrame f ≡ wholeRead f
+
+is-secured : (b : Bool) (a : NwkAuxHeader) → isAbsent (auxIf b a) ≡ false → b ≡ true
+is-secured true a e = refl
+is-secured false a e = absurd (mathlib.Core.Bool.true≢false e)
+
+accepted-parts : (f : List ℕ) (h : HeaderRead) (a : AuxRead) → frameRefusal (h .refusal) (secured h) (a .refusal) (length f - h .length) ≡ 0 → isAbsent (frameAnswer h a 0 .aux) ≡ false
+    → (h .refusal ≡ 0) × (secured h ≡ true) × (a .refusal ≡ 0)
+unfolding frameRefusal frameAnswer
+accepted-parts f h a e present =
+    let s1 = none-split _ _ e in
+    let s2 = none-split _ _ (s1 .1) in
+    let s = is-secured (secured h) (a .aux) present in
+    (s1 .0, s, sym (ap (λ (b : Bool). cond b (a .refusal) 0) s) ∙ s2 .0)
+
+pub secured-facts : (f : List ℕ) → readFrame f .refusal ≡ 0 → isAbsent (readFrame f .aux) ≡ false → SecuredFacts f
+unfolding readFrame frameBy
+secured-facts f e present =
+    let h = readHeader f in
+    let a = auxBehind f h in
+    let none : frameRefusal (h .refusal) (secured h) (a .refusal) (length f - h .length) ≡ 0 = sym (frame-refusal h a _) ∙ e in
+    let parts = accepted-parts f h a none (rw none at present) in
+    record { header = parts .0; aux = parts .2; read = secured-frame f h a (parts .1) (parts .0) (parts .2) }
+
+-- ---- sealing again
+
+-- a header at level 0 is the one that is sent
+sent-already : (a : NwkAuxHeader) → a .«security_control» .«security_level» ≡ NwkSecurityLevel.NoSecurity → atLevel sentLevel a ≡ a
+unfolding atLevel withLevel
+sent-already a e =
+    λ i. record {
+      «security_control» = record {
+        «security_level» = sym e i;
+        «key_id» = a .«security_control» .«key_id»;
+        «extended_nonce» = a .«security_control» .«extended_nonce»;
+        «require_verified_frame_counter» = a .«security_control» .«require_verified_frame_counter»;
+      };
+      «frame_counter» = a .«frame_counter»;
+      «extended_source» = a .«extended_source»;
+      «key_sequence_number» = a .«key_sequence_number»;
+    }
+
+-- the payload that CCM opened, and what sealing it makes
+module _ (l : NwkSecurityLevel) (t : ℕ) (key f : List ℕ) (r : FrameRead) where
+  pub payload-length : length (verified l t key f r .payload) ≡ length (behind f r) - t
+  unfolding verified ciphertextOf
+  payload-length = length-payload t _ _ _ _ _ ∙ length-take-le _ (behind f r) (omega arith)
+
+  made-again : t ≤ length (behind f r) → verified l t key f r .valid ≡ true
+      → generated l t key (r .header) (auxOf (r .aux)) (verified l t key f r .payload) .ciphertext
+      ++ generated l t key (r .header) (auxOf (r .aux)) (verified l t key f r .payload) .tag ≡ behind f r
+  unfolding verified generated ciphertextOf micOf
+  made-again tagged valid =
+      let u : length (drop (length (behind f r) - t) (behind f r)) ≡ t = simp length-drop (omega arith) in
+      let s = sealed-opened t _ (nonce l (r .header) (auxOf (r .aux))) (authenticated l (r .header) (auxOf (r .aux)))
+      (take (length (behind f r) - t) (behind f r)) (drop (length (behind f r) - t) (behind f r)) u valid in
+      (λ i. s .0 i ++ s .1 i) ∙ take-append-drop (length (behind f r) - t) (behind f r)
+
+module _ (l : NwkSecurityLevel) (t : ℕ) (key f : List ℕ) (u : Below 256 f) (s : SecuredFacts f)
+    (low : getD f (readHeader f .length) 0 < 128) (zero-level : getD f (readHeader f .length) 0 % 8 ≡ 0) where
+  part : List ℕ
+  part = drop (readHeader f .length) f
+
+  first-behind : getD part 0 0 ≡ getD f (readHeader f .length) 0
+  unfolding part
+  first-behind = getD-drop (readHeader f .length) f 0 0 ∙ ap (λ (k : ℕ). getD f k 0) (add-zero (readHeader f .length))
+
+  hf : HeaderFacts f (readHeader f)
+  hf = header-facts f u (s .header)
+
+  af : AuxFacts part (auxBehind f (readHeader f))
+  unfolding part
+  af = aux-facts (drop (readHeader f .length) f) (drop-below f (readHeader f .length) 256 u) (s .aux)
+
+  headers-again : headerBytes (readHeader f .header) ++ auxBytes (atLevel sentLevel (auxBehind f (readHeader f) .aux))
+      ≡ take (readHeader f .length + auxBehind f (readHeader f) .length) f
+  unfolding part
+  headers-again =
+      (λ i. hf .bytes i ++ (ap auxBytes (sent-already _ (af .plain (rw first-behind zero-level))) ∙ af .exact (rw first-behind low)) i)
+      ∙ sym (take-add (readHeader f .length) (auxBehind f (readHeader f) .length) f)
+
+  pub frame-again : t ≤ length (behind f (wholeRead f)) → verified l t key f (wholeRead f) .valid ≡ true
+      → sealedBytes l t key (readHeader f .header) (auxBehind f (readHeader f) .aux) (verified l t key f (wholeRead f) .payload) ≡ f
+  unfolding sealedBytes behind
+  frame-again tagged valid =
+      (λ i. headers-again i ++ made-again l t key f (wholeRead f) tagged valid i)
+      ∙ take-append-drop (readHeader f .length + auxBehind f (readHeader f) .length) f
+
+  size-behind : length (behind f (wholeRead f)) ≡ length f - (readHeader f .length + auxBehind f (readHeader f) .length)
+  unfolding behind
+  size-behind = length-drop (readHeader f .length + auxBehind f (readHeader f) .length) f
+
+  size-part : length part ≡ length f - readHeader f .length
+  unfolding part
+  size-part = length-drop (readHeader f .length) f
+
+  pub sealable-again : (room : ℕ) → Openable l t key f (wholeRead f) room
+      → Sealable t (readHeader f .header) (OptionAuxHeader.Present (auxBehind f (readHeader f) .aux)) (verified l t key f (wholeRead f) .payload) 118
+  unfolding sealedLength
+  sealable-again room o =
+      let short = hf .short in
+      let least = hf .least in
+      let within = hf .within in
+      let inside = af .within in
+      let tagged = o .tagged in
+      let size = payload-length l t key f (wholeRead f) in
+      let header : length (headerBytes (readHeader f .header)) ≡ readHeader f .length = ap length (hf .bytes) ∙ length-take-le _ f within in
+      let aux = af .size in
+      let six = aux-length (auxBehind f (readHeader f) .aux) in
+      let b = size-behind in
+      let p = size-part in
+      record {
+        good = hf .good;
+        present = refl;
+        ieee = o .ieee;
+        payload = omega arith;
+        whole = omega arith;
+        fits = omega arith;
+      }

@@ -1,0 +1,77 @@
+-- `open_frame` meets its contract: nonce and authenticated bytes are those of the definition. Assumes nothing.
+use borrow.Author.Needs.{needs}
+use mathlib.Core.Path.{_≡_, sym, ap, _∙_}
+use Prim.Native.Nat.{ℕ, _+_}
+use native.Mathlib.Omega.{arith}
+use lib.ListN.{length}
+use Rattle.frame.proofs.opening.open_frame.Statement.{statement}
+use Rattle.frame.proofs.opening.open_frame.Tie as tie
+use Rattle.header.specs.Auxiliary.{auxBytes}
+use Rattle.header.specs.declared.auxiliary.NwkAuxHeader.{NwkAuxHeader}
+use Rattle.frame.proofs.Levels.{level-length}
+use Rattle.ccm.specs.Operations.{openedBy, givenIf}
+use Rattle.frame.specs.Security.{networkLevel}
+use Rattle.frame.specs.Opening.{ciphertextOf, micOf}
+use Rattle.frame.proofs.Returns.{auth-length, auth-taken}
+
+nonce-of-requires : tie.Need-nonce-of-requires
+nonce-of-requires c κs = search needs
+
+at-level-requires : tie.Need-at-level-requires
+at-level-requires c κs = search needs
+
+both-headers-requires : tie.Need-both-headers-requires
+both-headers-requires c κs =
+    let e = ap (λ (z : NwkAuxHeader). length (auxBytes z)) (c .at-level .ensures) ∙ level-length networkLevel networkLevel (c .before .before .before .before .args .aux) in
+    (c .before .before .before .before .pre .0, omega (arith, e, c .before .before .before .before .pre .1))
+
+size-requires : tie.Need-size-requires
+size-requires c κs = search needs
+
+size-requires-2 : tie.Need-size-requires-2
+size-requires-2 c κs = search needs
+
+add-start : tie.Need-add-start
+add-start c = search needs
+
+array-share-prefix-auth : tie.Need-array-share-prefix-auth
+array-share-prefix-auth c = search needs
+
+slice-aggregate-open-part : tie.Need-slice-aggregate-open-part
+slice-aggregate-open-part c =
+    sym (ap length (auth-taken networkLevel (c .before .before .before .before .before .before .before .before .args .h) (c .before .before .before .before .before .before .before .before .args .aux) (c .before .before .before .before .at-level .result) (c .before .before .before .both-headers .result) (c .before .before .size .result + c .before .size2 .result) (c .before .before .before .before .at-level .ensures) (c .before .before .before .both-headers .ensures) (λ i. c .before .before .size .ensures .0 i + c .before .size2 .ensures .0 i))
+    ∙ auth-length networkLevel (c .before .before .before .before .before .before .before .before .args .h) (c .before .before .before .before .before .before .before .before .args .aux) ∙ (λ i. sym (c .before .before .size .ensures .0) i + sym (c .before .size2 .ensures .0) i))
+
+open-part-requires : tie.Need-open-part-requires
+open-part-requires c κs =
+    let e = ap length (auth-taken networkLevel (c .before .before .before .before .before .before .before .before .before .args .h) (c .before .before .before .before .before .before .before .before .before .args .aux) (c .before .before .before .before .before .at-level .result) (c .before .before .before .before .both-headers .result) (c .before .before .before .size .result + c .before .before .size2 .result) (c .before .before .before .before .before .at-level .ensures) (c .before .before .before .before .both-headers .ensures) (λ i. c .before .before .before .size .ensures .0 i + c .before .before .size2 .ensures .0 i)) ∙ auth-length networkLevel (c .before .before .before .before .before .before .before .before .before .args .h) (c .before .before .before .before .before .before .before .before .before .args .aux) in
+    let p = c .before .before .before .before .before .before .before .before .before .pre in
+    (omega (arith, e, p .1), p .2, p .3, p .4)
+
+same-length : tie.Need-same-length
+same-length c = search needs
+
+returns : tie.Need-returns
+returns c =
+    let a = c .before .before .before .before .before .before .before .before .before .before .before .before .args in
+    let e = auth-taken networkLevel (c .before .before .before .before .before .before .before .before .before .before .before .before .args .h) (c .before .before .before .before .before .before .before .before .before .before .before .before .args .aux) (c .before .before .before .before .before .before .before .before .at-level .result) (c .before .before .before .before .before .before .before .both-headers .result) (c .before .before .before .before .before .before .size .result + c .before .before .before .before .before .size2 .result) (c .before .before .before .before .before .before .before .before .at-level .ensures) (c .before .before .before .before .before .before .before .both-headers .ensures) (λ i. c .before .before .before .before .before .before .size .ensures .0 i + c .before .before .before .before .before .size2 .ensures .0 i) in
+    let n = c .before .before .before .before .before .before .before .before .before .nonce-of .ensures in (
+      c .before .before .open-part .ensures .0 ∙ (λ i. openedBy 4 (a .key) (n i) (e i) (ciphertextOf 4 (a .part .now)) (micOf 4 (a .part .now)) .valid),
+      c .before .before .open-part .ensures .1 ∙ (λ i. givenIf (c .before .before .open-part .result) (openedBy 4 (a .key) (n i) (e i) (ciphertextOf 4 (a .part .now)) (micOf 4 (a .part .now))) (a .out .now)),
+    )
+
+pub open-frame-spec : {M : Type 1} → statement M
+open-frame-spec =
+    tie.close
+    (tie.spec
+    nonce-of-requires
+    at-level-requires
+    both-headers-requires
+    size-requires
+    size-requires-2
+    add-start
+    array-share-prefix-auth
+    slice-aggregate-open-part
+    open-part-requires
+    same-length
+    returns)

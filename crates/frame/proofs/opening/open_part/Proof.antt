@@ -1,0 +1,46 @@
+-- `open_part` meets its contract: the part's last four bytes are the MIC. Assumes nothing.
+use borrow.Author.Needs.{needs}
+use mathlib.Core.Path.{_≡_, sym, ap, _∙_}
+use mathlib.Core.List.{List}
+use Prim.Native.Nat.{ℕ, _-_}
+use native.Mathlib.Omega.{arith}
+use lib.ListN.{length, take}
+use lib.Seq.{length-take-le}
+use Rattle.frame.proofs.opening.open_part.Statement.{statement}
+use Rattle.frame.proofs.opening.open_part.Tie as tie
+use Rattle.ccm.specs.Operations.{openedBy, givenIf}
+use Rattle.frame.specs.Opening.{ciphertextOf}
+use Rattle.frame.proofs.Returns.{mic-split}
+
+split-mic-requires : tie.Need-split-mic-requires
+split-mic-requires c κs = search needs
+
+sub-n : tie.Need-sub-n
+sub-n c = search needs
+
+slice-aggregate-open : tie.Need-slice-aggregate-open
+slice-aggregate-open c =
+    sym (length-take-le _ (c .before .before .before .before .before .before .args .part .now) (omega arith))
+
+open-requires : tie.Need-open-requires
+open-requires c κs =
+    let l = length-take-le (length (c .before .before .before .before .before .before .before .args .part .now) - 4) (c .before .before .before .before .before .before .before .args .part .now) (omega arith) in
+    let p = c .before .before .before .before .before .before .before .pre in
+    (p .0, omega (arith, l, p .1), omega (arith, l, p .3))
+
+same-length : tie.Need-same-length
+same-length c = search needs
+
+returns : tie.Need-returns
+unfolding ciphertextOf
+returns c =
+    let a = c .before .before .before .before .before .before .before .before .before .before .args in
+    let m = mic-split (a .part .now) (c .before .before .before .before .before .before .split-mic .result) (c .before .before .before .before .before .before .split-mic .ensures) (c .before .before .before .before .before .before .before .before .before .before .pre .2) in (
+      c .before .before .«open» .ensures .0 ∙ ap (λ (u : List ℕ). openedBy 4 (a .key) (a .nonce) (a .auth .now) (take (length (a .part .now) - 4) (a .part .now)) u .valid) m,
+      c .before .before .«open» .ensures .1 ∙ ap (λ (u : List ℕ). givenIf (c .before .before .«open» .result) (openedBy 4 (a .key) (a .nonce) (a .auth .now) (take (length (a .part .now) - 4) (a .part .now)) u) (a .out .now)) m,
+    )
+
+pub open-part-spec : {M : Type 1} → statement M
+open-part-spec =
+    tie.close
+    (tie.spec split-mic-requires sub-n slice-aggregate-open open-requires same-length returns)

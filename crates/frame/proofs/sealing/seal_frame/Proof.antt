@@ -1,0 +1,91 @@
+-- `seal_frame` meets its contract: nonce and authenticated bytes are those of the definition, and the parts stand one behind the other.
+-- Assumes nothing.
+use borrow.Author.Needs.{needs}
+use mathlib.Core.Path.{_≡_, sym, ap, _∙_}
+use Prim.Native.Nat.{_+_}
+use native.Mathlib.Omega.{arith}
+use lib.ListN.{length}
+use Rattle.frame.proofs.sealing.seal_frame.Statement.{statement}
+use Rattle.frame.proofs.sealing.seal_frame.Tie as tie
+use Rattle.header.specs.Auxiliary.{auxBytes}
+use Rattle.header.specs.declared.auxiliary.NwkAuxHeader.{NwkAuxHeader}
+use Rattle.frame.proofs.Levels.{level-length}
+use Rattle.frame.specs.Security.{networkLevel, sentLevel}
+use Rattle.frame.specs.Sealing.{sealedLength}
+use Rattle.frame.proofs.Returns.{auth-length, auth-taken, sealed-done}
+
+nonce-of-requires : tie.Need-nonce-of-requires
+nonce-of-requires c κs = search needs
+
+at-level-requires : tie.Need-at-level-requires
+at-level-requires c κs = search needs
+
+both-headers-requires : tie.Need-both-headers-requires
+unfolding sealedLength
+both-headers-requires c κs =
+    let e = ap (λ (z : NwkAuxHeader). length (auxBytes z)) (c .at-level .ensures) ∙ level-length networkLevel networkLevel (c .before .before .before .before .args .aux) in
+    (c .before .before .before .before .pre .0, omega (arith, e, c .before .before .before .before .pre .2))
+
+size-requires : tie.Need-size-requires
+size-requires c κs = search needs
+
+size-requires-2 : tie.Need-size-requires-2
+size-requires-2 c κs = search needs
+
+add-start : tie.Need-add-start
+add-start c = search needs
+
+at-level-requires-2 : tie.Need-at-level-requires-2
+at-level-requires-2 c κs = search needs
+
+put-headers-requires : tie.Need-put-headers-requires
+unfolding sealedLength
+put-headers-requires c κs =
+    let e = ap (λ (z : NwkAuxHeader). length (auxBytes z)) (c .before .at-level2 .ensures) ∙ level-length sentLevel sentLevel (c .before .before .before .before .before .before .before .before .before .args .aux) in
+    (c .before .before .before .before .before .before .before .before .before .pre .0, omega (arith, e, c .before .before .before .before .before .before .before .before .before .pre .3))
+
+array-share-prefix-auth : tie.Need-array-share-prefix-auth
+unfolding sealedLength
+array-share-prefix-auth c =
+    omega (arith, c .before .before .before .before .before .before .size .ensures .0, c .before .before .before .before .before .size2 .ensures .0, c .before .before .before .before .before .before .before .before .before .before .before .before .pre .2)
+
+slice-aggregate-put-sealed : tie.Need-slice-aggregate-put-sealed
+slice-aggregate-put-sealed c =
+    sym (ap length (auth-taken networkLevel (c .before .before .before .before .before .before .before .before .before .before .before .before .before .args .h) (c .before .before .before .before .before .before .before .before .before .before .before .before .before .args .aux) (c .before .before .before .before .before .before .before .before .before .at-level .result) (c .before .before .before .before .before .before .before .before .both-headers .result) (c .before .before .before .before .before .before .before .size .result + c .before .before .before .before .before .before .size2 .result) (c .before .before .before .before .before .before .before .before .before .at-level .ensures) (c .before .before .before .before .before .before .before .before .both-headers .ensures) (λ i. c .before .before .before .before .before .before .before .size .ensures .0 i + c .before .before .before .before .before .before .size2 .ensures .0 i))
+    ∙ auth-length networkLevel (c .before .before .before .before .before .before .before .before .before .before .before .before .before .args .h) (c .before .before .before .before .before .before .before .before .before .before .before .before .before .args .aux) ∙ (λ i. sym (c .before .before .before .before .before .before .before .size .ensures .0) i + sym (c .before .before .before .before .before .before .size2 .ensures .0) i))
+
+put-sealed-requires : tie.Need-put-sealed-requires
+unfolding sealedLength
+put-sealed-requires c κs =
+    let e = ap length (auth-taken networkLevel (c .before .before .before .before .before .before .before .before .before .before .before .before .before .before .args .h) (c .before .before .before .before .before .before .before .before .before .before .before .before .before .before .args .aux) (c .before .before .before .before .before .before .before .before .before .before .at-level .result) (c .before .before .before .before .before .before .before .before .before .both-headers .result) (c .before .before .before .before .before .before .before .before .size .result + c .before .before .before .before .before .before .before .size2 .result) (c .before .before .before .before .before .before .before .before .before .before .at-level .ensures) (c .before .before .before .before .before .before .before .before .before .both-headers .ensures) (λ i. c .before .before .before .before .before .before .before .before .size .ensures .0 i + c .before .before .before .before .before .before .before .size2 .ensures .0 i)) ∙ auth-length networkLevel (c .before .before .before .before .before .before .before .before .before .before .before .before .before .before .args .h) (c .before .before .before .before .before .before .before .before .before .before .before .before .before .before .args .aux) in
+    let p = c .before .before .before .before .before .before .before .before .before .before .before .before .before .before .pre in
+    (omega (arith, e, p .2), omega (arith, p .1), omega (arith, c .before .before .before .before .before .before .before .before .size .ensures .0, c .before .before .before .before .before .before .before .size2 .ensures .0, c .before .before .before .before .put-headers .kept .1 .1 .0, p .3))
+
+same-length : tie.Need-same-length
+same-length c = search needs
+
+returns : tie.Need-returns
+returns c =
+    let a = c .before .before .before .before .before .before .before .before .before .before .before .before .before .before .before .before .before .args in
+    sealed-done (a .key) (a .h) (a .aux) (c .before .before .before .before .before .before .before .before .before .at-level2 .result) (a .payload .now) (a .out .now) _ _ (c .before .before .before .before .before .before .before .before .before .before .before .size .result + c .before .before .before .before .before .before .before .before .before .before .size2 .result) _ _
+    (λ i. c .before .before .before .before .before .before .before .before .before .before .before .size .ensures .0 i + c .before .before .before .before .before .before .before .before .before .before .size2 .ensures .0 i) (c .before .before .before .before .before .before .before .before .before .at-level2 .ensures) (c .before .before .before .before .before .before .before .put-headers .ensures) (c .before .before .before .before .before .before .before .before .before .before .before .before .before .before .nonce-of .ensures)
+    (auth-taken networkLevel (c .before .before .before .before .before .before .before .before .before .before .before .before .before .before .before .before .before .args .h) (c .before .before .before .before .before .before .before .before .before .before .before .before .before .before .before .before .before .args .aux) (c .before .before .before .before .before .before .before .before .before .before .before .before .before .at-level .result) (c .before .before .before .before .before .before .before .before .before .before .before .before .both-headers .result) (c .before .before .before .before .before .before .before .before .before .before .before .size .result + c .before .before .before .before .before .before .before .before .before .before .size2 .result) (c .before .before .before .before .before .before .before .before .before .before .before .before .before .at-level .ensures) (c .before .before .before .before .before .before .before .before .before .before .before .before .both-headers .ensures) (λ i. c .before .before .before .before .before .before .before .before .before .before .before .size .ensures .0 i + c .before .before .before .before .before .before .before .before .before .before .size2 .ensures .0 i))
+    (c .before .before .put-sealed .ensures)
+
+pub seal-frame-spec : {M : Type 1} → statement M
+seal-frame-spec =
+    tie.close
+    (tie.spec
+    nonce-of-requires
+    at-level-requires
+    both-headers-requires
+    size-requires
+    size-requires-2
+    add-start
+    at-level-requires-2
+    put-headers-requires
+    array-share-prefix-auth
+    slice-aggregate-put-sealed
+    put-sealed-requires
+    same-length
+    returns)

@@ -1,0 +1,26 @@
+-- `both_headers` meets its contract: the headers stand at the front of the array. Assumes nothing.
+use borrow.Author.Needs.{needs}
+use mathlib.Core.Path.{_≡_, sym, ap, _∙_}
+use mathlib.Core.List.{_++_}
+use Prim.Native.Nat.{ℕ}
+use lib.ListN.{take, length-append}
+use Rattle.frame.proofs.security.both_headers.Statement.{statement}
+use Rattle.frame.proofs.security.both_headers.Tie as tie
+use Rattle.octets.proofs.Strings.{take-over}
+use Rattle.header.specs.Writing.{headerBytes}
+use Rattle.header.specs.Auxiliary.{auxBytes}
+
+slice-aggregate-put-headers : tie.Need-slice-aggregate-put-headers
+slice-aggregate-put-headers c = search needs
+
+put-headers-requires : tie.Need-put-headers-requires
+put-headers-requires c κs = search needs
+
+returns : tie.Need-returns
+returns c =
+    let a = c .before .before .before .args in
+    (λ i. take (sym (length-append (headerBytes (a .h)) (auxBytes (a .aux))) i) (c .before .put-headers .ensures i))
+    ∙ take-over _ (headerBytes (a .h) ++ auxBytes (a .aux))
+
+pub both-headers-spec : {M : Type 1} → statement M
+both-headers-spec = tie.close (tie.spec slice-aggregate-put-headers put-headers-requires returns)

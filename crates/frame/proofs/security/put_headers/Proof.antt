@@ -1,0 +1,33 @@
+-- `put_headers` meets its contract: one header behind the other. Assumes nothing.
+use borrow.Author.Needs.{needs}
+use mathlib.Core.Path.{_≡_, sym, _∙_}
+use native.Mathlib.Nat.{zero-add}
+use native.Mathlib.Omega.{arith}
+use lib.ListN.{length}
+use Rattle.frame.proofs.security.put_headers.Statement.{statement}
+use Rattle.frame.proofs.security.put_headers.Tie as tie
+use Rattle.octets.proofs.Strings.{over-then}
+use Rattle.header.specs.Writing.{headerBytes}
+use Rattle.header.specs.Auxiliary.{auxBytes}
+
+size-requires : tie.Need-size-requires
+size-requires c κs = search needs
+
+put-requires : tie.Need-put-requires
+put-requires c κs = search needs
+
+put-requires-2 : tie.Need-put-requires-2
+put-requires-2 c κs = search needs
+
+same-length : tie.Need-same-length
+same-length c = search needs
+
+returns : tie.Need-returns
+returns c =
+    let a = c .before .before .before .before .before .before .before .before .before .before .args in
+    over-then (a .out .now) _ _ 0 (c .before .before .before .before .before .before .before .before .size .result) (headerBytes (a .h)) (auxBytes (a .aux)) (omega arith)
+    (c .before .before .before .before .before .before .before .before .size .ensures .0 ∙ sym (zero-add (length (headerBytes (a .h))))) (c .before .before .before .before .before .before .put .ensures) (c .before .before .put2 .ensures)
+
+pub put-headers-spec : {M : Type 1} → statement M
+put-headers-spec =
+    tie.close (tie.spec size-requires put-requires put-requires-2 same-length returns)

@@ -1,0 +1,7 @@
+-- NWK frames: reading, writing without a key, sealing and opening, and the sealing law.
+pub mod Reading
+pub mod Writing
+pub mod Security
+pub mod Sealing
+pub mod Opening
+pub mod SealingLaw

@@ -1,0 +1,92 @@
+-- The sealing law (document 01, demand 3 and e), as two statements.
+--
+-- First half. Whatever sealing accepts, if the security bit is set and each presence bit agrees with its field, opening
+-- exactly the bytes written, under the same key, into any output at least as long as the payload, is accepted and gives the
+-- same two headers, only the level now 0, and the same payload bytes, no more and no fewer.
+--
+-- Second half. Whatever frame opening accepts, if its security control byte arrived with level and bit 7 zero, sealing
+-- afresh the two headers and payload bytes it returned, under that key into 118 bytes, is accepted and writes exactly that
+-- frame's bytes, no more and no fewer.
+--
+-- `FirstHalf` and `SecondHalf` say this below; proofs/SealingLaw.antt has a value of each. The premises `HeaderFits`,
+-- `AuxFits` and `Below 256` only say what every value of a type has, that each number is within its type's range; the
+-- functions of src/ranges.rt promise them of every value.
+-- Assumes nothing.
+use mathlib.Core.Path.{_≡_}
+use Prim.Native.Nat.{ℕ, _≤_, _/_, _%_}
+use mathlib.Core.Bool.{true}
+use mathlib.Core.List.{List}
+use lib.ListN.{length, getD, take}
+use Rattle.octets.specs.Strings.{Below}
+use Rattle.header.specs.declared.auxiliary.NwkAuxHeader.{NwkAuxHeader}
+use Rattle.header.specs.declared.nwk.NwkHeader.{NwkHeader}
+use Rattle.header.specs.Reading.{readHeader}
+use Rattle.header.specs.Same.{Agrees, AuxAgrees, SameHeader, HeaderFits, AuxFits}
+use Rattle.header.specs.Writing as writing
+use Rattle.frame.specs.declared.OptionAuxHeader.{OptionAuxHeader}
+use Rattle.frame.specs.Security.{sentLevel, atLevel}
+use Rattle.frame.specs.Sealing.{sealFrame}
+use Rattle.frame.specs.Opening as opening
+use Rattle.frame.specs.Opening.{openFrame}
+
+-- the bytes written, and the payload given: the output's first n bytes, n being the length given
+abbrev pub bytesWritten : writing.Run → List ℕ
+bytesWritten r = take (r .answer .length) (r .out)
+
+abbrev pub payloadGiven : opening.Run → List ℕ
+payloadGiven r = take (r .answer .length) (r .out)
+
+-- an auxiliary header or none: its presence bit agrees with its field; it is within its types' ranges; the same, only
+-- the level now 0
+abbrev pub AuxOptionAgrees : OptionAuxHeader → Type 0
+AuxOptionAgrees OptionAuxHeader.Absent = Unit {0}
+AuxOptionAgrees (OptionAuxHeader.Present a) = AuxAgrees a
+
+abbrev pub AuxOptionFits : OptionAuxHeader → Type 0
+AuxOptionFits OptionAuxHeader.Absent = Unit {0}
+AuxOptionFits (OptionAuxHeader.Present a) = AuxFits a
+
+abbrev pub levelZero : OptionAuxHeader → OptionAuxHeader
+levelZero OptionAuxHeader.Absent = OptionAuxHeader.Absent
+levelZero (OptionAuxHeader.Present a) = OptionAuxHeader.Present (atLevel sentLevel a)
+
+-- ---- the first half
+
+-- what opening r gives, of a frame sealed from the headers h and a and the payload p
+pub record Reopened (h : NwkHeader) (a : OptionAuxHeader) (p : List ℕ) (r : opening.Run) : Type 0 where
+  pub accepted : r .answer .refusal ≡ 0
+  pub header : SameHeader h (r .answer .header)
+  pub auxiliary : r .answer .aux ≡ levelZero a
+  pub payload : payloadGiven r ≡ p
+
+abbrev pub FirstHalf : Type 0
+FirstHalf =
+    (key : List ℕ) (h : NwkHeader) (a : OptionAuxHeader) (p out out₂ : List ℕ)
+    → HeaderFits h → AuxOptionFits a
+    → sealFrame key h a p out .answer .refusal ≡ 0
+    → h .«frame_control» .security ≡ true
+    → Agrees h → AuxOptionAgrees a
+    → length p ≤ length out₂
+    → Reopened h a p (openFrame key (bytesWritten (sealFrame key h a p out)) out₂)
+
+-- ---- the second half
+
+-- the security control byte, the first behind the header, arrived with level and bit 7 zero
+pub record PlainControl (f : List ℕ) : Type 0 where
+  pub level : getD f (readHeader f .length) 0 % 8 ≡ 0
+  pub bit7 : getD f (readHeader f .length) 0 / 128 ≡ 0
+
+-- what sealing afresh writes of an opened frame f
+pub record Resealed (f : List ℕ) (s : writing.Run) : Type 0 where
+  pub accepted : s .answer .refusal ≡ 0
+  pub bytes : bytesWritten s ≡ f
+
+abbrev pub SecondHalf : Type 0
+SecondHalf =
+    (key f out out₂ : List ℕ)
+    → Below 256 f
+    → openFrame key f out .answer .refusal ≡ 0
+    → PlainControl f
+    → length out₂ ≡ 118
+    → Resealed f
+    (sealFrame key (openFrame key f out .answer .header) (openFrame key f out .answer .aux) (payloadGiven (openFrame key f out)) out₂)

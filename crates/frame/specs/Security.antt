@@ -1,0 +1,61 @@
+-- What sealing and opening share (Zigbee Specification 4.3.1.1, 4.3.1.2 and 4.5.2): the network's level in the auxiliary
+-- header, the nonce and the authenticated bytes. The level l and the tag's length t are parameters; the codec's are 5 and 4.
+-- Assumes nothing.
+use Prim.Native.Nat.{ℕ}
+use mathlib.Core.Bool.{Bool, true, false, not, _||_}
+use mathlib.Core.List.{List, _++_}
+use Rattle.octets.specs.Numbers.{le}
+use Rattle.header.specs.declared.auxiliary.NwkSecurityLevel.{NwkSecurityLevel}
+use Rattle.header.specs.declared.auxiliary.NwkAuxHeader.{NwkAuxHeader}
+use Rattle.header.specs.declared.optional.OptionEui64.{OptionEui64}
+use Rattle.header.specs.declared.nwk.NwkHeader.{NwkHeader}
+use Rattle.header.specs.Optional.{hasIeee}
+use Rattle.header.specs.AuxiliaryControl.{securityByte, withLevel}
+use Rattle.header.specs.Auxiliary.{auxBytes, blankAux}
+use Rattle.header.specs.Writing.{headerBytes}
+use Rattle.frame.specs.declared.OptionAuxHeader.{OptionAuxHeader}
+
+-- the network's security level, and the level that is sent in its place
+abbrev pub networkLevel : NwkSecurityLevel
+networkLevel = NwkSecurityLevel.EncMic32
+
+abbrev pub sentLevel : NwkSecurityLevel
+sentLevel = NwkSecurityLevel.NoSecurity
+
+-- the auxiliary header with the level l
+unfoldable pub atLevel : NwkSecurityLevel → NwkAuxHeader → NwkAuxHeader
+atLevel l a =
+    record {
+      «security_control» = withLevel (a .«security_control») l;
+      «frame_counter» = a .«frame_counter»;
+      «extended_source» = a .«extended_source»;
+      «key_sequence_number» = a .«key_sequence_number»;
+    }
+
+abbrev pub isAbsent : OptionAuxHeader → Bool
+isAbsent OptionAuxHeader.Absent = true
+isAbsent (OptionAuxHeader.Present a) = false
+
+-- the auxiliary header that there is, or the blank one
+abbrev pub auxOf : OptionAuxHeader → NwkAuxHeader
+auxOf OptionAuxHeader.Absent = blankAux
+auxOf (OptionAuxHeader.Present a) = a
+
+-- the nonce's IEEE: the auxiliary one, else the header's source
+abbrev pub ieeeOf : OptionEui64 → OptionEui64 → ℕ
+ieeeOf (OptionEui64.Present x) s = x
+ieeeOf OptionEui64.Absent (OptionEui64.Present x) = x
+ieeeOf OptionEui64.Absent OptionEui64.Absent = 0
+
+-- neither has one (refusal 15)
+abbrev pub noIeee : NwkHeader → NwkAuxHeader → Bool
+noIeee h a = not (hasIeee (a .«extended_source») || hasIeee (h .«source_ieee»))
+
+-- 4.5.2.2: source address, frame counter, security control with the network's level
+unfoldable pub nonce : NwkSecurityLevel → NwkHeader → NwkAuxHeader → List ℕ
+nonce l h a =
+    le 8 (ieeeOf (a .«extended_source») (h .«source_ieee»)) ++ (le 4 (a .«frame_counter») ++ le 1 (securityByte (withLevel (a .«security_control») l)))
+
+-- the authenticated bytes: both headers, with the network's level
+unfoldable pub authenticated : NwkSecurityLevel → NwkHeader → NwkAuxHeader → List ℕ
+authenticated l h a = headerBytes h ++ auxBytes (atLevel l a)

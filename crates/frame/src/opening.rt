@@ -1,0 +1,111 @@
+// Opening a frame (Zigbee Specification 4.3.1.2).
+use crate::FrameOpened;
+use crate::FrameRead;
+use crate::OptionAuxHeader;
+use crate::behind;
+use crate::read_frame;
+use crate::security;
+use header::auxiliary::NwkAuxHeader;
+use header::auxiliary::NwkSecurityLevel;
+use header::nwk::NwkHeader;
+use types::Key;
+ghost use mathlib.Core.Path.{_≡_};
+ghost use mathlib.Core.Bool.{false};
+ghost use mathlib.Core.List.{_++_};
+ghost use Prim.Native.Nat.{_+_, _-_, _≤_, _<_};
+ghost use lib.ListN.{length, drop};
+ghost use Rattle.octets.specs.Refusals.{firstOf};
+ghost use Rattle.header.specs.Auxiliary.{auxBytes};
+ghost use Rattle.header.specs.Writing.{badHeader, headerBytes};
+ghost use Rattle.ccm.specs.Operations.{micLength, openedBy, givenIf};
+ghost use Rattle.frame.specs.Security.{networkLevel, nonce, authenticated};
+ghost use Rattle.frame.specs.Opening.{ciphertextOf, micOf, openRefusals, openRefused, openFrame};
+
+impl FrameOpened {
+    // The answer of a refusal: its number alone.
+    fn refused(refusal: u8) -> FrameOpened
+        ensures { λ r. ⌜ r ≡ openRefused refusal ⌝ }
+    {
+        FrameOpened {
+            refusal,
+            length: 0,
+            header: NwkHeader::blank(),
+            aux: OptionAuxHeader::Absent,
+        }
+    }
+}
+
+// The first of the refusals that need no key and hold, or 0: reading's number, then 14, 15, 16 and 18, for the bytes
+// behind the headers and the output's room.
+fn open_refusal(number: u8, h: NwkHeader, aux: OptionAuxHeader, part: usize, room: usize) -> u8
+    ensures { λ r. ⌜ r ≡ firstOf (openRefusals micLength number h aux part room) ⌝ }
+{
+    if number != 0 {
+        return number;
+    }
+    if aux.is_absent() {
+        return 14;
+    }
+    let present = aux.or_blank();
+    if security::no_ieee(h, present) {
+        return 15;
+    }
+    if part < ccm::MIC_LENGTH {
+        return 16;
+    }
+    if room < part - ccm::MIC_LENGTH {
+        return 18;
+    }
+    0
+}
+
+// Open ciphertext and MIC: whether the MIC is the one computed; only then the payload goes to the front of the output.
+fn open_part(key: [u8; 16], nonce: [u8; 13], auth: &[u8], part: &[u8], out: &mut [u8]) -> bool
+    requires { ⌜ (length (now auth) ≤ 127) × (length (now part) ≤ 127) × (4 ≤ length (now part)) × (length (now part) - 4 ≤ length (now out)) ⌝ }
+    ensures valid { λ r. ⌜ r ≡ openedBy micLength key nonce (now (auth .entry)) (ciphertextOf micLength (now (part .entry))) (micOf micLength (now (part .entry))) .valid ⌝ }
+    ensures buffer { λ r. ⌜ now (out .exit) ≡ givenIf r (openedBy micLength key nonce (now (auth .entry)) (ciphertextOf micLength (now (part .entry))) (micOf micLength (now (part .entry)))) (now (out .entry)) ⌝ }
+{
+    let split = ccm::split_mic(part);
+    let mic = split.mic;
+    let n = part.len() - ccm::MIC_LENGTH;
+    ccm::open(key, nonce, auth, &part[..n], mic, out)
+}
+
+// Open a frame that was read and meets no refusal but perhaps 19.
+fn open_frame(key: [u8; 16], h: NwkHeader, aux: NwkAuxHeader, part: &[u8], out: &mut [u8]) -> bool
+    requires { ⌜ (badHeader h ≡ false) × (length (headerBytes h) + length (auxBytes aux) ≤ 118) × (length (now part) ≤ 127) × (4 ≤ length (now part)) × (length (now part) - 4 ≤ length (now out)) ⌝ }
+    ensures valid { λ r. ⌜ r ≡ openedBy micLength key (nonce networkLevel h aux) (authenticated networkLevel h aux) (ciphertextOf micLength (now (part .entry))) (micOf micLength (now (part .entry))) .valid ⌝ }
+    ensures buffer { λ r. ⌜ now (out .exit) ≡ givenIf r (openedBy micLength key (nonce networkLevel h aux) (authenticated networkLevel h aux) (ciphertextOf micLength (now (part .entry))) (micOf micLength (now (part .entry)))) (now (out .entry)) ⌝ }
+{
+    let nonce = security::nonce_of(h, aux, NwkSecurityLevel::EncMic32);
+    let auth = security::both_headers(h, security::at_level(aux, NwkSecurityLevel::EncMic32));
+    let start = h.size() + aux.size();
+    open_part(key, nonce, &auth[..start], part, out)
+}
+
+// Open a frame (`EncryptedNwkFrame::from_bytes` and `decrypt`); refusals 1 to 12, 14, 15, 16, 18 and 19, which change
+// nothing: no plaintext is left after 19.
+pub fn open(key: Key, frame: &[u8], out: &mut [u8]) -> FrameOpened
+    ensures answer { λ r. ⌜ r ≡ openFrame (key .0) (now (frame .entry)) (now (out .entry)) .answer ⌝ }
+    ensures buffer { λ _. ⌜ now (out .exit) ≡ openFrame (key .0) (now (frame .entry)) (now (out .entry)) .out ⌝ }
+{
+    let read = read_frame(frame);
+    let header = read.header;
+    let aux = read.aux;
+    let part = behind(frame, read.length);
+    let refusal = open_refusal(read.refusal, header, aux, part.len(), out.len());
+    if refusal != 0 {
+        return FrameOpened::refused(refusal);
+    }
+    let bytes = key.0;
+    let present = aux.or_blank();
+    if open_frame(bytes, header, present, part, out) {
+        return FrameOpened {
+            refusal: 0,
+            length: part.len() - ccm::MIC_LENGTH,
+            header,
+            aux,
+        };
+    }
+    FrameOpened::refused(19)
+}
