@@ -2,3 +2,4 @@
 pub mod Answer
 pub mod Headers
 pub mod Cipher
+pub mod Frames

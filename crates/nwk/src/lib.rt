@@ -3,5 +3,6 @@
 
 mod answer;
 mod cipher;
+mod frames;
 mod headers;
 mod inputs;
