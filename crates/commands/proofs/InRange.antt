@@ -4,7 +4,7 @@ use mathlib.Core.Path.{_≡_}
 use mathlib.Core.List.{List, [], _∷_, map}
 use Prim.Native.Nat.{ℕ, zero, suc, _<_, _^_}
 use native.Mathlib.Omega.{arith}
-use lib.ListN.{getD}
+use lib.ListN.{length, getD}
 use borrow.Author.Needs.{needs}
 use mir.Syntax.{w16}
 use mir.Val.{Val, Fits}
@@ -61,6 +61,7 @@ pub record InRange (f : NwkCommandFrame) : Type 0 where
   pub relays : (k : ℕ) → getD (f .relays) k 0 < 65536
   pub panIds : (k : ℕ) → getD (f .«pan_ids») k 0 < 65536
   pub powers : (k : ℕ) → (getD (f .«power_list») k noPower .«device_address» < 65536) × (getD (f .«power_list») k noPower .«power_delta» < 256)
+  pub bytes : length (f .unparsed) ≡ 108
 
 pub in-range : (f : NwkCommandFrame) (vs : List Val) → shadow (nwk-command-frame.the-row .own f vs) → InRange f
 in-range f vs s =
@@ -69,6 +70,7 @@ in-range f vs s =
       relays = λ k. let h : Fits w16 (getD (f .relays) k 0) = search needs in h .fits;
       panIds = λ k. let h : Fits w16 (getD (f .«pan_ids») k 0) = search needs in h .fits;
       powers = powers-in (f .«power_list») _ (s .1 .1 .1 .1 .1 .1 .1 .1 .1 .1 .0 .1 .1);
+      bytes = search needs;
     }
 
 listed-in : (k : NwkCommandList) (f : NwkCommandFrame) → InRange f → RangedList k f

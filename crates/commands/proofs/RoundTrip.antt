@@ -76,12 +76,12 @@ read-trailing f rest t e h =
     read-accepts (commandBytes f ++ rest) h ∙ ap accepted (wire-back (f .command) f (wireOf (f .command) f) rest (back (f .command) f) t e)
 
 -- writing accepts
-record Accepted (f : NwkCommandFrame) (room : ℕ) : Type 0 where
-  fields-fit : misfits (listOf (f .command)) (wire f) ≡ false
-  short : length (commandBytes f) ≤ 108
-  room-enough : length (commandBytes f) ≤ room
+pub record Accepted (f : NwkCommandFrame) (room : ℕ) : Type 0 where
+  pub fields-fit : misfits (listOf (f .command)) (wire f) ≡ false
+  pub short : length (commandBytes f) ≤ 108
+  pub room-enough : length (commandBytes f) ≤ room
 
-accepts : (f : NwkCommandFrame) (room : ℕ) → writeRefusal f room ≡ 0 → Accepted f room
+pub accepts : (f : NwkCommandFrame) (room : ℕ) → writeRefusal f room ≡ 0 → Accepted f room
 unfolding writeRefusal
 accepts f room e =
     let a = none-split _ _ e in

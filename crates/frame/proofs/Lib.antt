@@ -5,3 +5,4 @@ pub mod FirstHalf
 pub mod SecondHalf
 pub mod SealingLaw
 pub mod Returns
+pub mod ClearFrames

@@ -1,0 +1,71 @@
+-- `command_writer::checks::links_misfit` meets its contract. The loop's invariant: the entries passed fit. Assumes nothing.
+use native.Mathlib.Omega.{arith}
+use mathlib.Core.Path.{_≡_, refl, sym, ap, subst, _∙_}
+use mathlib.Core.Bool.{true, false, not}
+use Prim.Native.Nat.{ℕ, _-_, _≤_, _<_}
+use borrow.Author.Count.{below-more}
+use borrow.Author.Tests.{not-true, not-false}
+use lib.ListN.{getD}
+use Rattle.command_writer.proofs.checks.links_misfit.Statement.{statement}
+use Rattle.command_writer.proofs.checks.links_misfit.Tie as tie
+use Rattle.commands.specs.Format.{heldFields}
+use Rattle.commands.specs.Commands.{linkStatusFormat, linkEntry, noLink}
+use Rattle.commands.proofs.Format.{held-all, held-not}
+
+abbrev Inv-loop : tie.InvT-loop
+Inv-loop n links k₀ k =
+    (k ≤ n) × ((j : ℕ) → j < k → heldFields (linkStatusFormat .entry) (linkEntry (getD links j noLink)) ≡ true)
+
+abbrev μ-loop : tie.MeasureT-loop
+μ-loop n links k₀ k = n - k
+
+loop-holds : tie.Need-loop-holds Inv-loop μ-loop
+loop-holds c = (omega arith, λ j l. absurd (omega arith))
+
+mul-link : tie.Need-mul-link Inv-loop μ-loop
+mul-link c = omega arith
+
+array-copy-out-link : tie.Need-array-copy-out-link Inv-loop μ-loop
+array-copy-out-link c = omega arith
+
+link-misfits-requires : tie.Need-link-misfits-requires Inv-loop μ-loop
+link-misfits-requires c κs = tt
+
+returns : tie.Need-returns Inv-loop μ-loop
+returns c =
+    let a = c .before .before .before .before .before .args in
+    let l = c .before .before .before .before .loop in
+    sym (ap not (held-not (linkStatusFormat .entry) (λ (j : ℕ). linkEntry (getD (a .t1) j noLink)) (a .n) (l .k) (c .before .before .before .loop-test .taken) (not-true _ (sym (c .before .link-misfits .ensures) ∙ c .if1 .taken))))
+
+add-k : tie.Need-add-k Inv-loop μ-loop
+add-k c = omega arith
+
+loop-less : tie.Need-loop-less Inv-loop μ-loop
+loop-less c = omega arith
+
+loop-again : tie.Need-loop-again Inv-loop μ-loop
+loop-again c =
+    let l = c .before .before .before .before .loop in
+    (omega arith, below-more _ _ (l .inv .1) (not-false _ (sym (c .before .link-misfits .ensures) ∙ c .if1 .left)))
+
+returns-2 : tie.Need-returns-2 Inv-loop μ-loop
+returns-2 c =
+    let a = c .before .before .args in
+    let l = c .before .loop in
+    sym (ap not (held-all (linkStatusFormat .entry) (λ (j : ℕ). linkEntry (getD (a .t1) j noLink)) (a .n) (λ j h. l .inv .1 j (omega arith))))
+
+pub links-misfit-spec : {M : Type 1} → statement M
+links-misfit-spec =
+    tie.close
+    (tie.spec
+    Inv-loop
+    μ-loop
+    loop-holds
+    mul-link
+    array-copy-out-link
+    link-misfits-requires
+    returns
+    add-k
+    loop-less
+    loop-again
+    returns-2)

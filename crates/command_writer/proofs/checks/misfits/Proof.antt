@@ -1,0 +1,105 @@
+-- `command_writer::checks::misfits` meets its contract: by the command's own list, of the tests that the types leave.
+-- Assumes nothing.
+use borrow.Author.Needs.{needs}
+use mathlib.Core.Path.{_≡_, refl, sym, ap, subst, _∙_}
+use mathlib.Core.List.{List}
+use lib.Dec.{ltb}
+use Rattle.command_writer.proofs.checks.misfits.Statement.{statement}
+use Rattle.command_writer.proofs.checks.misfits.Tie as tie
+use mir.Val.{Val}
+use denote.Shadow.{shadow}
+use Rattle.commands.specs.Reading.{listOf}
+use Rattle.commands.specs.Writing.{wire, misfits}
+use Rattle.commands.specs.declared.NwkCommandFrame.{NwkCommandFrame}
+use Rattle.commands.specs.declared.NwkCommandList.{NwkCommandList}
+use Rattle.commands.proofs.Ranges.{tooBig}
+use Rattle.commands.proofs.InRange.{in-range, misfits-test}
+use Rattle.commands.proofs.NwkCommandFrame as nwk-command-frame
+
+-- the test of the command's own list
+test : (f : NwkCommandFrame) {vs : List Val} → shadow (nwk-command-frame.the-row .own f vs) → (k : NwkCommandList) → k ≡ listOf (f .command)
+    → tooBig k (f .command) f ≡ misfits (listOf (f .command)) (wire f)
+test f {vs} g k e = ap (λ (j : NwkCommandList). tooBig j (f .command) f) e ∙ sym (misfits-test f (in-range f vs g))
+
+list-requires : tie.Need-list-requires
+list-requires c κs = search needs
+
+enum-told : tie.Need-enum-told
+enum-told c = search needs
+
+update-count-requires : tie.Need-update-count-requires
+update-count-requires c κs = search needs
+
+enum-told-2 : tie.Need-enum-told-2
+enum-told-2 c = search needs
+
+enum-told-3 : tie.Need-enum-told-3
+enum-told-3 c = search needs
+
+link-status-misfits-requires : tie.Need-link-status-misfits-requires
+link-status-misfits-requires c κs = search needs
+
+enum-told-4 : tie.Need-enum-told-4
+enum-told-4 c = search needs
+
+enum-told-5 : tie.Need-enum-told-5
+enum-told-5 c = search needs
+
+enum-told-6 : tie.Need-enum-told-6
+enum-told-6 c = search needs
+
+returns : tie.Need-returns
+unfolding tooBig
+returns c =
+    let f = c .before .before .before .before .args .frame in
+    (λ i. ltb 31 (c .update-count .ensures i)) ∙ test f (c .before .before .before .before .good .0) _ (sym (c .before .enum-told .given .1) ∙ c .before .before .before .list .ensures)
+
+returns-2 : tie.Need-returns-2
+unfolding tooBig
+returns-2 c =
+    let f = c .before .before .before .before .args .frame in
+    test f (c .before .before .before .before .good .0) _ (sym (c .before .enum-told2 .given .1) ∙ c .before .before .before .list .ensures)
+
+returns-3 : tie.Need-returns-3
+unfolding tooBig
+returns-3 c =
+    let f = c .before .before .before .before .before .args .frame in
+    c .link-status-misfits .ensures ∙ test f (c .before .before .before .before .before .good .0) _ (sym (c .before .before .enum-told3 .given .1) ∙ c .before .before .before .before .list .ensures)
+
+returns-4 : tie.Need-returns-4
+unfolding tooBig
+returns-4 c =
+    let f = c .before .before .before .before .args .frame in
+    test f (c .before .before .before .before .good .0) _ (sym (c .before .enum-told4 .given .1) ∙ c .before .before .before .list .ensures)
+
+returns-5 : tie.Need-returns-5
+unfolding tooBig
+returns-5 c =
+    let f = c .before .before .before .before .args .frame in
+    test f (c .before .before .before .before .good .0) _ (sym (c .before .enum-told5 .given .1) ∙ c .before .before .before .list .ensures)
+
+returns-6 : tie.Need-returns-6
+unfolding tooBig
+returns-6 c =
+    let f = c .before .before .before .args .frame in
+    test f (c .before .before .before .good .0) _ (sym (c .enum-told6 .given .1) ∙ c .before .before .list .ensures)
+
+pub misfits-spec : {M : Type 1} → statement M
+misfits-spec =
+    tie.close
+    (tie.spec
+    list-requires
+    enum-told
+    update-count-requires
+    enum-told-2
+    enum-told-3
+    link-status-misfits-requires
+    enum-told-4
+    enum-told-5
+    enum-told-6
+    returns
+    returns-2
+    returns-3
+    returns-4
+    returns-5
+    returns-6)

@@ -1,0 +1,160 @@
+// What is looked at before a command is written: its exact length, and refusals 13, 17 and 18 in this order.
+
+ghost use mathlib.Core.Path.{_≡_};
+ghost use mathlib.Core.Bool.{not, _||_};
+ghost use Prim.Native.Nat.{ℕ, _+_, _*_, _≤_};
+ghost use lib.ListN.{length, getD};
+ghost use lib.Dec.{ltb};
+ghost use Rattle.octets.specs.Strings.{tab};
+ghost use Rattle.commands.specs.Format.{heldFields, heldEntries};
+ghost use Rattle.commands.specs.Commands.{has, linkStatusFormat, linkEntry, noLink};
+ghost use Rattle.commands.specs.Reading.{listOf};
+ghost use Rattle.commands.specs.Writing.{wire, misfits, updateCount, commandBytes, writeRefusal};
+use command_fields::puts;
+use commands::NwkCommand;
+use commands::NwkCommandFrame;
+use commands::NwkCommandList;
+use commands::NwkLinkStatus;
+use commands::NwkRouteReplyCommand;
+use commands::NwkRouteRequestCommand;
+
+// The most bytes that a command has.
+const MAX_NSDU_SIZE: usize = 108;
+
+// The length of a route request.
+fn route_request_length(c: NwkRouteRequestCommand) -> usize
+    ensures { λ r. ⌜ r ≡ 6 + has (c .«destination_eui64») * 8 ⌝ }
+{
+    let address = c.destination_eui64;
+    6 + (puts::has_address(address) as usize) * 8
+}
+
+// The length of a route reply.
+fn route_reply_length(c: NwkRouteReplyCommand) -> usize
+    ensures { λ r. ⌜ r ≡ 8 + has (c .«originator_eui64») * 8 + has (c .«responder_eui64») * 8 ⌝ }
+{
+    let originator = c.originator_eui64;
+    let responder = c.responder_eui64;
+    8 + (puts::has_address(originator) as usize) * 8 + (puts::has_address(responder) as usize) * 8
+}
+
+// The exact length of a command's bytes.
+pub fn length_of(frame: NwkCommandFrame) -> usize
+    ensures { λ r. ⌜ r ≡ length (commandBytes frame) ⌝ }
+{
+    let command = frame.command;
+    match command {
+        NwkCommand::RouteRequest(c) => route_request_length(c),
+        NwkCommand::RouteReply(c) => route_reply_length(c),
+        NwkCommand::NetworkStatus(_) => 4,
+        NwkCommand::Leave(_) => 2,
+        NwkCommand::RouteRecord => 2 + (frame.relay_count as usize) * 2,
+        NwkCommand::RejoinRequest(_) => 2,
+        NwkCommand::RejoinResponse(_) => 4,
+        NwkCommand::LinkStatus(_) => 2 + (frame.link_statuses_len as usize) * 3,
+        NwkCommand::NetworkReport(_) => 10 + (frame.report_information_count as usize) * 2,
+        NwkCommand::NetworkUpdate(_) => 13,
+        NwkCommand::EndDeviceTimeoutRequest(_) => 3,
+        NwkCommand::EndDeviceTimeoutResponse(_) => 3,
+        NwkCommand::LinkPowerDelta(_) => 3 + (frame.list_count as usize) * 3,
+        NwkCommand::NetworkCommissioningRequest(_) => 3,
+        NwkCommand::NetworkCommissioningResponse(_) => 4,
+        NwkCommand::Unparsed => frame.unparsed_len as usize,
+    }
+}
+
+// The stored count of a network update, 0 for the others.
+fn update_count(command: NwkCommand) -> u8
+    ensures { λ r. ⌜ r ≡ updateCount command ⌝ }
+{
+    match command {
+        NwkCommand::RouteRequest(_) => 0,
+        NwkCommand::RouteReply(_) => 0,
+        NwkCommand::NetworkStatus(_) => 0,
+        NwkCommand::Leave(_) => 0,
+        NwkCommand::RouteRecord => 0,
+        NwkCommand::RejoinRequest(_) => 0,
+        NwkCommand::RejoinResponse(_) => 0,
+        NwkCommand::LinkStatus(_) => 0,
+        NwkCommand::NetworkReport(_) => 0,
+        NwkCommand::NetworkUpdate(c) => c.update_information_count,
+        NwkCommand::EndDeviceTimeoutRequest(_) => 0,
+        NwkCommand::EndDeviceTimeoutResponse(_) => 0,
+        NwkCommand::LinkPowerDelta(_) => 0,
+        NwkCommand::NetworkCommissioningRequest(_) => 0,
+        NwkCommand::NetworkCommissioningResponse(_) => 0,
+        NwkCommand::Unparsed => 0,
+    }
+}
+
+// A link status entry has a cost over 7.
+fn link_misfits(link: NwkLinkStatus) -> bool
+    ensures { λ r. ⌜ r ≡ not (heldFields (linkStatusFormat .entry) (linkEntry link)) ⌝ }
+{
+    if link.incoming_cost > 7 {
+        return true;
+    }
+    link.outgoing_cost > 7
+}
+
+// One of the first n link status entries has a cost over 7.
+fn links_misfit(links: [NwkLinkStatus; 31], n: usize) -> bool
+    requires { ⌜ n ≤ 31 ⌝ }
+    ensures { λ r. ⌜ r ≡ not (heldEntries (linkStatusFormat .entry) (tab (λ (k : ℕ). linkEntry (getD links k noLink)) n)) ⌝ }
+{
+    let mut k = 0;
+    while k < n {
+        let link = links[k];
+        if link_misfits(link) {
+            return true;
+        }
+        k += 1;
+    }
+    false
+}
+
+// A link status has too many entries, or a cost over 7.
+fn link_status_misfits(links: [NwkLinkStatus; 31], n: u8) -> bool
+    ensures { λ r. ⌜ r ≡ (ltb 31 n || not (heldEntries (linkStatusFormat .entry) (tab (λ (k : ℕ). linkEntry (getD links k noLink)) n))) ⌝ }
+{
+    if n > 31 {
+        return true;
+    }
+    links_misfit(links, n as usize)
+}
+
+// A field exceeds its bits, or the command's list its places.
+fn misfits(frame: NwkCommandFrame) -> bool
+    ensures { λ r. ⌜ r ≡ misfits (listOf (frame .command)) (wire frame) ⌝ }
+{
+    let command = frame.command;
+    let list = command.list();
+    match list {
+        NwkCommandList::NoList => update_count(command) > 31,
+        NwkCommandList::Relays => frame.relay_count > 53,
+        NwkCommandList::LinkStatuses => {
+            let links = frame.link_statuses;
+            link_status_misfits(links, frame.link_statuses_len)
+        }
+        NwkCommandList::PanIds => frame.report_information_count > 31,
+        NwkCommandList::PowerList => frame.list_count > 35,
+        NwkCommandList::Bytes => false,
+    }
+}
+
+// The refusal number, or 0: 13, 17 and 18 in this order.
+pub fn refusal(frame: NwkCommandFrame, room: usize) -> u8
+    ensures { λ r. ⌜ r ≡ writeRefusal frame room ⌝ }
+{
+    if misfits(frame) {
+        return 13;
+    }
+    let n = length_of(frame);
+    if n > MAX_NSDU_SIZE {
+        return 17;
+    }
+    if room < n {
+        return 18;
+    }
+    0
+}

@@ -1,0 +1,75 @@
+-- A clear frame: reading what was written without a key gives header and payload back, where the security bit is off and
+-- the presence bits agree with their fields.
+-- Assumes nothing.
+use mathlib.Core.Path.{_≡_, refl, sym, ap, _∙_}
+use mathlib.Core.Bool.{Bool, false, cond, not, _&&_}
+use mathlib.Core.List.{List, _++_}
+use Prim.Native.Nat.{ℕ, _+_, _-_, _≤_}
+use native.Mathlib.Nat.{add-zero}
+use native.Mathlib.Omega.{arith}
+use lib.ListN.{length, drop, length-append}
+use lib.Seq.{drop-at}
+use lib.Dec.{ltb}
+use borrow.Author.Tests.{le-ltb}
+use Rattle.octets.proofs.Refusals.{none-join, skip, empty}
+use Rattle.header.specs.declared.auxiliary.AuxRead.{AuxRead}
+use Rattle.header.specs.declared.control.NwkFrameControl.{NwkFrameControl}
+use Rattle.header.specs.declared.nwk.HeaderRead.{HeaderRead}
+use Rattle.header.specs.declared.nwk.NwkHeader.{NwkHeader}
+use Rattle.header.specs.Reading.{readHeader}
+use Rattle.header.specs.Same.{Agrees, SameHeader, cleared, HeaderFits}
+use Rattle.header.specs.Writing.{headerBytes, written}
+use Rattle.header.proofs.ReadBack.{read-back, same-cleared}
+use Rattle.frame.specs.declared.OptionAuxHeader.{OptionAuxHeader}
+use Rattle.frame.specs.declared.FrameRead.{FrameRead}
+use Rattle.frame.specs.Reading.{secured, auxIf, auxBehind, frameRefusal, frameAnswer, frameBy, readFrame}
+use Rattle.frame.specs.Writing.{frameBytes, frameWriteRefusal, writeFrame}
+use Rattle.frame.specs.SealingLaw.{bytesWritten}
+use Rattle.frame.proofs.Accepted.{ClearWritable, clear-writable, written-refusal}
+use Rattle.frame.proofs.SealingLaw.{written-bytes}
+
+-- the frame whose header has been read, the security bit being off
+clear-frame : (f : List ℕ) (h : HeaderRead) (a : AuxRead) → secured h ≡ false → h .refusal ≡ 0 → length f - h .length ≤ 108
+    → frameBy f h a ≡ record { refusal = 0; length = h .length; header = h .header; aux = OptionAuxHeader.Absent }
+unfolding frameBy frameRefusal frameAnswer
+clear-frame f h a s e short =
+    let none : frameRefusal (h .refusal) (secured h) (a .refusal) (length f - h .length) ≡ 0 =
+    none-join (h .refusal) _ e
+    (none-join (cond (secured h) (a .refusal) 0) _ (ap (λ (b : Bool). cond b (a .refusal) 0) s)
+    (skip 12 _ _ (ap (λ (b : Bool). not b && ltb 108 (length f - h .length)) s ∙ le-ltb 108 (length f - h .length) short) ∙ empty)) in
+    ap (frameAnswer h a) none
+    ∙ (λ i. record { refusal = 0; length = h .length + cond (s i) (a .length) 0; header = h .header; aux = auxIf (s i) (a .aux) })
+    ∙ (λ i. record { refusal = 0; length = add-zero (h .length) i; header = h .header; aux = OptionAuxHeader.Absent })
+
+-- what reading a clear frame gives of a header h and a payload p
+pub record ReadBack (h : NwkHeader) (p f : List ℕ) (r : FrameRead) : Type 0 where
+  pub accepted : r .refusal ≡ 0
+  pub header : SameHeader h (r .header)
+  pub auxiliary : r .aux ≡ OptionAuxHeader.Absent
+  pub payload : drop (r .length) f ≡ p
+
+clear-read : (h : NwkHeader) (p : List ℕ) (room : ℕ) → HeaderFits h → h .«frame_control» .security ≡ false → Agrees h → ClearWritable h p room
+    → ReadBack h p (frameBytes h p) (readFrame (frameBytes h p))
+unfolding frameBytes readFrame
+clear-read h p room fits off agrees w =
+    let whole = w .whole in
+    let header : readHeader (headerBytes h ++ p) ≡ record { refusal = 0; length = length (headerBytes h); header = cleared h } =
+    read-back h p fits (w .good) agrees whole in
+    let size : length (headerBytes h ++ p) - length (headerBytes h) ≤ 108 = omega (arith, length-append (headerBytes h) p, w .payload) in
+    let run : readFrame (headerBytes h ++ p) ≡ record { refusal = 0; length = length (headerBytes h); header = cleared h; aux = OptionAuxHeader.Absent } =
+    ap (λ (k : HeaderRead). frameBy (headerBytes h ++ p) k (auxBehind (headerBytes h ++ p) k)) header
+    ∙ clear-frame (headerBytes h ++ p) _ _ (ap (λ (k : NwkFrameControl). k .security) (sym (same-cleared h (w .good) .control)) ∙ off) refl size in
+    record {
+      accepted = ap (λ (r : FrameRead). r .refusal) run;
+      header = rw run (same-cleared h (w .good));
+      auxiliary = ap (λ (r : FrameRead). r .aux) run;
+      payload = ap (λ (r : FrameRead). drop (r .length) (headerBytes h ++ p)) run ∙ drop-at (headerBytes h) p (length (headerBytes h)) refl;
+    }
+
+pub clear-back : (h : NwkHeader) (p out : List ℕ) → HeaderFits h → writeFrame h p out .answer .refusal ≡ 0
+    → h .«frame_control» .security ≡ false → Agrees h
+    → ReadBack h p (bytesWritten (writeFrame h p out)) (readFrame (bytesWritten (writeFrame h p out)))
+unfolding writeFrame
+clear-back h p out fits accepted off agrees =
+    let e : frameWriteRefusal h p (length out) ≡ 0 = sym (written-refusal _ _ out) ∙ accepted in
+    rw (written-bytes _ (frameBytes h p) out e) (clear-read h p (length out) fits off agrees (clear-writable h p (length out) e))
