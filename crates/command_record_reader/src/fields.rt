@@ -87,7 +87,8 @@ fn capability_at(bytes: &[u8], i: usize) -> NwkRejoinCapabilityInformation
 fn route_request_at(bytes: &[u8]) -> TypedBody
     ensures { λ r. ⌜ r ≡ commandOf NwkCommandId.RouteRequest (recordValues NwkCommandId.RouteRequest (now (bytes .entry))) ⌝ }
 {
-    let NwkRouteRequestManyToOneCode::Known(many_to_one) = NwkRouteRequestManyToOne::try_from(octets::byte_at(bytes, 1)) else {
+    let NwkRouteRequestManyToOneCode::Known(many_to_one) =
+        NwkRouteRequestManyToOne::try_from(octets::byte_at(bytes, 1)) else {
         return TypedBody::NotTyped;
     };
     let destination_eui64 = address_at(bytes, 6);
@@ -120,7 +121,10 @@ fn route_reply_at(bytes: &[u8]) -> TypedBody
 fn network_status_at(bytes: &[u8]) -> TypedBody
     ensures { λ r. ⌜ r ≡ commandOf NwkCommandId.NetworkStatus (recordValues NwkCommandId.NetworkStatus (now (bytes .entry))) ⌝ }
 {
-    let NwkNetworkStatusCode::Known(status_code) = NwkNetworkStatus::try_from(octets::byte_at(bytes, 1)) else {
+    let NwkNetworkStatusCode::Known(status_code) = NwkNetworkStatus::try_from(octets::byte_at(
+        bytes,
+        1,
+    )) else {
         return TypedBody::NotTyped;
     };
     TypedBody::Typed(NwkCommand::NetworkStatus(NwkNetworkStatusCommand {
@@ -154,7 +158,8 @@ fn rejoin_request_at(bytes: &[u8]) -> TypedBody
 fn rejoin_response_at(bytes: &[u8]) -> TypedBody
     ensures { λ r. ⌜ r ≡ commandOf NwkCommandId.RejoinResponse (recordValues NwkCommandId.RejoinResponse (now (bytes .entry))) ⌝ }
 {
-    let Nwk802154AssociationStatusCode::Known(rejoin_status) = Nwk802154AssociationStatus::try_from(octets::byte_at(bytes, 3)) else {
+    let Nwk802154AssociationStatusCode::Known(rejoin_status) =
+        Nwk802154AssociationStatus::try_from(octets::byte_at(bytes, 3)) else {
         return TypedBody::NotTyped;
     };
     TypedBody::Typed(NwkCommand::RejoinResponse(NwkRejoinResponseCommand {
@@ -177,7 +182,8 @@ fn link_status_at(bytes: &[u8]) -> TypedBody
 fn network_report_at(bytes: &[u8]) -> TypedBody
     ensures { λ r. ⌜ r ≡ commandOf NwkCommandId.NetworkReport (recordValues NwkCommandId.NetworkReport (now (bytes .entry))) ⌝ }
 {
-    let NwkReportCommandIdentifierCode::Known(report_command_identifier) = NwkReportCommandIdentifier::try_from(octets::byte_at(bytes, 1)) else {
+    let NwkReportCommandIdentifierCode::Known(report_command_identifier) =
+        NwkReportCommandIdentifier::try_from(octets::byte_at(bytes, 1)) else {
         return TypedBody::NotTyped;
     };
     TypedBody::Typed(NwkCommand::NetworkReport(NwkNetworkReportCommand {
@@ -190,7 +196,8 @@ fn network_report_at(bytes: &[u8]) -> TypedBody
 fn network_update_at(bytes: &[u8]) -> TypedBody
     ensures { λ r. ⌜ r ≡ commandOf NwkCommandId.NetworkUpdate (recordValues NwkCommandId.NetworkUpdate (now (bytes .entry))) ⌝ }
 {
-    let NwkUpdateCommandIdentifierCode::Known(update_command_identifier) = NwkUpdateCommandIdentifier::try_from(octets::byte_at(bytes, 2)) else {
+    let NwkUpdateCommandIdentifierCode::Known(update_command_identifier) =
+        NwkUpdateCommandIdentifier::try_from(octets::byte_at(bytes, 2)) else {
         return TypedBody::NotTyped;
     };
     TypedBody::Typed(NwkCommand::NetworkUpdate(NwkNetworkUpdateCommand {
@@ -206,7 +213,8 @@ fn network_update_at(bytes: &[u8]) -> TypedBody
 fn timeout_request_at(bytes: &[u8]) -> TypedBody
     ensures { λ r. ⌜ r ≡ commandOf NwkCommandId.EndDeviceTimeoutRequest (recordValues NwkCommandId.EndDeviceTimeoutRequest (now (bytes .entry))) ⌝ }
 {
-    let EndDeviceTimeoutCode::Known(request_timeout_enum) = EndDeviceTimeout::try_from(octets::byte_at(bytes, 1)) else {
+    let EndDeviceTimeoutCode::Known(request_timeout_enum) =
+        EndDeviceTimeout::try_from(octets::byte_at(bytes, 1)) else {
         return TypedBody::NotTyped;
     };
     TypedBody::Typed(NwkCommand::EndDeviceTimeoutRequest(NwkEndDeviceTimeoutRequestCommand {
@@ -219,7 +227,8 @@ fn timeout_request_at(bytes: &[u8]) -> TypedBody
 fn timeout_response_at(bytes: &[u8]) -> TypedBody
     ensures { λ r. ⌜ r ≡ commandOf NwkCommandId.EndDeviceTimeoutResponse (recordValues NwkCommandId.EndDeviceTimeoutResponse (now (bytes .entry))) ⌝ }
 {
-    let NwkEndDeviceTimeoutResponseStatusCode::Known(status) = NwkEndDeviceTimeoutResponseStatus::try_from(octets::byte_at(bytes, 1)) else {
+    let NwkEndDeviceTimeoutResponseStatusCode::Known(status) =
+        NwkEndDeviceTimeoutResponseStatus::try_from(octets::byte_at(bytes, 1)) else {
         return TypedBody::NotTyped;
     };
     TypedBody::Typed(NwkCommand::EndDeviceTimeoutResponse(NwkEndDeviceTimeoutResponseCommand {
@@ -234,7 +243,8 @@ fn timeout_response_at(bytes: &[u8]) -> TypedBody
 fn link_power_delta_at(bytes: &[u8]) -> TypedBody
     ensures { λ r. ⌜ r ≡ commandOf NwkCommandId.LinkPowerDelta (recordValues NwkCommandId.LinkPowerDelta (now (bytes .entry))) ⌝ }
 {
-    let NwkLinkPowerDeltaTypeCode::Known(command_type) = NwkLinkPowerDeltaType::try_from(octets::byte_at(bytes, 1)) else {
+    let NwkLinkPowerDeltaTypeCode::Known(command_type) =
+        NwkLinkPowerDeltaType::try_from(octets::byte_at(bytes, 1)) else {
         return TypedBody::NotTyped;
     };
     TypedBody::Typed(NwkCommand::LinkPowerDelta(NwkLinkPowerDeltaCommand { command_type }))
@@ -244,7 +254,8 @@ fn link_power_delta_at(bytes: &[u8]) -> TypedBody
 fn commissioning_request_at(bytes: &[u8]) -> TypedBody
     ensures { λ r. ⌜ r ≡ commandOf NwkCommandId.NetworkCommissioningRequest (recordValues NwkCommandId.NetworkCommissioningRequest (now (bytes .entry))) ⌝ }
 {
-    let NwkCommissioningTypeCode::Known(commissioning_type) = NwkCommissioningType::try_from(octets::byte_at(bytes, 1)) else {
+    let NwkCommissioningTypeCode::Known(commissioning_type) =
+        NwkCommissioningType::try_from(octets::byte_at(bytes, 1)) else {
         return TypedBody::NotTyped;
     };
     let capability_information = capability_at(bytes, 2);
@@ -258,7 +269,8 @@ fn commissioning_request_at(bytes: &[u8]) -> TypedBody
 fn commissioning_response_at(bytes: &[u8]) -> TypedBody
     ensures { λ r. ⌜ r ≡ commandOf NwkCommandId.NetworkCommissioningResponse (recordValues NwkCommandId.NetworkCommissioningResponse (now (bytes .entry))) ⌝ }
 {
-    let Nwk802154AssociationStatusCode::Known(status) = Nwk802154AssociationStatus::try_from(octets::byte_at(bytes, 3)) else {
+    let Nwk802154AssociationStatusCode::Known(status) =
+        Nwk802154AssociationStatus::try_from(octets::byte_at(bytes, 3)) else {
         return TypedBody::NotTyped;
     };
     TypedBody::Typed(NwkCommand::NetworkCommissioningResponse(NwkNetworkCommissioningResponseCommand {

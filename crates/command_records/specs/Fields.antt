@@ -13,7 +13,7 @@ use Rattle.commands.specs.declared.NwkCommand.{NwkCommand}
 use Rattle.commands.specs.declared.NwkCommandId.{NwkCommandId}
 use Rattle.commands.specs.declared.NwkCommandIdCode.{NwkCommandIdCode}
 use Rattle.commands.specs.declared.TypedBody.{TypedBody}
-use Rattle.commands.specs.Codes.{bit, commandIdOf, manyToOneCode, statusCode, associationStatusCode, reportIdentifierCode, updateIdentifierCode, timeoutCode, timeoutStatusCode, powerTypeCode, commissioningTypeCode}
+use Rattle.commands.specs.Codes.{bit, isSet, commandIdOf, manyToOneCode, statusCode, associationStatusCode, reportIdentifierCode, updateIdentifierCode, timeoutCode, timeoutStatusCode, powerTypeCode, commissioningTypeCode}
 use Rattle.commands.specs.Format.{Values}
 use Rattle.commands.specs.Commands.{has, capabilityValues, only}
 use Rattle.commands.specs.Reading.{places, commandOf}
@@ -65,8 +65,8 @@ recordValues NwkCommandId.RouteRequest r =
     record { head = getD r 1 0 ∷ getD r 6 0 ∷ getD r 2 0 ∷ leAt 2 r 3 ∷ getD r 5 0 ∷ []; entries = (leAt 8 r 7 ∷ []) ∷ [] }
 recordValues NwkCommandId.RouteReply r =
     record {
-      head = getD r 7 0 ∷ getD r 16 0 ∷ getD r 1 0 ∷ leAt 2 r 2 ∷ leAt 2 r 4 ∷ getD r 6 0 ∷ [];
-      entries = cond (eqb (getD r 7 0) 1) ((leAt 8 r 8 ∷ []) ∷ (leAt 8 r 17 ∷ []) ∷ []) ((leAt 8 r 17 ∷ []) ∷ []);
+      head = bit (isSet (getD r 7 0)) ∷ getD r 16 0 ∷ getD r 1 0 ∷ leAt 2 r 2 ∷ leAt 2 r 4 ∷ getD r 6 0 ∷ [];
+      entries = cond (isSet (getD r 7 0)) ((leAt 8 r 8 ∷ []) ∷ (leAt 8 r 17 ∷ []) ∷ []) ((leAt 8 r 17 ∷ []) ∷ []);
     }
 recordValues NwkCommandId.NetworkStatus r = only (getD r 1 0 ∷ leAt 2 r 2 ∷ [])
 recordValues NwkCommandId.Leave r = only (getD r 1 0 ∷ getD r 2 0 ∷ getD r 3 0 ∷ [])
@@ -79,7 +79,7 @@ recordValues NwkCommandId.NetworkUpdate r = only (getD r 1 0 ∷ getD r 2 0 ∷ 
 recordValues NwkCommandId.EndDeviceTimeoutRequest r = only (getD r 1 0 ∷ getD r 2 0 ∷ [])
 recordValues NwkCommandId.EndDeviceTimeoutResponse r = only (getD r 1 0 ∷ getD r 2 0 ∷ getD r 3 0 ∷ getD r 4 0 ∷ [])
 recordValues NwkCommandId.LinkPowerDelta r = only (getD r 1 0 ∷ [])
-recordValues NwkCommandId.NetworkCommissioningRequest r = only (drop 1 r)
+recordValues NwkCommandId.NetworkCommissioningRequest r = only (getD r 1 0 ∷ drop 2 r)
 recordValues NwkCommandId.NetworkCommissioningResponse r = only (leAt 2 r 1 ∷ getD r 3 0 ∷ [])
 
 unfoldable pub recordedBy : NwkCommandIdCode → List ℕ → TypedBody
