@@ -7,4 +7,3 @@ pub mod Lengths
 pub mod InRange
 pub mod Reread
 pub mod RoundTrip
-pub mod Cases

@@ -4,4 +4,3 @@ pub mod Format
 pub mod Commands
 pub mod Reading
 pub mod Writing
-pub mod Cases
