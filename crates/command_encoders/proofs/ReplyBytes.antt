@@ -1,15 +1,14 @@
 -- A route reply's bytes: its head, then the addresses that are there, one behind the other.
 -- Assumes nothing.
 use mathlib.Core.Path.{_≡_, refl, sym, ap, _∙_}
-use mathlib.Core.List.{List, [], _∷_, _++_, append-assoc}
+use mathlib.Core.List.{List, _++_, append-assoc}
 use Prim.Native.Nat.{ℕ, _+_, _*_}
 use lib.ListN.{length, length-append}
 use Rattle.octets.specs.Numbers.{le}
-use Rattle.octets.proofs.Numbers.{length-le}
 use Rattle.commands.specs.Format.{partSizes, keptCount, filled, width, writeField, writeFields, writeEntries, bodyBytes}
 use Rattle.commands.specs.Commands.{routeRequestFormat, routeReplyFormat, routeReplyValues, has, addressEntry}
 use Rattle.commands.specs.Reading.{formatOf}
-use Rattle.commands.specs.Writing.{Wire, wireBytes}
+use Rattle.commands.specs.Writing.{wireBytes}
 use Rattle.commands.specs.Writing.Wire.{body}
 use Rattle.commands.proofs.Format.{entries-append}
 use Rattle.commands.specs.declared.MaybeEui64.{MaybeEui64}

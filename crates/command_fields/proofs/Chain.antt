@@ -1,11 +1,11 @@
 -- Fields put one behind the other, and a loop that puts entries one behind the other: what stands there is the one
 -- string of their bytes.
 -- Assumes nothing.
-use mathlib.Core.Path.{_≡_, refl, sym, ap, _∙_}
-use mathlib.Core.List.{List, [], _∷_, _++_, append-nil}
+use mathlib.Core.Path.{_≡_, sym, ap, _∙_}
+use mathlib.Core.List.{List, _++_}
 use Prim.Native.Nat.{ℕ, _+_, _*_, _≤_}
 use native.Mathlib.Omega.{arith}
-use lib.ListN.{length, getD}
+use lib.ListN.{length}
 use Rattle.octets.specs.Strings.{over, tab}
 use Rattle.octets.proofs.Strings.{over-nil, over-over, length-tab}
 use Rattle.commands.specs.Format.{Field, sizes, writeFields, writeEntries}

@@ -2,9 +2,9 @@
 -- three bits.
 -- Assumes nothing.
 use mathlib.Core.Path.{_≡_, refl, sym, ap, subst, _∙_}
-use mathlib.Core.Bool.{Bool, true, false, not, _&&_, _||_, true≢false}
-use mathlib.Core.List.{List, [], _∷_, _++_}
-use Prim.Native.Nat.{ℕ, zero, suc, _+_, _*_, _≤_, _<_}
+use mathlib.Core.Bool.{Bool, true, false, _&&_, _||_, true≢false}
+use mathlib.Core.List.{List, _++_}
+use Prim.Native.Nat.{ℕ, suc, _+_, _*_, _≤_}
 use native.Mathlib.Omega.{arith}
 use borrow.Author.Tests.{ltb-true, ltb-false, not-false}
 use lib.Dec.{ltb}
@@ -14,7 +14,7 @@ use Rattle.octets.proofs.Strings.{length-tab}
 use Rattle.commands.specs.Format.{size, sizes, width, keptCount, heldParts, heldField, heldFields, heldEntries}
 use Rattle.commands.specs.Commands.{routeRequestFormat, routeRequestValues, routeReplyFormat, routeReplyValues, networkStatusFormat, networkStatusValues, leaveFormat, leaveValues, routeRecordFormat, routeRecordValues, rejoinRequestFormat, rejoinRequestValues, rejoinResponseFormat, rejoinResponseValues, linkStatusFormat, linkStatusValues, networkReportFormat, networkReportValues, networkUpdateFormat, networkUpdateValues, timeoutRequestFormat, timeoutRequestValues, timeoutResponseFormat, timeoutResponseValues, linkPowerDeltaFormat, linkPowerDeltaValues, commissioningRequestFormat, commissioningRequestValues, commissioningResponseFormat, commissioningResponseValues, capabilityField, has, addressEntry, firsts, relayEntry, linkEntry, noLink, powerEntry, noPower}
 use Rattle.commands.specs.Reading.{formatOf, listOf}
-use Rattle.commands.specs.Writing.{wireOf, wire, wireBytes, commandBytes, misfits, updateCount, writeRefusal}
+use Rattle.commands.specs.Writing.{wireOf, wire, wireBytes, commandBytes, writeRefusal}
 use Rattle.commands.proofs.Format.{first, second, held-not}
 use Rattle.commands.proofs.Ranges.{tooBig}
 use Rattle.commands.proofs.Lengths.{length-wire, or-right}
@@ -25,7 +25,6 @@ use Rattle.commands.specs.declared.MaybeEui64.{MaybeEui64}
 use Rattle.commands.specs.declared.NwkCommandId.{NwkCommandId}
 use Rattle.commands.specs.declared.NwkCommand.{NwkCommand}
 use Rattle.commands.specs.declared.NwkCommandFrame.{NwkCommandFrame}
-use Rattle.commands.specs.declared.NwkCommandList.{NwkCommandList}
 use Rattle.commands.specs.declared.NwkLinkStatus.{NwkLinkStatus}
 
 -- ---- the length of each command

@@ -1,23 +1,21 @@
 -- The tests before a command is written, and the refusal numbers by them.
 -- Assumes nothing.
-use mathlib.Core.Path.{_≡_, refl, sym, ap, _∙_}
-use mathlib.Core.Bool.{Bool, true, false, not, _&&_, _||_}
-use mathlib.Core.List.{List, [], _∷_}
+use mathlib.Core.Path.{_≡_, refl}
+use mathlib.Core.Bool.{true, false, not}
+use mathlib.Core.List.{List}
 use Prim.Native.Nat.{ℕ, zero, suc, _≤_, _<_}
 use native.Mathlib.Decide.{decLt}
 use native.Mathlib.Omega.{arith}
 use borrow.Author.Tests.{lt-ltb, le-ltb}
 use lib.Dec.{ltb}
-use lib.ListN.{length, getD}
-use Rattle.octets.specs.Strings.{over}
-use Rattle.octets.specs.Refusals.{on, orElse, firstOf}
+use lib.ListN.{length}
+use Rattle.octets.specs.Refusals.{orElse, firstOf}
 use Rattle.commands.specs.Format.{width, keptCount, heldParts, heldField, heldFields}
 use Rattle.commands.specs.Commands.{linkStatusFormat, linkEntry}
-use Rattle.commands.specs.Reading.{listOf, maxNsduSize}
+use Rattle.commands.specs.Reading.{listOf}
 use Rattle.commands.specs.Writing.{wire, misfits, commandBytes, writeRefusal, written, outputBy}
 use Rattle.commands.specs.declared.NwkLinkStatus.{NwkLinkStatus}
 use Rattle.commands.specs.declared.NwkCommandFrame.{NwkCommandFrame}
-use Rattle.commands.specs.declared.NwkCommandWritten.{NwkCommandWritten}
 
 -- ---- the costs of a link status entry
 

@@ -1,15 +1,13 @@
 -- Laws of the codes: a value's number means that value, and fits its field; a timeout code is known up to 14, and then
 -- its seconds are those of its number. Value by value, the timeouts by one computed test.
 -- Assumes nothing.
-use mathlib.Core.Path.{_≡_, refl, sym, ap, _∙_}
-use mathlib.Core.Bool.{Bool, true, false, cond, _&&_}
-use mathlib.Core.List.{List, [], _∷_}
-use mathlib.Core.Logic.{⊎-elim, _⊎_, inl, inr}
+use mathlib.Core.Path.{_≡_, refl, ap, _∙_}
+use mathlib.Core.Bool.{Bool, true, false, _&&_}
 use Prim.Native.Nat.{ℕ, zero, suc, _≤_, _<_}
 use native.Mathlib.Decide.{decLt}
 use native.Mathlib.Omega.{arith}
 use borrow.Author.Tests.{lt-ltb, le-ltb, eqb-true}
-use lib.Dec.{ltb, eqb, lit<}
+use lib.Dec.{eqb, lit<}
 use lib.ListN.{getD}
 use Rattle.commands.specs.Codes.{commandIdCode, commandIdOf, commandIds, manyToOneCode, manyToOneOf, manyToOnes, statusCode, statusOf, statuses, associationStatusCode, associationStatusOf, associationStatuses, reportIdentifierCode, reportIdentifierOf, updateIdentifierCode, updateIdentifierOf, timeoutCode, timeoutOf, timeouts, timeoutStatusCode, timeoutStatusOf, timeoutStatuses, powerTypeCode, powerTypeOf, powerTypes, commissioningTypeCode, commissioningTypeOf, commissioningTypes, isSet, bit, deviceTypeBit, deviceTypeOf, powerSourceBit, powerSourceOf}
 use Rattle.commands.specs.Writing.{seconds, timeoutSeconds}

@@ -7,21 +7,21 @@ use mathlib.Core.Logic.{⊎-elim, _⊎_, inl, inr}
 use native.Mathlib.Decide.{decLt}
 use mathlib.Core.List.{List, [], _∷_, _++_, append-assoc, append-nil}
 use Prim.Native.Nat.{ℕ, zero, suc, _+_, _*_, _^_, _≤_, _<_}
-use native.Mathlib.Nat.{add-assoc, add-zero, zero-add, add-comm, suc-mul, zero-mul, mod-lt}
+use native.Mathlib.Nat.{add-assoc, add-zero, add-comm, suc-mul, zero-mul}
 use native.Mathlib.Numerals.{add-one, one-add}
 use native.Mathlib.Omega.{arith}
 use borrow.Author.Tests.{ltb-true, lt-ltb}
 use lib.ListN.{length, getD, take, drop, length-append, take-append-drop, length-drop}
-use lib.Seq.{getD-append-seam, take-at, drop-at, take-all, length-take-le, take-append-le}
+use lib.Seq.{getD-append-seam, drop-at, take-all}
 use lib.Dec.{ltb}
 use lib.Pow.{pow-pos}
 use Rattle.octets.specs.Strings.{tab, Below}
 use Rattle.octets.specs.Numbers.{le, leAt}
 use Rattle.octets.specs.Fields.{fields, packed, Held}
-use Rattle.octets.proofs.Strings.{length-tab, getD-tab, tab-ext, tab-getD}
+use Rattle.octets.proofs.Strings.{length-tab, tab-ext, tab-getD}
 use Rattle.octets.proofs.Numbers.{length-le, leAt-lt, leAt-behind, leAt-le}
 use Rattle.octets.proofs.Fields.{fields-held, fields-packed}
-use Rattle.commands.specs.Format.{Part, Field, Format, Values, partSizes, keptCount, kept, filled, heldParts, size, width, readField, writeField, heldField, sizes, widths, readFields, writeFields, heldFields, plus, summed, headEnd, announced, bodyEnd, values, writeEntries, bodyBytes, heldEntries, heldValues}
+use Rattle.commands.specs.Format.{Part, Field, Format, Values, partSizes, keptCount, kept, filled, heldParts, size, width, readField, writeField, heldField, sizes, widths, readFields, writeFields, heldFields, summed, headEnd, announced, bodyEnd, values, writeEntries, bodyBytes, heldEntries, heldValues}
 use Rattle.commands.specs.Format.Part.{keep, skip}
 use Rattle.commands.specs.Format.Field.{byte, number, bits}
 

@@ -1,22 +1,20 @@
 -- How long a command is: a typed one that fits its fields never passes 108 bytes, so number 17 is met by unparsed bytes
 -- alone. Each length is the format's by computation.
 -- Assumes nothing.
-use mathlib.Core.Path.{_≡_, refl, sym, ap, _∙_}
-use mathlib.Core.Bool.{Bool, true, false, not, _||_, true≢false}
-use mathlib.Core.List.{List, [], _∷_, _++_}
-use Prim.Native.Nat.{ℕ, zero, suc, _+_, _*_, _≤_, _<_}
-use native.Mathlib.Nat.{one-mul}
+use mathlib.Core.Path.{_≡_, refl, sym}
+use mathlib.Core.Bool.{Bool, true, false, _||_, true≢false}
+use mathlib.Core.List.{_++_}
+use Prim.Native.Nat.{ℕ, _+_, _*_, _≤_}
 use native.Mathlib.Omega.{arith}
-use borrow.Author.Tests.{ltb-false, not-false}
+use borrow.Author.Tests.{ltb-false}
 use lib.Dec.{ltb}
 use lib.ListN.{length, getD, length-append}
 use Rattle.octets.specs.Strings.{tab}
-use Rattle.octets.proofs.Strings.{length-tab}
-use Rattle.commands.specs.Format.{Format, Values, size, sizes, heldValues, bodyBytes}
+use Rattle.commands.specs.Format.{Values, size, sizes}
 use Rattle.commands.specs.Commands.{routeRequestFormat, routeRequestValues, routeReplyFormat, routeReplyValues, networkStatusFormat, networkStatusValues, leaveFormat, leaveValues, routeRecordFormat, routeRecordValues, rejoinRequestFormat, rejoinRequestValues, rejoinResponseFormat, rejoinResponseValues, linkStatusFormat, linkStatusValues, networkReportFormat, networkReportValues, networkUpdateFormat, networkUpdateValues, timeoutRequestFormat, timeoutRequestValues, timeoutResponseFormat, timeoutResponseValues, linkPowerDeltaFormat, linkPowerDeltaValues, commissioningRequestFormat, commissioningRequestValues, commissioningResponseFormat, commissioningResponseValues, capabilityField, addressEntry, relayEntry, linkEntry, noLink, powerEntry, noPower}
-use Rattle.commands.specs.Reading.{formatOf, listOf, maxNsduSize}
-use Rattle.commands.specs.Writing.{Wire, wireOf, wireBytes, overPlaces, misfits}
-use Rattle.commands.specs.Writing.Wire.{body, raw}
+use Rattle.commands.specs.Reading.{formatOf, listOf}
+use Rattle.commands.specs.Writing.{wireOf, wireBytes, overPlaces, misfits}
+use Rattle.commands.specs.Writing.Wire.{body}
 use Rattle.commands.proofs.Format.{length-bodyBytes}
 use Rattle.commands.specs.declared.MaybeEui64.{MaybeEui64}
 use Rattle.commands.specs.declared.NwkCommandId.{NwkCommandId}

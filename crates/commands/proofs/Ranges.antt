@@ -4,22 +4,22 @@
 -- Assumes nothing.
 use mathlib.Core.Path.{_≡_, refl, sym, ap, _∙_}
 use mathlib.Core.Bool.{Bool, true, false, not, _&&_, _||_}
-use mathlib.Core.List.{List, [], _∷_, _++_}
-use Prim.Native.Nat.{ℕ, zero, suc, _+_, _*_, _^_, _≤_, _<_}
+use mathlib.Core.List.{List, _++_}
+use Prim.Native.Nat.{ℕ, _^_, _≤_, _<_}
 use native.Mathlib.Decide.{decLt}
 use native.Mathlib.Omega.{arith}
 use borrow.Author.Tests.{lt-ltb, le-ltb}
 use lib.Dec.{ltb, lit<}
-use lib.ListN.{length, getD}
+use lib.ListN.{getD}
 use Rattle.octets.specs.Strings.{tab}
 use Rattle.octets.proofs.Strings.{length-tab}
-use Rattle.commands.specs.Codes.{bit, deviceTypeBit, powerSourceBit}
-use Rattle.commands.specs.Format.{Field, Values, width, keptCount, size, sizes, heldParts, heldField, heldFields, heldEntries, heldValues, bodyBytes}
-use Rattle.commands.specs.Commands.{routeRequestFormat, routeRequestValues, routeReplyFormat, routeReplyValues, networkStatusFormat, networkStatusValues, leaveFormat, leaveValues, routeRecordFormat, routeRecordValues, rejoinRequestFormat, rejoinRequestValues, rejoinResponseFormat, rejoinResponseValues, linkStatusFormat, linkStatusValues, networkReportFormat, networkReportValues, networkUpdateFormat, networkUpdateValues, timeoutRequestFormat, timeoutRequestValues, timeoutResponseFormat, timeoutResponseValues, linkPowerDeltaFormat, linkPowerDeltaValues, commissioningRequestFormat, commissioningRequestValues, commissioningResponseFormat, commissioningResponseValues, capabilityField, capabilityValues, has, addressEntry, firsts, relayEntry, linkEntry, noLink, powerEntry, noPower}
-use Rattle.commands.specs.Reading.{formatOf, listOf, maxNsduSize}
-use Rattle.commands.specs.Writing.{Wire, wireOf, wireBytes, overPlaces, misfits, updateCount}
-use Rattle.commands.specs.Writing.Wire.{body, raw}
-use Rattle.commands.proofs.Format.{both, held-all, length-bodyBytes}
+use Rattle.commands.specs.Codes.{deviceTypeBit, powerSourceBit}
+use Rattle.commands.specs.Format.{width, keptCount, heldParts, heldField, heldFields, heldEntries, heldValues}
+use Rattle.commands.specs.Commands.{routeRequestFormat, routeRequestValues, routeReplyFormat, routeReplyValues, networkStatusFormat, networkStatusValues, leaveFormat, leaveValues, routeRecordFormat, routeRecordValues, rejoinRequestFormat, rejoinRequestValues, rejoinResponseFormat, rejoinResponseValues, linkStatusFormat, linkStatusValues, networkReportFormat, networkReportValues, networkUpdateFormat, networkUpdateValues, timeoutRequestFormat, timeoutRequestValues, timeoutResponseFormat, timeoutResponseValues, linkPowerDeltaFormat, linkPowerDeltaValues, commissioningRequestFormat, commissioningRequestValues, commissioningResponseFormat, commissioningResponseValues, capabilityField, capabilityValues, has, addressEntry, relayEntry, linkEntry, noLink, powerEntry, noPower}
+use Rattle.commands.specs.Reading.{formatOf, listOf}
+use Rattle.commands.specs.Writing.{wireOf, overPlaces, misfits, updateCount}
+use Rattle.commands.specs.Writing.Wire.{body}
+use Rattle.commands.proofs.Format.{both, held-all}
 use Rattle.commands.proofs.CodeLaws.{manyToOne-lt, status-lt, associationStatus-lt, reportIdentifier-lt, updateIdentifier-lt, timeout-lt, timeoutStatus-lt, powerType-lt, commissioningType-lt, bit-lt}
 use Rattle.commands.specs.declared.MaybeEui64.{MaybeEui64}
 use Rattle.commands.specs.declared.NwkCommandId.{NwkCommandId}
@@ -27,8 +27,6 @@ use Rattle.commands.specs.declared.NwkCommand.{NwkCommand}
 use Rattle.commands.specs.declared.NwkCommandFrame.{NwkCommandFrame}
 use Rattle.commands.specs.declared.NwkCommandList.{NwkCommandList}
 use Rattle.commands.specs.declared.NwkRejoinCapabilityInformation.{NwkRejoinCapabilityInformation}
-use Rattle.commands.specs.declared.NwkLinkStatus.{NwkLinkStatus}
-use Rattle.commands.specs.declared.NwkPowerListEntry.{NwkPowerListEntry}
 use Rattle.commands.specs.declared.NwkRouteRequestCommand.{NwkRouteRequestCommand}
 use Rattle.commands.specs.declared.NwkRouteReplyCommand.{NwkRouteReplyCommand}
 use Rattle.commands.specs.declared.NwkNetworkStatusCommand.{NwkNetworkStatusCommand}

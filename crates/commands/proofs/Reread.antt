@@ -1,26 +1,24 @@
 -- What reading gives can be written: the numbers of a command that was read are within their types, its list within its
 -- places, and the places past its count are 0 already. Each number is a byte or a number of n bytes of the input.
 -- Assumes nothing.
-use mathlib.Core.Path.{_≡_, refl, sym, ap, _∙_}
+use mathlib.Core.Path.{_≡_, refl, ap, _∙_}
 use mathlib.Core.Bool.{Bool, true, false, not, _||_}
-use mathlib.Core.List.{List, [], _∷_, _++_, map}
-use Prim.Native.Nat.{ℕ, zero, suc, _+_, _*_, _%_, _^_, _≤_, _<_}
+use mathlib.Core.List.{List, [], map}
+use Prim.Native.Nat.{ℕ, _+_, _*_, _%_, _^_, _≤_, _<_}
 use native.Mathlib.Nat.{mod-lt}
 use native.Mathlib.Decide.{decLt}
 use native.Mathlib.Omega.{arith}
-use borrow.Author.Tests.{lt-ltb, le-ltb}
+use borrow.Author.Tests.{le-ltb}
 use lib.Dec.{ltb, eqb}
 use lib.ListN.{length, getD, drop, replicate, length-map, List·getD-append, List·getD-eq-default}
 use lib.Seq.{take-all}
 use Rattle.octets.specs.Strings.{tab, Below}
-use Rattle.octets.specs.Numbers.{leAt}
 use Rattle.octets.specs.Fields.{fields}
 use Rattle.octets.proofs.Strings.{length-tab, getD-tab, tab-ext, tab-getD}
 use Rattle.octets.proofs.Numbers.{leAt-lt}
-use Rattle.commands.specs.Format.{Format, Values, partSizes, kept, size, sizes, readField, readFields, summed, plus, headEnd, announced, bodyEnd, values, heldEntries, heldFields, heldValues}
+use Rattle.commands.specs.Format.{Format, partSizes, kept, size, sizes, readField, readFields, summed, plus, headEnd, announced, bodyEnd, values, heldEntries, heldFields, heldValues}
 use Rattle.commands.specs.Commands.{routeRequestFormat, routeRequestOf, routeReplyFormat, routeReplyOf, networkStatusFormat, networkStatusOf, leaveFormat, leaveOf, routeRecordFormat, routeRecordOf, rejoinRequestFormat, rejoinRequestOf, rejoinResponseFormat, rejoinResponseOf, linkStatusFormat, linkStatusOf, networkReportFormat, networkReportOf, networkUpdateFormat, networkUpdateOf, timeoutRequestFormat, timeoutRequestOf, timeoutResponseFormat, timeoutResponseOf, linkPowerDeltaFormat, linkPowerDeltaOf, commissioningRequestFormat, commissioningRequestOf, commissioningResponseFormat, commissioningResponseOf, routeRequestBy, networkStatusBy, rejoinResponseBy, networkReportBy, networkUpdateBy, timeoutRequestBy, timeoutResponseBy, linkPowerDeltaBy, commissioningRequestBy, commissioningResponseBy, addressOf, firsts, relayOf, linkOf, linkEntry, noLink, powerOf, noPower}
 use Rattle.commands.specs.Reading.{formatOf, commandOf, places, frame, listOf, listed, clearedBy}
-use Rattle.commands.specs.Writing.{updateCount}
 use Rattle.commands.proofs.Format.{values-held, length-entries, second}
 use Rattle.commands.proofs.Commands.{map-tab}
 use Rattle.commands.proofs.Ranges.{InAddress, Ranged, RangedList, linkEntries, tooBig}
@@ -28,7 +26,6 @@ use Rattle.commands.proofs.Lengths.{Typed}
 use Rattle.commands.specs.declared.MaybeEui64.{MaybeEui64}
 use Rattle.commands.specs.declared.NwkCommandId.{NwkCommandId}
 use Rattle.commands.specs.declared.NwkCommand.{NwkCommand}
-use Rattle.commands.specs.declared.NwkCommandFrame.{NwkCommandFrame}
 use Rattle.commands.specs.declared.NwkCommandList.{NwkCommandList}
 use Rattle.commands.specs.declared.TypedBody.{TypedBody}
 use Rattle.commands.specs.declared.NwkLinkStatus.{NwkLinkStatus}

@@ -4,27 +4,24 @@
 -- and the second is the first at what was read.
 -- Assumes nothing.
 use mathlib.Core.Path.{_≡_, refl, sym, ap, subst, _∙_}
-use mathlib.Core.Bool.{Bool, true, false, cond, not, _||_}
+use mathlib.Core.Bool.{Bool, true, false, cond, not}
 use mathlib.Core.List.{List, [], _∷_, _++_, append-nil}
-use Prim.Native.Nat.{ℕ, zero, suc, _≤_, _<_}
-use native.Mathlib.Decide.{decLt, decLe}
-use native.Mathlib.Omega.{arith}
-use borrow.Author.Tests.{le-leb, lt-leb, le-ltb, lt-ltb, ltb-false, leb-true, not-false}
+use Prim.Native.Nat.{ℕ, _≤_}
+use borrow.Author.Tests.{le-leb, le-ltb, ltb-false, leb-true, not-false}
 use lib.Dec.{ltb, leb}
 use lib.ListN.{length, getD, take}
-use Rattle.octets.specs.Strings.{Below, over}
+use Rattle.octets.specs.Strings.{Below}
 use Rattle.octets.specs.Refusals.{on, orElse, firstOf}
 use Rattle.octets.proofs.Refusals.{none-split, not-on}
 use Rattle.octets.proofs.Strings.{take-over}
 use Rattle.commands.specs.Codes.{commandIdCode, commandIdOf}
 use Rattle.commands.specs.Format.{Values, bodyEnd, values, bodyBytes, heldValues}
-use Rattle.commands.specs.Commands.{firsts}
-use Rattle.commands.specs.Reading.{maxNsduSize, formatOf, commandOf, places, frame, listOf, listed, clearedBy, cleared, bodyOf, typedBy, typed, unparsed, frameOf, accepted, refused, readCommand}
+use Rattle.commands.specs.Reading.{formatOf, commandOf, frame, listOf, listed, clearedBy, cleared, bodyOf, typedBy, typed, unparsed, frameOf, accepted, readCommand}
 use Rattle.commands.specs.Writing.{Wire, wireOf, wire, wireBytes, commandBytes, overPlaces, misfits, writeRefusal, written, outputBy, writeAnswer, writeBuffer}
 use Rattle.commands.specs.Writing.Wire.{body, raw}
 use Rattle.commands.proofs.Format.{Fit, values-back, end-back}
 use Rattle.commands.proofs.CodeLaws.{commandId-back}
-use Rattle.commands.proofs.Commands.{Back, WireBack, back}
+use Rattle.commands.proofs.Commands.{WireBack, back}
 use Rattle.commands.proofs.Ranges.{misfits-is}
 use Rattle.commands.proofs.Lengths.{Typed, or-right, typed-short}
 use Rattle.commands.proofs.Reread.{firsts-places, cleared-read, Writable, writable}
@@ -34,7 +31,6 @@ use Rattle.commands.specs.declared.NwkCommand.{NwkCommand}
 use Rattle.commands.specs.declared.NwkCommandFrame.{NwkCommandFrame}
 use Rattle.commands.specs.declared.NwkCommandList.{NwkCommandList}
 use Rattle.commands.specs.declared.NwkCommandRead.{NwkCommandRead}
-use Rattle.commands.specs.declared.NwkCommandWritten.{NwkCommandWritten}
 use Rattle.commands.specs.declared.TypedBody.{TypedBody}
 
 -- ---- a typed command reads back

@@ -9,7 +9,7 @@ use lib.ListN.{getD, drop}
 use lib.Dec.{eqb}
 use Rattle.octets.specs.Strings.{tab}
 use Rattle.commands.specs.Codes.{manyToOneCode, manyToOneOf, statusCode, statusOf, associationStatusCode, associationStatusOf, reportIdentifierCode, reportIdentifierOf, updateIdentifierCode, updateIdentifierOf, timeoutCode, timeoutOf, timeoutStatusCode, timeoutStatusOf, powerTypeCode, powerTypeOf, commissioningTypeCode, commissioningTypeOf, isSet, bit, deviceTypeBit, deviceTypeOf, powerSourceBit, powerSourceOf}
-use Rattle.commands.specs.Format.{Part, Field, Format, Values}
+use Rattle.commands.specs.Format.{Field, Format, Values}
 use Rattle.commands.specs.Format.Part.{keep, skip}
 use Rattle.commands.specs.Format.Field.{byte, number, bits}
 use Rattle.commands.specs.declared.MaybeEui64.{MaybeEui64}

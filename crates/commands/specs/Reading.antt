@@ -3,8 +3,8 @@
 -- bytes after a typed body are dropped. Places past a count are 0.
 -- Assumes nothing.
 use Prim.Native.Nat.{ℕ}
-use mathlib.Core.Bool.{Bool, cond}
-use mathlib.Core.List.{List, [], _∷_, _++_, map}
+use mathlib.Core.Bool.{cond}
+use mathlib.Core.List.{List, [], _++_, map}
 use lib.ListN.{length, getD, drop, replicate}
 use lib.Dec.{ltb, leb}
 use Rattle.commands.specs.Codes.{commandIdOf}

@@ -1,7 +1,7 @@
 -- Writing a command (document 01, "Commands"; refusals 13, 17 and 18), its identifier, and a timeout's seconds.
 -- Assumes nothing.
 use Prim.Native.Nat.{ℕ, zero, suc, _*_, _^_}
-use mathlib.Core.Bool.{Bool, true, false, cond, not, _||_}
+use mathlib.Core.Bool.{Bool, false, cond, not, _||_}
 use mathlib.Core.List.{List, [], _∷_}
 use lib.ListN.{length, getD}
 use lib.Dec.{ltb, eqb}

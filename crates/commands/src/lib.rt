@@ -1,7 +1,7 @@
 // The fifteen NWK commands as values (Zigbee Specification 3.4): the types, their codes, a timeout's seconds and the
 // command id. What the bytes of a command are is in specs/; reading and writing them are the crates above.
 
-mod codes;
+pub mod codes;
 
 ghost use mathlib.Core.Path.{_≡_};
 ghost use Rattle.commands.specs.Reading.{listOf};

@@ -1,7 +1,6 @@
 -- `command_bodies::address_at` meets its contract, by the presence bit. Assumes nothing.
 use borrow.Author.Needs.{needs}
 use borrow.Author.Tests.{eq-eqb, ne-eqb}
-use mathlib.Core.Path.{ap, sym, _∙_}
 use Rattle.command_bodies.proofs.address_at.Statement.{statement}
 use Rattle.command_bodies.proofs.address_at.Tie as tie
 use Rattle.commands.specs.Commands.{addressOf}

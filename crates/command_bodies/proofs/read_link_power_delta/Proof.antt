@@ -1,16 +1,13 @@
 -- `command_bodies::read_link_power_delta` meets its contract: the fields stand at the places of the format. Assumes nothing.
 use borrow.Author.Needs.{needs}
-use mathlib.Core.Path.{_≡_, refl, sym, ap, _∙_}
-use Prim.Native.Nat.{ℕ, _+_, _*_, _/_, _%_, _≤_, _<_}
-use lib.ListN.{length, getD}
+use mathlib.Core.Path.{sym, ap, _∙_}
+use Prim.Native.Nat.{ℕ, _%_}
 use Rattle.command_bodies.proofs.read_link_power_delta.Statement.{statement}
 use Rattle.command_bodies.proofs.read_link_power_delta.Tie as tie
 use Rattle.octets.specs.Fields.{fields}
 use Rattle.commands.specs.Format.{bodyEnd, headEnd, announced, summed, plus, readFields, readField, kept, partSizes, size, sizes, values}
 use Rattle.commands.specs.Reading.{formatOf, commandOf}
 use Rattle.commands.specs.declared.NwkCommandId.{NwkCommandId}
-use Rattle.commands.specs.declared.NwkCommand.{NwkCommand}
-use Rattle.commands.specs.declared.TypedBody.{TypedBody}
 use Rattle.command_bodies.proofs.Whole.{short, whole}
 use Rattle.commands.specs.Codes.{powerTypeOf}
 use Rattle.commands.specs.Commands.{linkPowerDeltaFormat, linkPowerDeltaOf, linkPowerDeltaBy}

@@ -1,8 +1,6 @@
 -- `command_bodies::read_rejoin_request` meets its contract: the fields stand at the places of the format. Assumes nothing.
 use borrow.Author.Needs.{needs}
-use mathlib.Core.Path.{_≡_, refl, sym, ap, _∙_}
-use Prim.Native.Nat.{ℕ, _+_, _*_, _/_, _%_, _≤_, _<_}
-use lib.ListN.{length, getD}
+use mathlib.Core.Path.{ap, _∙_}
 use Rattle.command_bodies.proofs.read_rejoin_request.Statement.{statement}
 use Rattle.command_bodies.proofs.read_rejoin_request.Tie as tie
 use Rattle.octets.specs.Fields.{fields}

@@ -1,16 +1,11 @@
 -- `command_bodies::read_route_record` meets its contract: the fields stand at the places of the format. Assumes nothing.
 use borrow.Author.Needs.{needs}
-use mathlib.Core.Path.{_≡_, refl, sym, ap, _∙_}
-use Prim.Native.Nat.{ℕ, _+_, _*_, _/_, _%_, _≤_, _<_}
-use lib.ListN.{length, getD}
 use Rattle.command_bodies.proofs.read_route_record.Statement.{statement}
 use Rattle.command_bodies.proofs.read_route_record.Tie as tie
 use Rattle.octets.specs.Fields.{fields}
 use Rattle.commands.specs.Format.{bodyEnd, headEnd, announced, summed, plus, readFields, readField, kept, partSizes, size, sizes, values}
 use Rattle.commands.specs.Reading.{formatOf, commandOf}
 use Rattle.commands.specs.declared.NwkCommandId.{NwkCommandId}
-use Rattle.commands.specs.declared.NwkCommand.{NwkCommand}
-use Rattle.commands.specs.declared.TypedBody.{TypedBody}
 use Rattle.command_bodies.proofs.Whole.{short, whole}
 use Rattle.commands.specs.Commands.{routeRecordFormat, routeRecordOf}
 

@@ -1,6 +1,6 @@
 -- `command_bodies::try_parse` meets its contract: the typed body of the identifier, if it is known. Assumes nothing.
 use borrow.Author.Needs.{needs}
-use mathlib.Core.Path.{_≡_, sym, ap, _∙_}
+use mathlib.Core.Path.{sym, ap, _∙_}
 use Rattle.command_bodies.proofs.try_parse.Statement.{statement}
 use Rattle.command_bodies.proofs.try_parse.Tie as tie
 use Rattle.commands.specs.Codes.{commandIdOf}

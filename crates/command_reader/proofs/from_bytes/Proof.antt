@@ -1,13 +1,12 @@
 -- `command_reader::from_bytes` meets its contract: above 108 bytes the refusal, else the typed command with its list, else all
 -- the bytes. Assumes nothing.
 use borrow.Author.Needs.{needs}
-use mathlib.Core.Path.{_≡_, sym, ap, _∙_}
+use mathlib.Core.Path.{sym, ap, _∙_}
 use borrow.Author.Tests.{lt-ltb}
-use lib.ListN.{length}
 use native.Mathlib.Omega.{arith}
 use Rattle.command_reader.proofs.from_bytes.Statement.{statement}
 use Rattle.command_reader.proofs.from_bytes.Tie as tie
-use Rattle.commands.specs.Reading.{readCommand, refused, accepted, unparsed, frameOf, typed}
+use Rattle.commands.specs.Reading.{readCommand, refused, accepted, unparsed, frameOf}
 use Rattle.commands.specs.declared.TypedBody.{TypedBody}
 use Rattle.commands.proofs.RoundTrip.{read-accepts}
 

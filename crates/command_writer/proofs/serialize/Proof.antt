@@ -1,7 +1,7 @@
 -- `command_writer::serialize` meets its contract: a refusal changes nothing, else the command stands at the front.
 -- Assumes nothing.
 use borrow.Author.Needs.{needs}
-use mathlib.Core.Path.{_≡_, refl, sym, ap, subst, _∙_}
+use mathlib.Core.Path.{_≡_, sym, ap, _∙_}
 use Prim.Native.Nat.{ℕ}
 use lib.ListN.{length}
 use Rattle.command_writer.proofs.serialize.Statement.{statement}

@@ -1,12 +1,12 @@
 -- `command_writer::write_command` meets its contract, arm by arm: a command that is not refused is ready for its writer.
 -- Assumes nothing.
 use borrow.Author.Needs.{needs}
-use mathlib.Core.Path.{_≡_, refl, sym, ap, subst, _∙_}
+use mathlib.Core.Path.{_≡_, sym, ap, _∙_}
 use native.Mathlib.Omega.{arith}
 use mathlib.Core.List.{List}
 use Prim.Native.Nat.{ℕ, _≤_}
 use native.Mathlib.Nat.{zero-add}
-use lib.ListN.{length, take}
+use lib.ListN.{length}
 use lib.Seq.{length-take-le}
 use Rattle.command_writer.proofs.write_command.Statement.{statement}
 use Rattle.command_writer.proofs.write_command.Tie as tie

@@ -1,9 +1,7 @@
 -- `command_fields::puts::put_address` meets its contract: no entry, or one of eight bytes. Assumes nothing.
 use borrow.Author.Needs.{needs}
-use native.Mathlib.Omega.{arith}
-use mathlib.Core.Path.{_≡_, sym, ap, subst, _∙_}
-use mathlib.Core.List.{append-nil}
-use Prim.Native.Nat.{ℕ, _+_, _*_, _≤_}
+use mathlib.Core.Path.{sym, ap, subst, _∙_}
+use Prim.Native.Nat.{_+_, _*_, _≤_}
 use lib.ListN.{length}
 use Rattle.command_fields.proofs.puts.put_address.Statement.{statement}
 use Rattle.command_fields.proofs.puts.put_address.Tie as tie

@@ -1,8 +1,8 @@
 -- `command_fields::puts::put_link` meets its contract: the address and the costs, one behind the other. Assumes nothing.
 use borrow.Author.Needs.{needs}
 use native.Mathlib.Omega.{arith}
-use mathlib.Core.Path.{_≡_, refl, ap, _∙_}
-use mathlib.Core.List.{List, [], _∷_, _++_}
+use mathlib.Core.Path.{refl, ap, _∙_}
+use mathlib.Core.List.{[], _∷_, _++_}
 use Prim.Native.Nat.{ℕ}
 use Rattle.command_fields.proofs.puts.put_link.Statement.{statement}
 use Rattle.command_fields.proofs.puts.put_link.Tie as tie

@@ -1,14 +1,13 @@
 -- `command_fields::puts::put_powers` meets its contract. The loop's invariant: the first k entries stand one behind the other.
 -- Assumes nothing.
 use native.Mathlib.Omega.{arith}
-use mathlib.Core.Path.{_≡_, refl, sym, ap, _∙_}
-use mathlib.Core.List.{[], _∷_, _++_, append-nil}
-use Prim.Native.Nat.{ℕ, _+_, _-_, _*_, _≤_}
+use mathlib.Core.Path.{_≡_, refl}
+use Prim.Native.Nat.{ℕ, _-_, _≤_}
 use lib.ListN.{length, getD}
 use Rattle.command_fields.proofs.puts.put_powers.Statement.{statement}
 use Rattle.command_fields.proofs.puts.put_powers.Tie as tie
 use Rattle.octets.specs.Strings.{over, tab}
-use Rattle.commands.specs.Format.{size, sizes, width, writeField, writeFields, writeEntries}
+use Rattle.commands.specs.Format.{size, sizes, writeEntries}
 use Rattle.command_fields.proofs.Chain.{entries-none, entries-turn, entries-end}
 use Rattle.commands.specs.Commands.{linkPowerDeltaFormat, powerEntry, noPower}
 

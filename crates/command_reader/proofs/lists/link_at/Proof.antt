@@ -1,7 +1,6 @@
 -- `command_reader::lists::link_at` meets its contract: the fields stand at the places of the format. Assumes nothing.
 use borrow.Author.Needs.{needs}
-use mathlib.Core.Path.{ap, _∙_}
-use Prim.Native.Nat.{ℕ, _+_, _/_, _%_}
+use Prim.Native.Nat.{_/_, _%_}
 use Rattle.command_reader.proofs.lists.link_at.Statement.{statement}
 use Rattle.command_reader.proofs.lists.link_at.Tie as tie
 use Rattle.octets.specs.Fields.{fields}

@@ -1,11 +1,10 @@
 -- `command_writer::checks::length_of` meets its contract, arm by arm (`length-at`). Assumes nothing.
 use borrow.Author.Needs.{needs}
-use mathlib.Core.Path.{_≡_, refl, sym, ap, subst, _∙_}
-use Prim.Native.Nat.{ℕ}
+use mathlib.Core.Path.{_≡_, sym, ap, _∙_}
 use lib.ListN.{length}
 use Rattle.command_writer.proofs.checks.length_of.Statement.{statement}
 use Rattle.command_writer.proofs.checks.length_of.Tie as tie
-use Rattle.commands.specs.Writing.{wireOf, wire, wireBytes, commandBytes}
+use Rattle.commands.specs.Writing.{wire, commandBytes}
 use Rattle.commands.specs.declared.NwkCommand.{NwkCommand}
 use Rattle.commands.specs.declared.NwkCommandFrame.{NwkCommandFrame}
 use Rattle.command_writer.proofs.Ready.{lengthBy, length-by}

@@ -1,7 +1,7 @@
 -- `command_writer::checks::misfits` meets its contract: by the command's own list, of the tests that the types leave.
 -- Assumes nothing.
 use borrow.Author.Needs.{needs}
-use mathlib.Core.Path.{_≡_, refl, sym, ap, subst, _∙_}
+use mathlib.Core.Path.{_≡_, sym, ap, _∙_}
 use mathlib.Core.List.{List}
 use lib.Dec.{ltb}
 use Rattle.command_writer.proofs.checks.misfits.Statement.{statement}

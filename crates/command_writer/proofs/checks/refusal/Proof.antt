@@ -1,6 +1,6 @@
 -- `command_writer::checks::refusal` meets its contract: the first test that holds gives the number. Assumes nothing.
 use borrow.Author.Needs.{needs}
-use mathlib.Core.Path.{_≡_, refl, sym, ap, subst, _∙_}
+use mathlib.Core.Path.{sym, subst, _∙_}
 use Prim.Native.Nat.{ℕ, _<_, _≤_}
 use Rattle.command_writer.proofs.checks.refusal.Statement.{statement}
 use Rattle.command_writer.proofs.checks.refusal.Tie as tie

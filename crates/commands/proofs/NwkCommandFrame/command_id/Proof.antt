@@ -9,7 +9,7 @@ use Rattle.commands.proofs.NwkCommandFrame.command_id.Statement.{statem
 use Rattle.commands.proofs.NwkCommandFrame.command_id.Tie as tie
 use Rattle.octets.specs.Strings.{tab}
 use Rattle.octets.proofs.Strings.{getD-tab}
-use Rattle.commands.specs.Codes.{commandIdOf, commandIds}
+use Rattle.commands.specs.Codes.{commandIdOf}
 use Rattle.commands.specs.Commands.{firsts}
 use Rattle.commands.specs.Writing.{wireOf, wire, wireId, typedId, commandId}
 use Rattle.commands.specs.declared.NwkCommand.{NwkCommand}

@@ -1,6 +1,5 @@
 -- `commands::NwkReportCommandIdentifier::code` meets its contract: the one value has the code 0. Assumes nothing.
 use mathlib.Core.Path.{_≡_, refl, sym}
-use Prim.Native.Nat.{ℕ}
 use Rattle.commands.proofs.NwkReportCommandIdentifier.code.Statement.{statement}
 use Rattle.commands.proofs.NwkReportCommandIdentifier.code.Tie as tie
 use Rattle.commands.specs.Codes.{reportIdentifierCode}

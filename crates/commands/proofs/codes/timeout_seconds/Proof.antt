@@ -1,6 +1,6 @@
 -- `commands::codes::timeout_seconds` meets its contract: the answer goes by the code's value (`seconds-by`). Assumes nothing.
 use borrow.Author.Needs.{needs}
-use mathlib.Core.Path.{_≡_, refl, sym, ap, _∙_}
+use mathlib.Core.Path.{sym, ap, _∙_}
 use Rattle.commands.proofs.codes.timeout_seconds.Statement.{statement}
 use Rattle.commands.proofs.codes.timeout_seconds.Tie as tie
 use Rattle.commands.proofs.CodeLaws.{secondsBy, seconds-by}
