@@ -80,6 +80,45 @@ extern "C" {
 #define NWK_HEADER_RECORD 147
 #define NWK_AUXILIARY_RECORD 19
 
+/* Command record, 535 bytes
+ *
+ *   offset  bytes  field
+ *        0      1  command identifier 1 to 15, or 0 for an unparsed command, which keeps all its bytes
+ *        1     24  the command's fields, by the identifier as below; the places behind them are 0 and not read
+ *       25      1  relay count; at 26, 53 relays of 2 bytes
+ *      132      1  count of link statuses; at 133, 31 entries: address 2, incoming cost 1 (0 to 7), outgoing cost 1 (0 to 7)
+ *      257      1  count of PAN ids; at 258, 31 of 2 bytes
+ *      320      1  count of the power list; at 321, 35 entries: address 2, power delta 1
+ *      426      1  length of an unparsed command; at 427, its 108 places
+ *
+ * Only the command's own list counts: relays for 5, link statuses for 8, PAN ids for 9, power list for 13, bytes for 0. Places
+ * past a count are 0 on reading and mean nothing on writing. A bit and a presence byte are 0 or 1.
+ *
+ *   identifier                           offset: field (bytes, 1 where none is given)
+ *    1 route request                     1: many-to-one, 0 to 3; 2: route request identifier; 3: destination address (2);
+ *                                        5: path cost; 6: presence of the destination IEEE; 7: it (8)
+ *    2 route reply                       1: route request identifier; 2: originator (2); 4: responder (2); 6: path cost;
+ *                                        7: presence of the originator IEEE; 8: it (8);
+ *                                        16: presence of the responder IEEE; 17: it (8)
+ *    3 network status                    1: status code, 0 to 0x14; 2: network address (2)
+ *    4 leave                             1: rejoin bit; 2: request bit; 3: remove children bit
+ *    5 route record                      no field
+ *    6 rejoin request                    1 to 8: capability bits: alternate PAN coordinator, device type, power source, receiver
+ *                                        on when idle, two reserved, security capability, allocate address
+ *    7 rejoin response                   1: network address (2); 3: association status, 0 to 3, 0x80 or 0xF0
+ *    8 link status                       1: first frame bit; 2: last frame bit
+ *    9 network report                    1: report identifier, 0; 2: extended PAN id (8)
+ *   10 network update                    1: stored count, 0 to 31; 2: update identifier, 0; 3: extended PAN id (8); 11: update id;
+ *                                        12: new PAN id (2)
+ *   11 end device timeout request        1: timeout code, 0 to 14; 2: end device configuration
+ *   12 end device timeout response       1: status, 0 to 2; 2: MAC data poll keepalive bit; 3: timeout request keepalive bit;
+ *                                        4: power negotiation bit
+ *   13 link power delta                  1: power type, 0 to 2
+ *   14 network commissioning request     1: commissioning type, 0 or 1; 2 to 9: capability bits, as in 6
+ *   15 network commissioning response    1: network address (2); 3: association status, 0 to 3, 0x80 or 0xF0
+ */
+#define NWK_COMMAND_RECORD 535
+
 /* ---- headers */
 
 /* Read a header from the front of bytes into a header record. Length: the header's bytes in the frame; what is behind them
@@ -130,6 +169,23 @@ uint64_t nwk_seal(uint64_t key_first, uint64_t key_second, const uint8_t *header
  * hold the two headers, with the level as received. */
 uint64_t nwk_open(uint64_t key_first, uint64_t key_second, const uint8_t *bytes, size_t bytes_len, uint8_t *header,
                   size_t header_len, uint8_t *auxiliary, size_t auxiliary_len, uint8_t *out, size_t out_len);
+
+/* ---- commands */
+
+/* Read a command from the whole of bytes into a command record. Bytes that are no typed command are no refusal: the command
+ * is then unparsed, identifier 0, with all its bytes. Bytes behind a typed command are dropped. Length: 535, the record's.
+ * Refusals: 12 bytes over 108; 18 command shorter than 535.
+ * Afterwards command holds the record in its first 535 bytes. */
+uint64_t nwk_read_command(const uint8_t *bytes, size_t bytes_len, uint8_t *command, size_t command_len);
+
+/* Write the command of a record. Length: the command's bytes. Refusals: 13 the record, also for an undeclared identifier or
+ * code, a cost over 7, or a count over the places of the command's own list; 17 more than 108 bytes; 18 out shorter than
+ * what is to be written. Afterwards out holds the command in its first bytes. */
+uint64_t nwk_write_command(const uint8_t *command, size_t command_len, uint8_t *out, size_t out_len);
+
+/* The seconds of an end device timeout code, in place of the length: 10 for code 0, 60 times 2 to the power n for n of 1 to
+ * 14. Refusals: 13 a code above 14. */
+uint64_t nwk_timeout_seconds(uint8_t code);
 
 /* ---- CCM and AES alone */
 

@@ -3,3 +3,4 @@ pub mod Answer
 pub mod Headers
 pub mod Cipher
 pub mod Frames
+pub mod Commands

@@ -3,6 +3,7 @@
 
 mod answer;
 mod cipher;
+mod command;
 mod frames;
 mod headers;
 mod inputs;

@@ -3,3 +3,4 @@ pub mod Tests
 pub mod Writes
 pub mod Sizes
 pub mod Refused
+pub mod RoundTrip

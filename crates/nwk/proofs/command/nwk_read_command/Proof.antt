@@ -1,0 +1,71 @@
+-- `nwk_read_command` meets its contract: refused with nothing changed, or read into the record. Assumes nothing.
+use borrow.Author.Needs.{needs}
+use mathlib.Core.Path.{_≡_, refl, sym, ap, _∙_}
+use native.Mathlib.Omega.{arith}
+use lib.ListN.{length}
+use Rattle.nwk.proofs.command.nwk_read_command.Statement.{statement}
+use Rattle.nwk.proofs.command.nwk_read_command.Tie as tie
+use Rattle.octets.specs.Strings.{over}
+use Rattle.commands.specs.Reading.{readCommand}
+use Rattle.command_records.specs.CommandRecord.{commandRecord}
+use Rattle.nwk.specs.Commands.{readCommandRefusal}
+use Rattle.nwk.proofs.Calls.{refused-by, passed-by}
+use Rattle.nwk.proofs.Refusals.{first, read-short, read-none}
+
+from-bytes-requires : tie.Need-from-bytes-requires
+from-bytes-requires c κs = search needs
+
+answer-requires : tie.Need-answer-requires
+answer-requires c κs = search needs
+
+returns : tie.Need-returns
+unfolding readCommandRefusal
+returns c =
+    let a = c .before .before .before .before .before .before .args in
+    let d = c .before .before .before .from-bytes in
+    refused-by _ (d .result .refusal) _ _ _ (a .command .now)
+    ((λ i. d .ensures i .refusal) ∙ first (readCommand (a .bytes .now) .refusal) _ (λ z. c .before .if1 .taken ((λ i. d .ensures i .refusal) ∙ z)))
+    (c .before .if1 .taken) (c .answer .ensures)
+
+answer-requires-2 : tie.Need-answer-requires-2
+answer-requires-2 c κs = search needs
+
+returns-2 : tie.Need-returns-2
+unfolding readCommandRefusal
+returns-2 c =
+    let a = c .before .before .before .before .before .before .before .args in
+    let e = (λ i. sym (c .before .before .before .before .from-bytes .ensures) i .refusal) ∙ c .before .before .if1 .left in
+    refused-by _ 18 _ _ _ (a .command .now) (read-short _ 535 (length (a .command .now)) e (c .before .if2 .taken)) (λ e. omega arith) (c .answer2 .ensures)
+
+put-command-requires : tie.Need-put-command-requires
+put-command-requires c κs = search needs
+
+answer-requires-3 : tie.Need-answer-requires-3
+answer-requires-3 c κs = search needs
+
+same-length : tie.Need-same-length
+same-length c = search needs
+
+returns-3 : tie.Need-returns-3
+unfolding readCommandRefusal
+returns-3 c =
+    let a = c .before .before .before .before .before .before .before .before .before .before .before .before .args in
+    let d = c .before .before .before .before .before .before .before .before .before .from-bytes .ensures in
+    let e = (λ i. sym d i .refusal) ∙ c .before .before .before .before .before .before .before .if1 .left in
+    passed-by _ _ _ _ (a .command .now) _ (read-none _ 535 (length (a .command .now)) e (c .before .before .before .before .before .before .if2 .left))
+    (c .answer3 .ensures)
+    (c .before .before .before .put-command .ensures ∙ (λ i. over (a .command .now) 0 (commandRecord (d i .frame))))
+
+pub nwk-read-command-spec : {M : Type 1} → statement M
+nwk-read-command-spec =
+    tie.close
+    (tie.spec
+    from-bytes-requires
+    answer-requires
+    returns
+    answer-requires-2
+    returns-2
+    put-command-requires
+    answer-requires-3
+    same-length
+    returns-3)
