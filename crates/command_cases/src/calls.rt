@@ -8,6 +8,7 @@ use commands::NwkCommand;
 use commands::NwkCommandFrame;
 use commands::NwkCommandIdCode;
 use commands::NwkCommandRead;
+use commands::NwkCommandWritten;
 use commands::NwkNetworkUpdateCommand;
 
 // Word k of the line is the number and the bytes behind it.
@@ -36,16 +37,26 @@ fn is_record(line: &[u8], k: usize, read: NwkCommandRead) -> bool {
     is_answer(line, k, read.refusal, &got[..n])
 }
 
-// Writing into so many bytes gives word k: the refusal number, then the bytes written. The rest stays.
-fn is_written(line: &[u8], k: usize, frame: NwkCommandFrame, room: usize) -> bool {
-    let mut out = [0xA5u8; 160];
-    let r = file::within(room, &out);
-    let answer = command_writer::serialize(frame, &mut out[..r]);
-    let n = file::within(answer.length, &out);
+// Writes the command into the first bytes of the output, as many as there is room.
+fn write_into(frame: NwkCommandFrame, room: u8, out: &mut [u8]) -> NwkCommandWritten {
+    let r = file::within(room as usize, out);
+    command_writer::serialize(frame, &mut out[..r])
+}
+
+// The output holds the bytes of word k behind the refusal number, so many of them, and the rest is as it was.
+fn is_left(line: &[u8], k: usize, answer: NwkCommandWritten, out: &[u8]) -> bool {
+    let n = file::within(answer.length, out);
     if !outputs::untouched(&out[n..]) {
         return false;
     }
     is_answer(line, k, answer.refusal, &out[..n])
+}
+
+// Writing into so many bytes gives word k: the refusal number, then the bytes written. The rest stays.
+fn is_written(line: &[u8], k: usize, frame: NwkCommandFrame, room: u8) -> bool {
+    let mut out = [0xA5u8; 160];
+    let answer = write_into(frame, room, &mut out);
+    is_left(line, k, answer, &out)
 }
 
 // The command that word 2 of the line holds, read by the codec.
@@ -98,36 +109,33 @@ fn changed(frame: NwkCommandFrame, which: u8, value: u8) -> NwkCommandFrame {
     f
 }
 
-// `W name input which value room written`: the command read from the input, with one number changed, is written so.
-fn write_case(line: &[u8]) -> bool {
-    let mut words = [0u8; 3];
-    field(line, 3, &mut words[..1]);
-    field(line, 4, &mut words[1..2]);
-    field(line, 5, &mut words[2..]);
-    let read = read_input(line);
-    let frame = read.frame;
-    let f = changed(frame, words[0], words[1]);
-    is_written(line, 6, f, words[2] as usize)
+// A word of one byte, 0 where there is none.
+fn number(line: &[u8], k: usize) -> u8 {
+    let mut b = [0u8; 1];
+    field(line, k, &mut b);
+    octets::byte_at(&b, 0)
 }
 
-// `U name input value room written`: the same for the stored count of a network update.
-fn update_case(line: &[u8]) -> bool {
-    let mut words = [0u8; 2];
-    field(line, 3, &mut words[..1]);
-    field(line, 4, &mut words[1..]);
+// `W name input which value room written`: the command read from the input, with one number changed, is written so.
+fn write_case(line: &[u8]) -> bool {
     let read = read_input(line);
-    let mut frame = read.frame;
+    let frame = read.frame;
+    let f = changed(frame, number(line, 3), number(line, 4));
+    is_written(line, 6, f, number(line, 5))
+}
+
+// `U name input value room written`: the same for the stored count of a network update, which has no list.
+fn update_case(line: &[u8]) -> bool {
+    let read = read_input(line);
+    let frame = read.frame;
     let command = frame.command;
-    let changed = with_update_count(command, words[0]);
-    frame.command = changed;
-    is_written(line, 5, frame, words[1] as usize)
+    let f = command_reader::lists::blank(with_update_count(command, number(line, 3)));
+    is_written(line, 5, f, number(line, 4))
 }
 
 // `S name code seconds`: the refusal number and the seconds of a timeout code.
 fn seconds_case(line: &[u8]) -> bool {
-    let mut code = [0u8; 1];
-    field(line, 2, &mut code);
-    let answer = commands::codes::timeout_seconds(code[0]);
+    let answer = commands::codes::timeout_seconds(number(line, 2));
     let mut got = [0u8; 4];
     let m = record::put_word(&mut got, 0, answer.seconds);
     let n = file::within(m, &got);
