@@ -4,7 +4,6 @@ ghost use mathlib.Core.Path.{_≡_};
 ghost use Prim.Native.Nat.{_+_, _≤_, _<_};
 
 mod calls;
-mod record;
 
 use casefile::file;
 use casefile::report;

@@ -1,10 +1,10 @@
--- `command_cases::record::power_entries` is safe and ends: no more is passed than the array has. Assumes nothing.
+-- `command_records::power_entries` is safe and ends: no more is passed than the array has. Assumes nothing.
 use Prim.Native.Nat.{_≤_, _-_}
 use mathlib.Core.Path.{_≡_}
 use native.Mathlib.Omega.{arith}
 use lib.ListN.{length}
-use Rattle.command_cases.proofs.record.power_entries.Statement.{statement}
-use Rattle.command_cases.proofs.record.power_entries.Tie as tie
+use Rattle.command_records.proofs.power_entries.Statement.{statement}
+use Rattle.command_records.proofs.power_entries.Tie as tie
 
 abbrev Inv-loop : tie.InvT-loop
 Inv-loop n out₀ at powers next₀ k₀ out next k = (k ≤ 35) × (length out ≡ length out₀)

@@ -1,10 +1,10 @@
--- `command_cases::record::bytes` is safe and ends: no more is passed than the list has. Assumes nothing.
+-- `command_records::numbers` is safe and ends: no more is passed than the list has. Assumes nothing.
 use Prim.Native.Nat.{_≤_, _-_}
 use mathlib.Core.Path.{_≡_}
 use native.Mathlib.Omega.{arith}
 use lib.ListN.{length}
-use Rattle.command_cases.proofs.record.bytes.Statement.{statement}
-use Rattle.command_cases.proofs.record.bytes.Tie as tie
+use Rattle.command_records.proofs.numbers.Statement.{statement}
+use Rattle.command_records.proofs.numbers.Tie as tie
 
 abbrev Inv-loop : tie.InvT-loop
 Inv-loop xs n out₀ at next₀ k₀ out next k = (k ≤ length xs) × (length out ≡ length out₀)
@@ -21,11 +21,14 @@ same-length c = omega arith
 returns : tie.Need-returns Inv-loop μ-loop
 returns c = tt
 
-shared-slice-read-put : tie.Need-shared-slice-read-put Inv-loop μ-loop
-shared-slice-read-put c = omega arith
+mul-put-number : tie.Need-mul-put-number Inv-loop μ-loop
+mul-put-number c = omega arith
 
-put-requires : tie.Need-put-requires Inv-loop μ-loop
-put-requires c κs = tt
+shared-slice-read-put-number : tie.Need-shared-slice-read-put-number Inv-loop μ-loop
+shared-slice-read-put-number c = omega arith
+
+put-number-requires : tie.Need-put-number-requires Inv-loop μ-loop
+put-number-requires c κs = tt
 
 add-k : tie.Need-add-k Inv-loop μ-loop
 add-k c = omega arith
@@ -42,8 +45,8 @@ same-length-2 c = omega arith
 returns-2 : tie.Need-returns-2 Inv-loop μ-loop
 returns-2 c = tt
 
-pub bytes-spec : {M : Type 1} → statement M
-bytes-spec =
+pub numbers-spec : {M : Type 1} → statement M
+numbers-spec =
     tie.close
     (tie.spec
     Inv-loop
@@ -51,8 +54,9 @@ bytes-spec =
     loop-holds
     same-length
     returns
-    shared-slice-read-put
-    put-requires
+    mul-put-number
+    shared-slice-read-put-number
+    put-number-requires
     add-k
     loop-less
     loop-again

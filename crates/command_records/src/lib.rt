@@ -1,4 +1,4 @@
-// A command as the record of bytes that a case gives (data/commands.txt says which): every field apart, and numbers with the
+// A command as the record of bytes that a case gives (data/commands.txt of command_cases says which): every field apart, and numbers with the
 // most significant byte first.
 
 use commands::MaybeEui64;
