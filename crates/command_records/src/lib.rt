@@ -77,6 +77,7 @@ fn flag(b: bool) -> u8 {
     if b { 1 } else { 0 }
 }
 
+// 3.4.1 Route Request.
 fn route_request(c: NwkRouteRequestCommand, out: &mut [u8], at: usize) -> usize {
     let many_to_one = c.many_to_one;
     let address = c.destination_eui64;
@@ -92,6 +93,7 @@ fn route_request(c: NwkRouteRequestCommand, out: &mut [u8], at: usize) -> usize 
     put_address(out, b, address)
 }
 
+// 3.4.2 Route Reply.
 fn route_reply(c: NwkRouteReplyCommand, out: &mut [u8], at: usize) -> usize {
     let originator = c.originator_eui64;
     let responder = c.responder_eui64;
@@ -105,12 +107,14 @@ fn route_reply(c: NwkRouteReplyCommand, out: &mut [u8], at: usize) -> usize {
     put_address(out, d, responder)
 }
 
+// 3.4.3 Network Status.
 fn network_status(c: NwkNetworkStatusCommand, out: &mut [u8], at: usize) -> usize {
     let status = c.status_code;
     let a = put2(out, at, 0x03, status.code());
     put_number(out, a, c.network_address)
 }
 
+// 3.4.4 Leave.
 fn leave(c: NwkLeaveCommand, out: &mut [u8], at: usize) -> usize {
     put4(
         out,
@@ -136,6 +140,7 @@ fn numbers(xs: &[u16], n: usize, out: &mut [u8], at: usize) -> usize {
     next
 }
 
+// 3.4.6: the eight bits of the capability information.
 fn capability(c: NwkRejoinCapabilityInformation, out: &mut [u8], at: usize) -> usize {
     let device = c.device_type;
     let power = c.power_source;
@@ -157,18 +162,21 @@ fn capability(c: NwkRejoinCapabilityInformation, out: &mut [u8], at: usize) -> u
     )
 }
 
+// 3.4.6 Rejoin Request.
 fn rejoin_request(c: NwkRejoinRequestCommand, out: &mut [u8], at: usize) -> usize {
     let information = c.capability_information;
     let a = put(out, at, 0x06);
     capability(information, out, a)
 }
 
+// 3.4.7 Rejoin Response.
 fn rejoin_response(c: NwkRejoinResponseCommand, out: &mut [u8], at: usize) -> usize {
     let status = c.rejoin_status;
     let a = put2(out, at, 0x07, status.code());
     put_number(out, a, c.network_address)
 }
 
+// 3.4.8: the entries of a link status.
 fn link_entries(links: [NwkLinkStatus; 31], n: usize, out: &mut [u8], at: usize) -> usize {
     let mut next = at;
     let mut k = 0;
@@ -184,6 +192,7 @@ fn link_entries(links: [NwkLinkStatus; 31], n: usize, out: &mut [u8], at: usize)
     next
 }
 
+// 3.4.8 Link Status, without its entries.
 fn link_status(c: NwkLinkStatusCommand, count: u8, out: &mut [u8], at: usize) -> usize {
     put4(
         out,
@@ -195,6 +204,7 @@ fn link_status(c: NwkLinkStatusCommand, count: u8, out: &mut [u8], at: usize) ->
     )
 }
 
+// 3.4.9 Network Report, without its PAN ids.
 fn network_report(c: NwkNetworkReportCommand, count: u8, out: &mut [u8], at: usize) -> usize {
     let identifier = c.report_command_identifier;
     let a = put2(out, at, 0x09, identifier.code());
@@ -202,6 +212,7 @@ fn network_report(c: NwkNetworkReportCommand, count: u8, out: &mut [u8], at: usi
     put(out, b, count)
 }
 
+// 3.4.10 Network Update.
 fn network_update(c: NwkNetworkUpdateCommand, out: &mut [u8], at: usize) -> usize {
     let identifier = c.update_command_identifier;
     let a = put4(
@@ -216,12 +227,14 @@ fn network_update(c: NwkNetworkUpdateCommand, out: &mut [u8], at: usize) -> usiz
     put_number(out, b, c.new_pan_id)
 }
 
+// 3.4.11 End Device Timeout Request.
 fn timeout_request(c: NwkEndDeviceTimeoutRequestCommand, out: &mut [u8], at: usize) -> usize {
     let timeout = c.request_timeout_enum;
     let a = put2(out, at, 0x0b, timeout.code());
     put(out, a, c.end_device_configuration)
 }
 
+// 3.4.12 End Device Timeout Response.
 fn timeout_response(c: NwkEndDeviceTimeoutResponseCommand, out: &mut [u8], at: usize) -> usize {
     let status = c.status;
     let a = put2(out, at, 0x0c, status.code());
@@ -234,12 +247,14 @@ fn timeout_response(c: NwkEndDeviceTimeoutResponseCommand, out: &mut [u8], at: u
     put(out, b, flag(c.power_negotation_support))
 }
 
+// 3.4.13 Link Power Delta, without its entries.
 fn link_power_delta(c: NwkLinkPowerDeltaCommand, count: u8, out: &mut [u8], at: usize) -> usize {
     let command_type = c.command_type;
     let a = put2(out, at, 0x0d, command_type.code());
     put(out, a, count)
 }
 
+// 3.4.13: the entries of a link power delta.
 fn power_entries(powers: [NwkPowerListEntry; 35], n: usize, out: &mut [u8], at: usize) -> usize {
     let mut next = at;
     let mut k = 0;
@@ -255,6 +270,7 @@ fn power_entries(powers: [NwkPowerListEntry; 35], n: usize, out: &mut [u8], at: 
     next
 }
 
+// 3.4.14 Network Commissioning Request.
 fn commissioning_request(
     c: NwkNetworkCommissioningRequestCommand,
     out: &mut [u8],
@@ -266,6 +282,7 @@ fn commissioning_request(
     capability(information, out, a)
 }
 
+// 3.4.15 Network Commissioning Response.
 fn commissioning_response(
     c: NwkNetworkCommissioningResponseCommand,
     out: &mut [u8],
