@@ -31,7 +31,7 @@ fn is_answer(line: &[u8], k: usize, number: u8, bytes: &[u8]) -> bool {
 fn is_record(line: &[u8], k: usize, read: NwkCommandRead) -> bool {
     let frame = read.frame;
     let mut got = [0u8; 160];
-    let m = command_records::record(frame, &mut got);
+    let m = case_records::record(frame, &mut got);
     let n = file::within(m, &got);
     is_answer(line, k, read.refusal, &got[..n])
 }
@@ -136,7 +136,7 @@ fn update_case(line: &[u8]) -> bool {
 fn seconds_case(line: &[u8]) -> bool {
     let answer = commands::codes::timeout_seconds(number(line, 2));
     let mut got = [0u8; 4];
-    let m = command_records::put_word(&mut got, 0, answer.seconds);
+    let m = case_records::put_word(&mut got, 0, answer.seconds);
     let n = file::within(m, &got);
     is_answer(line, 3, answer.refusal, &got[..n])
 }

@@ -1,16 +1,16 @@
--- `command_records::numbers` is safe and ends: no more is passed than the list has. Assumes nothing.
+-- `case_records::power_entries` is safe and ends: no more is passed than the array has. Assumes nothing.
 use Prim.Native.Nat.{_≤_, _-_}
 use mathlib.Core.Path.{_≡_}
 use native.Mathlib.Omega.{arith}
 use lib.ListN.{length}
-use Rattle.command_records.proofs.numbers.Statement.{statement}
-use Rattle.command_records.proofs.numbers.Tie as tie
+use Rattle.case_records.proofs.power_entries.Statement.{statement}
+use Rattle.case_records.proofs.power_entries.Tie as tie
 
 abbrev Inv-loop : tie.InvT-loop
-Inv-loop xs n out₀ at next₀ k₀ out next k = (k ≤ length xs) × (length out ≡ length out₀)
+Inv-loop n out₀ at powers next₀ k₀ out next k = (k ≤ 35) × (length out ≡ length out₀)
 
 abbrev μ-loop : tie.MeasureT-loop
-μ-loop xs n out₀ at next₀ k₀ out next k = length xs - k
+μ-loop n out₀ at powers next₀ k₀ out next k = 35 - k
 
 loop-holds : tie.Need-loop-holds Inv-loop μ-loop
 loop-holds c = omega arith
@@ -21,14 +21,17 @@ same-length c = omega arith
 returns : tie.Need-returns Inv-loop μ-loop
 returns c = tt
 
-mul-put-number : tie.Need-mul-put-number Inv-loop μ-loop
-mul-put-number c = omega arith
+mul-power : tie.Need-mul-power Inv-loop μ-loop
+mul-power c = omega arith
 
-shared-slice-read-put-number : tie.Need-shared-slice-read-put-number Inv-loop μ-loop
-shared-slice-read-put-number c = omega arith
+array-copy-out-power : tie.Need-array-copy-out-power Inv-loop μ-loop
+array-copy-out-power c = omega arith
 
 put-number-requires : tie.Need-put-number-requires Inv-loop μ-loop
 put-number-requires c κs = tt
+
+put-requires : tie.Need-put-requires Inv-loop μ-loop
+put-requires c κs = tt
 
 add-k : tie.Need-add-k Inv-loop μ-loop
 add-k c = omega arith
@@ -45,8 +48,8 @@ same-length-2 c = omega arith
 returns-2 : tie.Need-returns-2 Inv-loop μ-loop
 returns-2 c = tt
 
-pub numbers-spec : {M : Type 1} → statement M
-numbers-spec =
+pub power-entries-spec : {M : Type 1} → statement M
+power-entries-spec =
     tie.close
     (tie.spec
     Inv-loop
@@ -54,9 +57,10 @@ numbers-spec =
     loop-holds
     same-length
     returns
-    mul-put-number
-    shared-slice-read-put-number
+    mul-power
+    array-copy-out-power
     put-number-requires
+    put-requires
     add-k
     loop-less
     loop-again

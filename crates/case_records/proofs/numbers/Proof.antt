@@ -1,16 +1,16 @@
--- `command_records::link_entries` is safe and ends: no more is passed than the array has. Assumes nothing.
+-- `case_records::numbers` is safe and ends: no more is passed than the list has. Assumes nothing.
 use Prim.Native.Nat.{_≤_, _-_}
 use mathlib.Core.Path.{_≡_}
 use native.Mathlib.Omega.{arith}
 use lib.ListN.{length}
-use Rattle.command_records.proofs.link_entries.Statement.{statement}
-use Rattle.command_records.proofs.link_entries.Tie as tie
+use Rattle.case_records.proofs.numbers.Statement.{statement}
+use Rattle.case_records.proofs.numbers.Tie as tie
 
 abbrev Inv-loop : tie.InvT-loop
-Inv-loop n out₀ at links next₀ k₀ out next k = (k ≤ 31) × (length out ≡ length out₀)
+Inv-loop xs n out₀ at next₀ k₀ out next k = (k ≤ length xs) × (length out ≡ length out₀)
 
 abbrev μ-loop : tie.MeasureT-loop
-μ-loop n out₀ at links next₀ k₀ out next k = 31 - k
+μ-loop xs n out₀ at next₀ k₀ out next k = length xs - k
 
 loop-holds : tie.Need-loop-holds Inv-loop μ-loop
 loop-holds c = omega arith
@@ -21,17 +21,14 @@ same-length c = omega arith
 returns : tie.Need-returns Inv-loop μ-loop
 returns c = tt
 
-mul-link : tie.Need-mul-link Inv-loop μ-loop
-mul-link c = omega arith
+mul-put-number : tie.Need-mul-put-number Inv-loop μ-loop
+mul-put-number c = omega arith
 
-array-copy-out-link : tie.Need-array-copy-out-link Inv-loop μ-loop
-array-copy-out-link c = omega arith
+shared-slice-read-put-number : tie.Need-shared-slice-read-put-number Inv-loop μ-loop
+shared-slice-read-put-number c = omega arith
 
 put-number-requires : tie.Need-put-number-requires Inv-loop μ-loop
 put-number-requires c κs = tt
-
-put2-requires : tie.Need-put2-requires Inv-loop μ-loop
-put2-requires c κs = tt
 
 add-k : tie.Need-add-k Inv-loop μ-loop
 add-k c = omega arith
@@ -48,8 +45,8 @@ same-length-2 c = omega arith
 returns-2 : tie.Need-returns-2 Inv-loop μ-loop
 returns-2 c = tt
 
-pub link-entries-spec : {M : Type 1} → statement M
-link-entries-spec =
+pub numbers-spec : {M : Type 1} → statement M
+numbers-spec =
     tie.close
     (tie.spec
     Inv-loop
@@ -57,10 +54,9 @@ link-entries-spec =
     loop-holds
     same-length
     returns
-    mul-link
-    array-copy-out-link
+    mul-put-number
+    shared-slice-read-put-number
     put-number-requires
-    put2-requires
     add-k
     loop-less
     loop-again

@@ -1,10 +1,10 @@
--- `command_records::bytes` is safe and ends: no more is passed than the list has. Assumes nothing.
+-- `case_records::bytes` is safe and ends: no more is passed than the list has. Assumes nothing.
 use Prim.Native.Nat.{_≤_, _-_}
 use mathlib.Core.Path.{_≡_}
 use native.Mathlib.Omega.{arith}
 use lib.ListN.{length}
-use Rattle.command_records.proofs.bytes.Statement.{statement}
-use Rattle.command_records.proofs.bytes.Tie as tie
+use Rattle.case_records.proofs.bytes.Statement.{statement}
+use Rattle.case_records.proofs.bytes.Tie as tie
 
 abbrev Inv-loop : tie.InvT-loop
 Inv-loop xs n out₀ at next₀ k₀ out next k = (k ≤ length xs) × (length out ≡ length out₀)
