@@ -20,6 +20,7 @@ encryptedTag t ciph nonce a p = xored t (mac t ciph nonce a p) (keyBlock ciph no
 unfoldable pub blocksOfRun : ℕ → (List ℕ → List ℕ) → List ℕ → List ℕ → List ℕ → ℕ
 blocksOfRun t ciph nonce a p = macChain t ciph nonce a p .blocks + 1 + streamFor ciph nonce p .blocks
 
+-- steps 1 to 8: the nonce, the associated data a and the payload p
 unfoldable pub generationEncryption : ℕ → (List ℕ → List ℕ) → List ℕ → List ℕ → List ℕ → Generated
 generationEncryption t ciph nonce a p =
     record { ciphertext = counterMode ciph nonce p; tag = encryptedTag t ciph nonce a p; blocks = blocksOfRun t ciph nonce a p }

@@ -36,10 +36,12 @@ openedBy t key nonce a c mic = decryptionVerification t (aes128 key) nonce a c m
 unfoldable pub sealRefusals : ℕ → ℕ → ℕ → List ℕ
 sealRefusals a p room = on 1 (ltb 127 a) ∷ on 1 (ltb 127 p) ∷ on 18 (ltb room p) ∷ []
 
+-- a whole run of encrypt_ccm
 pub record SealRun : Type 0 where
   pub answer : Sealed
   pub out : List ℕ
 
+-- the run that is refused by the number n
 abbrev pub sealRefused : ℕ → List ℕ → SealRun
 sealRefused n out = record { answer = record { refusal = n; length = 0; mic = blankMic }; out = out }
 
@@ -53,6 +55,7 @@ unfoldable pub sealBy : ℕ → Generated → List ℕ → SealRun
 sealBy zero g out = sealPassed g out
 sealBy (suc n) g out = sealRefused (suc n) out
 
+-- the key, the nonce, the authenticated data a, the payload p, and what the output holds before
 unfoldable pub encryptCcm : List ℕ → List ℕ → List ℕ → List ℕ → List ℕ → SealRun
 encryptCcm key nonce a p out =
     sealBy (firstOf (sealRefusals (length a) (length p) (length out))) (generationEncryption micLength (aes128 key) nonce a p) out
@@ -63,10 +66,12 @@ encryptCcm key nonce a p out =
 unfoldable pub openRefusals : ℕ → ℕ → ℕ → Bool → List ℕ
 openRefusals a c room valid = on 1 (ltb 127 a) ∷ on 1 (ltb 127 c) ∷ on 18 (ltb room c) ∷ on 19 (not valid) ∷ []
 
+-- a whole run of decrypt_ccm
 pub record OpenRun : Type 0 where
   pub answer : Opened
   pub out : List ℕ
 
+-- the run that is refused by the number n
 abbrev pub openRefused : ℕ → List ℕ → OpenRun
 openRefused n out = record { answer = record { refusal = n; length = 0 }; out = out }
 
@@ -83,6 +88,7 @@ unfoldable pub openBy : ℕ → Verified → List ℕ → OpenRun
 openBy zero v out = openPassed v out
 openBy (suc n) v out = openRefused (suc n) out
 
+-- the key, the nonce, the authenticated data a, the ciphertext c with its MIC, and what the output holds before
 unfoldable pub decryptCcm : List ℕ → List ℕ → List ℕ → List ℕ → List ℕ → List ℕ → OpenRun
 decryptCcm key nonce a c mic out =
     openBy (firstOf (openRefusals (length a) (length c) (length out) (decryptionVerification micLength (aes128 key) nonce a c mic .valid)))

@@ -27,6 +27,7 @@ pub record Verified : Type 0 where
 unfoldable pub tagValid : ℕ → (List ℕ → List ℕ) → List ℕ → List ℕ → List ℕ → List ℕ → Bool
 tagValid t ciph nonce a p u = sameBytes t (xored t u (keyBlock ciph nonce 0)) (mac t ciph nonce a p)
 
+-- steps 2 to 10: the nonce, the associated data a, the ciphertext c and its tag u
 unfoldable pub decryptionVerification : ℕ → (List ℕ → List ℕ) → List ℕ → List ℕ → List ℕ → List ℕ → Verified
 decryptionVerification t ciph nonce a c u =
     record

@@ -56,7 +56,8 @@ fn refusal(a: usize, n: usize, room: usize) -> u8
     0
 }
 
-// Generation-encryption (SP 800-38C, 6.1): the ciphertext goes to the front of the output, the MIC is given.
+// Generation-encryption (SP 800-38C, 6.1), for a caller that has checked the lengths: the ciphertext goes to the front of
+// the output, the MIC is given.
 pub fn seal(key: [u8; 16], nonce: [u8; 13], auth: &[u8], payload: &[u8], out: &mut [u8]) -> [u8; 4]
     requires { ⌜ (length (now auth) ≤ 127) × (length (now payload) ≤ 127) × (length (now payload) ≤ length (now out)) ⌝ }
     ensures mic { λ r. ⌜ r ≡ generationEncryption micLength (aes128 key) nonce (now (auth .entry)) (now (payload .entry)) .tag ⌝ }
@@ -69,8 +70,8 @@ pub fn seal(key: [u8; 16], nonce: [u8; 13], auth: &[u8], payload: &[u8], out: &m
     mac::encrypted_tag(&keys, nonce, auth, payload)
 }
 
-// Decryption-verification (SP 800-38C, 6.2): whether the MIC is the one computed; only then the payload goes to the front
-// of the output.
+// Decryption-verification (SP 800-38C, 6.2), for a caller that has checked the lengths: whether the MIC is the one computed;
+// only then the payload goes to the front of the output.
 pub fn open(
     key: [u8; 16],
     nonce: [u8; 13],

@@ -7,3 +7,4 @@ pub mod Lengths
 pub mod InRange
 pub mod Reread
 pub mod RoundTrip
+pub mod Seconds

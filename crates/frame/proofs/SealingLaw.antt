@@ -2,17 +2,19 @@
 -- Assumes nothing.
 use mathlib.Core.Path.{_≡_, refl, sym, ap, _∙_}
 use mathlib.Core.List.{List}
-use Prim.Native.Nat.{ℕ, _<_}
+use Prim.Native.Nat.{ℕ, zero, suc, _≤_, _<_}
 use native.Mathlib.Omega.{arith}
-use lib.ListN.{length, getD}
+use lib.ListN.{length, getD, take}
 use Rattle.octets.proofs.Strings.{take-over}
 use Rattle.header.specs.declared.nwk.NwkHeader.{NwkHeader}
+use Rattle.header.specs.declared.nwk.Written.{Written}
 use Rattle.header.specs.Reading.{readHeader}
 use Rattle.header.specs.Writing.{written}
 use Rattle.header.proofs.ReadBack.{same-cleared}
 use Rattle.ccm.specs.Operations.{micLength}
 use Rattle.frame.specs.declared.OptionAuxHeader.{OptionAuxHeader}
 use Rattle.frame.specs.declared.FrameRead.{FrameRead}
+use Rattle.frame.specs.declared.FrameOpened.{FrameOpened}
 use Rattle.frame.specs.Reading.{readFrame}
 use Rattle.frame.specs.Security.{networkLevel, auxOf}
 use Rattle.frame.specs.Sealing.{sealRefusal, sealedBytes, sealFrame}
@@ -20,7 +22,7 @@ use Rattle.frame.specs.Opening as opening
 use Rattle.frame.specs.Opening.{verified, opened, openBy, openFrame}
 use Rattle.frame.specs.SealingLaw.{FirstHalf, SecondHalf, Reopened, Resealed, bytesWritten, payloadGiven}
 use Rattle.frame.proofs.Accepted.{Sealable, sealable, seal-accepts, written-refusal, Openable, openable, open-accepts, opened-refusal}
-use Rattle.frame.proofs.FirstHalf.{reopened}
+use Rattle.frame.proofs.FirstHalf.{sealed-length, reopened}
 use Rattle.frame.proofs.SecondHalf.{SecuredFacts, secured-facts, wholeRead, sealable-again, frame-again}
 
 -- the bytes of a writer that was not refused
@@ -37,6 +39,18 @@ seal-bytes : (key : List ℕ) (h : NwkHeader) (a : OptionAuxHeader) (p o : List 
     → bytesWritten (sealFrame key h a p o) ≡ sealedBytes networkLevel micLength key h (auxOf a) p
 unfolding sealFrame
 seal-bytes key h a p o e = written-bytes _ _ o e
+
+-- a writer's length is within the output, if its bytes are where it accepts
+written-within : (n : ℕ) (bs o : List ℕ) → (n ≡ 0 → length bs ≤ length o) → written n bs o .answer .length ≤ length o
+unfolding written
+written-within zero bs o h = h refl
+written-within (suc n) bs o h = omega arith
+
+pub seal-within : (key : List ℕ) (h : NwkHeader) (a : OptionAuxHeader) (p o : List ℕ) → sealFrame key h a p o .answer .length ≤ length o
+unfolding sealFrame
+seal-within key h a p o =
+    written-within _ _ o
+    (λ e. rw (sealed-length networkLevel micLength key h (auxOf a) p) (sealable micLength h a p (length o) e .fits))
 
 pub first-half : FirstHalf
 unfolding openFrame
@@ -85,3 +99,14 @@ second-half key f out out₂ bytes accepted control size =
     let able = sealable-again networkLevel micLength key f bytes s low (control .level) (length out) o in
     let same = frame-again networkLevel micLength key f bytes s low (control .level) (o .tagged) (o .valid) in
     rw (run, take-over out (v .payload)) (resealed key f out₂ _ _ (v .payload) size able same)
+
+-- the first half, by what sealing and opening in turn answered and left
+pub first-half-run : (key : List ℕ) (h : NwkHeader) (a : OptionAuxHeader) (p out out₂ : List ℕ) (w : Written) (frame : List ℕ) (r : FrameOpened) (o : List ℕ)
+    → w ≡ sealFrame key h a p out .answer → frame ≡ sealFrame key h a p out .out
+    → r ≡ openFrame key (take (w .length) frame) out₂ .answer → o ≡ openFrame key (take (w .length) frame) out₂ .out
+    → Reopened h a p (openFrame key (bytesWritten (sealFrame key h a p out)) out₂) → Reopened h a p (record { answer = r; out = o })
+first-half-run key h a p out out₂ w frame r o ew ef er eo law =
+    let bytes : take (w .length) frame ≡ bytesWritten (sealFrame key h a p out) = λ i. take (ew i .length) (ef i) in
+    let run : _≡_ {A = opening.Run} (record { answer = r; out = o }) (openFrame key (bytesWritten (sealFrame key h a p out)) out₂) =
+    (λ i. record { answer = er i; out = eo i }) ∙ ap (λ (f : List ℕ). openFrame key f out₂) bytes in
+    rw run law

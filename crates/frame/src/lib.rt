@@ -13,6 +13,7 @@ ghost use Rattle.frame.specs.Reading.{auxIf, frameRefused, frameRefusal,
 ghost use Rattle.frame.specs.Writing.{frameWriteRefusal, writeFrame};
 ghost use Rattle.frame.specs.Security.{isAbsent, auxOf};
 
+pub mod law;
 pub mod opening;
 pub mod ranges;
 pub mod sealing;

@@ -37,7 +37,7 @@ impl FrameOpened {
 
 // The first of the refusals that need no key and hold, or 0: reading's number, then 14, 15, 16 and 18, for the bytes
 // behind the headers and the output's room.
-fn open_refusal(number: u8, h: NwkHeader, aux: OptionAuxHeader, part: usize, room: usize) -> u8
+pub fn open_refusal(number: u8, h: NwkHeader, aux: OptionAuxHeader, part: usize, room: usize) -> u8
     ensures { λ r. ⌜ r ≡ firstOf (openRefusals micLength number h aux part room) ⌝ }
 {
     if number != 0 {

@@ -3,6 +3,8 @@
 // with 0 for both where the bytes do not give one.
 
 ghost use mathlib.Core.Path.{_≡_};
+ghost use lib.ListN.{length};
+ghost use Rattle.octets.specs.Strings.{Below};
 ghost use Rattle.octets.specs.Numbers.{le, leAt};
 ghost use Rattle.types.specs.Addresses.{readNwk, readPanId, readEui64, reversed};
 ghost use Rattle.types.specs.Keys.{readKey, keyBytes};
@@ -164,6 +166,13 @@ impl Eui64 {
         octets::read_u64(&b, 0)
     }
 
+    // Every address is eight bytes, each below 256: the premises of the laws about addresses.
+    pub fn is_bytes(self) -> bool
+        ensures { λ _. ⌜ (length (self .0) ≡ 8) × Below 256 (self .0) ⌝ }
+    {
+        true
+    }
+
     // The address of a number, its first wire byte lowest.
     pub fn from_u64(x: u64) -> Self
         ensures { λ r. ⌜ r .0 ≡ le 8 x ⌝ }
@@ -205,6 +214,13 @@ impl Key {
         ensures { λ r. ⌜ r ≡ self .0 ⌝ }
     {
         self.0
+    }
+
+    // Every key is sixteen bytes, each below 256: the premises of the laws about keys.
+    pub fn is_bytes(self) -> bool
+        ensures { λ _. ⌜ (length (self .0) ≡ 16) × Below 256 (self .0) ⌝ }
+    {
+        true
     }
 
     // The key as two numbers.

@@ -1,0 +1,38 @@
+-- `address_at` meets its contract: the address if its presence byte is 1. Assumes nothing.
+use borrow.Author.Needs.{needs}
+use mathlib.Core.Path.{_≡_, refl, sym, ap, _∙_}
+use mathlib.Core.Bool.{Bool, cond}
+use lib.ListN.{getD}
+use Prim.Native.Nat.{ℕ, _+_}
+use borrow.Author.Tests.{eq-eqb, ne-eqb}
+use Rattle.command_record_reader.proofs.fields.address_at.Statement.{statement}
+use Rattle.command_record_reader.proofs.fields.address_at.Tie as tie
+use Rattle.commands.specs.declared.MaybeEui64.{MaybeEui64}
+use Rattle.commands.specs.Commands.{addressOf}
+use Rattle.octets.specs.Numbers.{leAt}
+
+byte-at-requires : tie.Need-byte-at-requires
+byte-at-requires c κs = search needs
+
+add-read-u64 : tie.Need-add-read-u64
+add-read-u64 c = search needs
+
+read-u64-requires : tie.Need-read-u64-requires
+read-u64-requires c κs = search needs
+
+returns : tie.Need-returns
+unfolding addressOf
+returns c =
+    let a = c .before .before .before .before .args in
+    ap MaybeEui64.Present (c .read-u64 .ensures)
+    ∙ sym (ap (λ (b : Bool). cond b (MaybeEui64.Present (leAt 8 (a .bytes .now) (a .i + 1))) MaybeEui64.Absent) (eq-eqb (getD (a .bytes .now) (a .i) 0) 1 (sym (c .before .before .byte-at .ensures) ∙ c .before .if1 .taken)))
+
+returns-2 : tie.Need-returns-2
+unfolding addressOf
+returns-2 c =
+    let a = c .before .before .before .args in
+    sym (ap (λ (b : Bool). cond b (MaybeEui64.Present (leAt 8 (a .bytes .now) (a .i + 1))) MaybeEui64.Absent) (ne-eqb (getD (a .bytes .now) (a .i) 0) 1 (λ e. c .if1 .left (c .before .byte-at .ensures ∙ e))))
+
+pub address-at-spec : {M : Type 1} → statement M
+address-at-spec =
+    tie.close (tie.spec byte-at-requires add-read-u64 read-u64-requires returns returns-2)

@@ -1,0 +1,54 @@
+-- `commissioning_request_at` meets its contract: the fields stand at their places in the record. Assumes nothing.
+use borrow.Author.Needs.{needs}
+use mathlib.Core.Path.{_≡_, refl, sym, ap, _∙_}
+use Prim.Native.Nat.{ℕ}
+use lib.Dec.{eqb}
+use Rattle.command_record_reader.proofs.fields.commissioning_request_at.Statement.{statement}
+use Rattle.command_record_reader.proofs.fields.commissioning_request_at.Tie as tie
+use Rattle.commands.specs.declared.NwkCommandId.{NwkCommandId}
+use Rattle.commands.specs.declared.NwkCommand.{NwkCommand}
+use Rattle.commands.specs.declared.TypedBody.{TypedBody}
+use Rattle.commands.specs.Reading.{commandOf}
+use Rattle.command_records.specs.Fields.{recordValues}
+use Rattle.commands.specs.Codes.{commissioningTypeOf}
+use Rattle.commands.specs.Commands.{commissioningRequestOf, commissioningRequestBy}
+
+byte-at-requires : tie.Need-byte-at-requires
+byte-at-requires c κs = search needs
+
+try-from-requires : tie.Need-try-from-requires
+try-from-requires c κs = search needs
+
+enum-known-commissioning-type : tie.Need-enum-known-commissioning-type
+enum-known-commissioning-type c = search needs
+
+enum-told : tie.Need-enum-told
+enum-told c = search needs
+
+returns : tie.Need-returns
+unfolding commandOf recordValues commissioningRequestOf commissioningRequestBy
+returns c =
+    let r = c .before .before .before .before .before .args .bytes .now in
+    ap (λ k. commissioningRequestBy k (recordValues NwkCommandId.NetworkCommissioningRequest r)) (sym (c .enum-told .given .1) ∙ c .before .before .try-from .ensures ∙ ap commissioningTypeOf (c .before .before .before .byte-at .ensures))
+
+capability-at-requires : tie.Need-capability-at-requires
+capability-at-requires c κs = search needs
+
+returns-2 : tie.Need-returns-2
+unfolding commandOf recordValues commissioningRequestOf commissioningRequestBy
+returns-2 c =
+    let r = c .before .before .before .before .before .before .before .args .bytes .now in
+    (λ i. TypedBody.Typed (NwkCommand.NetworkCommissioningRequest (record { «commissioning_type» = c .before .before .commissioning-type .given .0 .0; «capability_information» = c .capability-at .ensures i })))
+    ∙ ap (λ k. commissioningRequestBy k (recordValues NwkCommandId.NetworkCommissioningRequest r)) (sym (c .before .before .commissioning-type .given .1) ∙ c .before .before .before .before .try-from .ensures ∙ ap commissioningTypeOf (c .before .before .before .before .before .byte-at .ensures))
+
+pub commissioning-request-at-spec : {M : Type 1} → statement M
+commissioning-request-at-spec =
+    tie.close
+    (tie.spec
+    byte-at-requires
+    try-from-requires
+    enum-known-commissioning-type
+    enum-told
+    returns
+    capability-at-requires
+    returns-2)

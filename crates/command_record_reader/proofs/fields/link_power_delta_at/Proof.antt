@@ -1,0 +1,50 @@
+-- `link_power_delta_at` meets its contract: the fields stand at their places in the record. Assumes nothing.
+use borrow.Author.Needs.{needs}
+use mathlib.Core.Path.{_≡_, refl, sym, ap, _∙_}
+use Prim.Native.Nat.{ℕ}
+use lib.Dec.{eqb}
+use Rattle.command_record_reader.proofs.fields.link_power_delta_at.Statement.{statement}
+use Rattle.command_record_reader.proofs.fields.link_power_delta_at.Tie as tie
+use Rattle.commands.specs.declared.NwkCommandId.{NwkCommandId}
+use Rattle.commands.specs.declared.NwkCommand.{NwkCommand}
+use Rattle.commands.specs.declared.TypedBody.{TypedBody}
+use Rattle.commands.specs.Reading.{commandOf}
+use Rattle.command_records.specs.Fields.{recordValues}
+use Rattle.commands.specs.Codes.{powerTypeOf}
+use Rattle.commands.specs.Commands.{linkPowerDeltaOf, linkPowerDeltaBy}
+
+byte-at-requires : tie.Need-byte-at-requires
+byte-at-requires c κs = search needs
+
+try-from-requires : tie.Need-try-from-requires
+try-from-requires c κs = search needs
+
+enum-known-command-type : tie.Need-enum-known-command-type
+enum-known-command-type c = search needs
+
+enum-told : tie.Need-enum-told
+enum-told c = search needs
+
+returns : tie.Need-returns
+unfolding commandOf recordValues linkPowerDeltaOf linkPowerDeltaBy
+returns c =
+    let r = c .before .before .before .before .before .args .bytes .now in
+    ap (λ k. linkPowerDeltaBy k (recordValues NwkCommandId.LinkPowerDelta r)) (sym (c .enum-told .given .1) ∙ c .before .before .try-from .ensures ∙ ap powerTypeOf (c .before .before .before .byte-at .ensures))
+
+returns-2 : tie.Need-returns-2
+unfolding commandOf recordValues linkPowerDeltaOf linkPowerDeltaBy
+returns-2 c =
+    let r = c .before .before .before .before .before .before .args .bytes .now in
+    (λ i. TypedBody.Typed (NwkCommand.LinkPowerDelta (record { «command_type» = c .before .command-type .given .0 .0 })))
+    ∙ ap (λ k. linkPowerDeltaBy k (recordValues NwkCommandId.LinkPowerDelta r)) (sym (c .before .command-type .given .1) ∙ c .before .before .before .try-from .ensures ∙ ap powerTypeOf (c .before .before .before .before .byte-at .ensures))
+
+pub link-power-delta-at-spec : {M : Type 1} → statement M
+link-power-delta-at-spec =
+    tie.close
+    (tie.spec
+    byte-at-requires
+    try-from-requires
+    enum-known-command-type
+    enum-told
+    returns
+    returns-2)

@@ -1,0 +1,54 @@
+-- `network_report_at` meets its contract: the fields stand at their places in the record. Assumes nothing.
+use borrow.Author.Needs.{needs}
+use mathlib.Core.Path.{_≡_, refl, sym, ap, _∙_}
+use Prim.Native.Nat.{ℕ}
+use lib.Dec.{eqb}
+use Rattle.command_record_reader.proofs.fields.network_report_at.Statement.{statement}
+use Rattle.command_record_reader.proofs.fields.network_report_at.Tie as tie
+use Rattle.commands.specs.declared.NwkCommandId.{NwkCommandId}
+use Rattle.commands.specs.declared.NwkCommand.{NwkCommand}
+use Rattle.commands.specs.declared.TypedBody.{TypedBody}
+use Rattle.commands.specs.Reading.{commandOf}
+use Rattle.command_records.specs.Fields.{recordValues}
+use Rattle.commands.specs.Codes.{reportIdentifierOf}
+use Rattle.commands.specs.Commands.{networkReportOf, networkReportBy}
+
+byte-at-requires : tie.Need-byte-at-requires
+byte-at-requires c κs = search needs
+
+try-from-requires : tie.Need-try-from-requires
+try-from-requires c κs = search needs
+
+enum-known-report-command-identifier : tie.Need-enum-known-report-command-identifier
+enum-known-report-command-identifier c = search needs
+
+enum-told : tie.Need-enum-told
+enum-told c = search needs
+
+returns : tie.Need-returns
+unfolding commandOf recordValues networkReportOf networkReportBy
+returns c =
+    let r = c .before .before .before .before .before .args .bytes .now in
+    ap (λ k. networkReportBy k (recordValues NwkCommandId.NetworkReport r)) (sym (c .enum-told .given .1) ∙ c .before .before .try-from .ensures ∙ ap reportIdentifierOf (c .before .before .before .byte-at .ensures))
+
+read-u64-requires : tie.Need-read-u64-requires
+read-u64-requires c κs = search needs
+
+returns-2 : tie.Need-returns-2
+unfolding commandOf recordValues networkReportOf networkReportBy
+returns-2 c =
+    let r = c .before .before .before .before .before .before .before .args .bytes .now in
+    (λ i. TypedBody.Typed (NwkCommand.NetworkReport (record { «report_command_identifier» = c .before .before .report-command-identifier .given .0 .0; epid = c .read-u64 .ensures i })))
+    ∙ ap (λ k. networkReportBy k (recordValues NwkCommandId.NetworkReport r)) (sym (c .before .before .report-command-identifier .given .1) ∙ c .before .before .before .before .try-from .ensures ∙ ap reportIdentifierOf (c .before .before .before .before .before .byte-at .ensures))
+
+pub network-report-at-spec : {M : Type 1} → statement M
+network-report-at-spec =
+    tie.close
+    (tie.spec
+    byte-at-requires
+    try-from-requires
+    enum-known-report-command-identifier
+    enum-told
+    returns
+    read-u64-requires
+    returns-2)

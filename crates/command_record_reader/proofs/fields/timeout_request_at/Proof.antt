@@ -1,0 +1,54 @@
+-- `timeout_request_at` meets its contract: the fields stand at their places in the record. Assumes nothing.
+use borrow.Author.Needs.{needs}
+use mathlib.Core.Path.{_≡_, refl, sym, ap, _∙_}
+use Prim.Native.Nat.{ℕ}
+use lib.Dec.{eqb}
+use Rattle.command_record_reader.proofs.fields.timeout_request_at.Statement.{statement}
+use Rattle.command_record_reader.proofs.fields.timeout_request_at.Tie as tie
+use Rattle.commands.specs.declared.NwkCommandId.{NwkCommandId}
+use Rattle.commands.specs.declared.NwkCommand.{NwkCommand}
+use Rattle.commands.specs.declared.TypedBody.{TypedBody}
+use Rattle.commands.specs.Reading.{commandOf}
+use Rattle.command_records.specs.Fields.{recordValues}
+use Rattle.commands.specs.Codes.{timeoutOf}
+use Rattle.commands.specs.Commands.{timeoutRequestOf, timeoutRequestBy}
+
+byte-at-requires : tie.Need-byte-at-requires
+byte-at-requires c κs = search needs
+
+try-from-requires : tie.Need-try-from-requires
+try-from-requires c κs = search needs
+
+enum-known-request-timeout-enum : tie.Need-enum-known-request-timeout-enum
+enum-known-request-timeout-enum c = search needs
+
+enum-told : tie.Need-enum-told
+enum-told c = search needs
+
+returns : tie.Need-returns
+unfolding commandOf recordValues timeoutRequestOf timeoutRequestBy
+returns c =
+    let r = c .before .before .before .before .before .args .bytes .now in
+    ap (λ k. timeoutRequestBy k (recordValues NwkCommandId.EndDeviceTimeoutRequest r)) (sym (c .enum-told .given .1) ∙ c .before .before .try-from .ensures ∙ ap timeoutOf (c .before .before .before .byte-at .ensures))
+
+byte-at-requires-2 : tie.Need-byte-at-requires-2
+byte-at-requires-2 c κs = search needs
+
+returns-2 : tie.Need-returns-2
+unfolding commandOf recordValues timeoutRequestOf timeoutRequestBy
+returns-2 c =
+    let r = c .before .before .before .before .before .before .before .args .bytes .now in
+    (λ i. TypedBody.Typed (NwkCommand.EndDeviceTimeoutRequest (record { «request_timeout_enum» = c .before .before .request-timeout-enum .given .0 .0; «end_device_configuration» = c .byte-at2 .ensures i })))
+    ∙ ap (λ k. timeoutRequestBy k (recordValues NwkCommandId.EndDeviceTimeoutRequest r)) (sym (c .before .before .request-timeout-enum .given .1) ∙ c .before .before .before .before .try-from .ensures ∙ ap timeoutOf (c .before .before .before .before .before .byte-at .ensures))
+
+pub timeout-request-at-spec : {M : Type 1} → statement M
+timeout-request-at-spec =
+    tie.close
+    (tie.spec
+    byte-at-requires
+    try-from-requires
+    enum-known-request-timeout-enum
+    enum-told
+    returns
+    byte-at-requires-2
+    returns-2)

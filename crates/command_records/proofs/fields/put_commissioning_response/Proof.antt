@@ -1,0 +1,29 @@
+-- `put_commissioning_response` meets its contract: the response with its code. Assumes nothing.
+use borrow.Author.Needs.{needs}
+use mathlib.Core.Path.{_≡_, refl, sym, ap, _∙_}
+use mathlib.Core.List.{[], _∷_, _++_}
+use Prim.Native.Nat.{ℕ}
+use Rattle.command_records.proofs.fields.put_commissioning_response.Statement.{statement}
+use Rattle.command_records.proofs.fields.put_commissioning_response.Tie as tie
+use Rattle.octets.specs.Strings.{over}
+use Rattle.octets.specs.Numbers.{le}
+use Rattle.command_records.specs.Fields.{fieldBytes}
+
+code-requires : tie.Need-code-requires
+code-requires c κs = search needs
+
+put-response-requires : tie.Need-put-response-requires
+put-response-requires c κs = search needs
+
+same-length : tie.Need-same-length
+same-length c = search needs
+
+returns : tie.Need-returns
+unfolding fieldBytes
+returns c =
+    let a = c .before .before .before .before .before .before .args in
+    c .before .before .put-response .ensures ∙ ap (λ (s : ℕ). over (a .out .now) 0 (le 1 15 ++ (le 2 (a .c .«network_address») ++ le 1 s))) (c .before .before .before .code .ensures)
+
+pub put-commissioning-response-spec : {M : Type 1} → statement M
+put-commissioning-response-spec =
+    tie.close (tie.spec code-requires put-response-requires same-length returns)

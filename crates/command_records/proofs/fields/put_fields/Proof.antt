@@ -1,0 +1,32 @@
+-- `put_fields` meets its contract: the fields over a front of zeros. Assumes nothing.
+use borrow.Author.Needs.{needs}
+use mathlib.Core.Path.{_≡_, refl, sym, ap, _∙_}
+use Rattle.command_records.proofs.fields.put_fields.Statement.{statement}
+use Rattle.command_records.proofs.fields.put_fields.Tie as tie
+use Rattle.octets.specs.Strings.{over}
+use Rattle.command_records.specs.Fields.{fieldBytes, fieldsRecord}
+use Rattle.command_records.proofs.Lengths.{length-fields, over-places}
+
+slice-aggregate-copy-at : tie.Need-slice-aggregate-copy-at
+slice-aggregate-copy-at c = search needs
+
+copy-at-requires : tie.Need-copy-at-requires
+copy-at-requires c κs = search needs
+
+put-own-fields-requires : tie.Need-put-own-fields-requires
+put-own-fields-requires c κs = search needs
+
+same-length : tie.Need-same-length
+same-length c = search needs
+
+returns : tie.Need-returns
+unfolding fieldsRecord
+returns c =
+    let a = c .before .before .before .before .before .before .before .before .before .before .args in
+    c .before .before .put-own-fields .ensures ∙ ap (λ o. over o 0 (fieldBytes (a .command))) (c .before .before .before .before .before .before .copy-at .ensures)
+    ∙ over-places 25 (a .out .now) (fieldBytes (a .command)) (length-fields (a .command))
+
+pub put-fields-spec : {M : Type 1} → statement M
+put-fields-spec =
+    tie.close
+    (tie.spec slice-aggregate-copy-at copy-at-requires put-own-fields-requires same-length returns)

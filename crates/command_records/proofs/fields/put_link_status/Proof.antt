@@ -1,0 +1,40 @@
+-- `put_link_status` meets its contract: the bytes of an array. Assumes nothing.
+use borrow.Author.Needs.{needs}
+use mathlib.Core.Path.{_≡_, refl, sym, ap, _∙_}
+use mathlib.Core.List.{[], _∷_, _++_}
+use Rattle.command_records.proofs.fields.put_link_status.Statement.{statement}
+use Rattle.command_records.proofs.fields.put_link_status.Tie as tie
+use Rattle.octets.specs.Strings.{over}
+use Rattle.command_records.specs.Fields.{fieldBytes}
+
+bit-byte-requires : tie.Need-bit-byte-requires
+bit-byte-requires c κs = search needs
+
+bit-byte-requires-2 : tie.Need-bit-byte-requires-2
+bit-byte-requires-2 c κs = search needs
+
+slice-aggregate-copy-at : tie.Need-slice-aggregate-copy-at
+slice-aggregate-copy-at c = search needs
+
+copy-at-requires : tie.Need-copy-at-requires
+copy-at-requires c κs = search needs
+
+same-length : tie.Need-same-length
+same-length c = search needs
+
+returns : tie.Need-returns
+unfolding fieldBytes
+returns c =
+    let a = c .before .before .before .before .before .before .before .before .args in
+    c .before .before .copy-at .ensures ∙ (λ i. over (a .out .now) 0 (8 ∷ c .before .before .before .before .before .before .bit-byte .ensures i ∷ c .before .before .before .before .before .bit-byte2 .ensures i ∷ []))
+
+pub put-link-status-spec : {M : Type 1} → statement M
+put-link-status-spec =
+    tie.close
+    (tie.spec
+    bit-byte-requires
+    bit-byte-requires-2
+    slice-aggregate-copy-at
+    copy-at-requires
+    same-length
+    returns)

@@ -1,0 +1,58 @@
+-- `put_network_update` meets its contract: four parts, each right behind the one before. Assumes nothing.
+use borrow.Author.Needs.{needs}
+use mathlib.Core.Path.{_≡_, refl, sym, ap, _∙_}
+use native.Mathlib.Omega.{arith}
+use mathlib.Core.List.{[], _∷_, _++_}
+use Rattle.command_records.proofs.fields.put_network_update.Statement.{statement}
+use Rattle.command_records.proofs.fields.put_network_update.Tie as tie
+use Rattle.octets.specs.Strings.{over}
+use Rattle.octets.specs.Numbers.{le}
+use Rattle.octets.proofs.Numbers.{length-le}
+use Rattle.commands.specs.Codes.{updateIdentifierCode}
+use Rattle.command_records.specs.Fields.{fieldBytes}
+use Rattle.records.proofs.Writes.{over-four}
+
+code-requires : tie.Need-code-requires
+code-requires c κs = search needs
+
+slice-aggregate-copy-at : tie.Need-slice-aggregate-copy-at
+slice-aggregate-copy-at c = search needs
+
+copy-at-requires : tie.Need-copy-at-requires
+copy-at-requires c κs = search needs
+
+put-u64-requires : tie.Need-put-u64-requires
+put-u64-requires c κs = search needs
+
+put-u8-requires : tie.Need-put-u8-requires
+put-u8-requires c κs = search needs
+
+put-u16-requires : tie.Need-put-u16-requires
+put-u16-requires c κs = search needs
+
+same-length : tie.Need-same-length
+same-length c = search needs
+
+returns : tie.Need-returns
+unfolding fieldBytes
+returns c =
+    let a = c .before .before .before .before .before .before .before .before .before .before .before .before .before .before .before .before .before .before .before .args in
+    over-four (a .out .now) _ _ _ _ 0 3 11 12 (10 ∷ a .c .«update_information_count» ∷ updateIdentifierCode (a .c .«update_command_identifier») ∷ []) (le 8 (a .c .epid)) (le 1 (a .c .«update_id»)) _
+    (omega arith) refl (rw (length-le 8 (a .c .epid)) refl) (rw (length-le 1 (a .c .«update_id»)) refl)
+    (c .before .before .before .before .before .before .before .before .before .before .before .before .before .before .copy-at .ensures ∙ (λ i. over (a .out .now) 0 (10 ∷ a .c .«update_information_count» ∷ c .before .before .before .before .before .before .before .before .before .before .before .before .before .before .before .before .before .code .ensures i ∷ [])))
+    (c .before .before .before .before .before .before .before .before .before .before .put-u64 .ensures)
+    (c .before .before .before .before .before .before .put-u8 .ensures)
+    (c .before .before .put-u16 .ensures)
+
+pub put-network-update-spec : {M : Type 1} → statement M
+put-network-update-spec =
+    tie.close
+    (tie.spec
+    code-requires
+    slice-aggregate-copy-at
+    copy-at-requires
+    put-u64-requires
+    put-u8-requires
+    put-u16-requires
+    same-length
+    returns)

@@ -1,0 +1,49 @@
+-- `put_route_reply_front` meets its contract: four parts, each right behind the one before. Assumes nothing.
+use borrow.Author.Needs.{needs}
+use mathlib.Core.Path.{_≡_, refl, sym, ap, _∙_}
+use native.Mathlib.Omega.{arith}
+use mathlib.Core.List.{[], _∷_, _++_}
+use Rattle.command_records.proofs.fields.put_route_reply_front.Statement.{statement}
+use Rattle.command_records.proofs.fields.put_route_reply_front.Tie as tie
+use Rattle.octets.specs.Numbers.{le}
+use Rattle.octets.proofs.Numbers.{length-le}
+use Rattle.records.proofs.Writes.{over-four}
+
+slice-aggregate-copy-at : tie.Need-slice-aggregate-copy-at
+slice-aggregate-copy-at c = search needs
+
+copy-at-requires : tie.Need-copy-at-requires
+copy-at-requires c κs = search needs
+
+put-u16-requires : tie.Need-put-u16-requires
+put-u16-requires c κs = search needs
+
+put-u16-requires-2 : tie.Need-put-u16-requires-2
+put-u16-requires-2 c κs = search needs
+
+put-u8-requires : tie.Need-put-u8-requires
+put-u8-requires c κs = search needs
+
+same-length : tie.Need-same-length
+same-length c = search needs
+
+returns : tie.Need-returns
+returns c =
+    let a = c .before .before .before .before .before .before .before .before .before .before .before .before .before .before .before .before .before .before .args in
+    over-four (a .out .now) _ _ _ _ 0 2 4 6 (2 ∷ a .id ∷ []) (le 2 (a .originator)) (le 2 (a .responder)) _ (omega arith) refl (rw (length-le 2 (a .originator)) refl) (rw (length-le 2 (a .responder)) refl)
+    (c .before .before .before .before .before .before .before .before .before .before .before .before .before .before .copy-at .ensures)
+    (c .before .before .before .before .before .before .before .before .before .before .put-u16 .ensures)
+    (c .before .before .before .before .before .before .put-u162 .ensures)
+    (c .before .before .put-u8 .ensures)
+
+pub put-route-reply-front-spec : {M : Type 1} → statement M
+put-route-reply-front-spec =
+    tie.close
+    (tie.spec
+    slice-aggregate-copy-at
+    copy-at-requires
+    put-u16-requires
+    put-u16-requires-2
+    put-u8-requires
+    same-length
+    returns)

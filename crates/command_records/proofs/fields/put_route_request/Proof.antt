@@ -1,0 +1,58 @@
+-- `put_route_request` meets its contract: four parts, each right behind the one before. Assumes nothing.
+use borrow.Author.Needs.{needs}
+use mathlib.Core.Path.{_≡_, refl, sym, ap, _∙_}
+use native.Mathlib.Omega.{arith}
+use mathlib.Core.List.{[], _∷_, _++_}
+use Rattle.command_records.proofs.fields.put_route_request.Statement.{statement}
+use Rattle.command_records.proofs.fields.put_route_request.Tie as tie
+use Rattle.octets.specs.Strings.{over}
+use Rattle.octets.specs.Numbers.{le}
+use Rattle.octets.proofs.Numbers.{length-le}
+use Rattle.commands.specs.Codes.{manyToOneCode}
+use Rattle.command_records.specs.Fields.{fieldBytes}
+use Rattle.records.proofs.Writes.{over-four}
+
+code-requires : tie.Need-code-requires
+code-requires c κs = search needs
+
+slice-aggregate-copy-at : tie.Need-slice-aggregate-copy-at
+slice-aggregate-copy-at c = search needs
+
+copy-at-requires : tie.Need-copy-at-requires
+copy-at-requires c κs = search needs
+
+put-u16-requires : tie.Need-put-u16-requires
+put-u16-requires c κs = search needs
+
+put-u8-requires : tie.Need-put-u8-requires
+put-u8-requires c κs = search needs
+
+put-address-requires : tie.Need-put-address-requires
+put-address-requires c κs = search needs
+
+same-length : tie.Need-same-length
+same-length c = search needs
+
+returns : tie.Need-returns
+unfolding fieldBytes
+returns c =
+    let a = c .before .before .before .before .before .before .before .before .before .before .before .before .before .before .before .before .before .before .before .args in
+    over-four (a .out .now) _ _ _ _ 0 3 5 6 (1 ∷ manyToOneCode (a .c .«many_to_one») ∷ a .c .«route_request_identifier» ∷ []) (le 2 (a .c .«destination_address»)) (le 1 (a .c .«path_cost»)) _
+    (omega arith) refl (rw (length-le 2 (a .c .«destination_address»)) refl) (rw (length-le 1 (a .c .«path_cost»)) refl)
+    (c .before .before .before .before .before .before .before .before .before .before .before .before .before .before .copy-at .ensures ∙ (λ i. over (a .out .now) 0 (1 ∷ c .before .before .before .before .before .before .before .before .before .before .before .before .before .before .before .before .before .code .ensures i ∷ a .c .«route_request_identifier» ∷ [])))
+    (c .before .before .before .before .before .before .before .before .before .before .put-u16 .ensures)
+    (c .before .before .before .before .before .before .put-u8 .ensures)
+    (c .before .before .put-address .ensures)
+
+pub put-route-request-spec : {M : Type 1} → statement M
+put-route-request-spec =
+    tie.close
+    (tie.spec
+    code-requires
+    slice-aggregate-copy-at
+    copy-at-requires
+    put-u16-requires
+    put-u8-requires
+    put-address-requires
+    same-length
+    returns)

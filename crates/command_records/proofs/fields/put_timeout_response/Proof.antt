@@ -1,0 +1,48 @@
+-- `put_timeout_response` meets its contract: the bytes of an array. Assumes nothing.
+use borrow.Author.Needs.{needs}
+use mathlib.Core.Path.{_≡_, refl, sym, ap, _∙_}
+use mathlib.Core.List.{[], _∷_, _++_}
+use Rattle.command_records.proofs.fields.put_timeout_response.Statement.{statement}
+use Rattle.command_records.proofs.fields.put_timeout_response.Tie as tie
+use Rattle.octets.specs.Strings.{over}
+use Rattle.command_records.specs.Fields.{fieldBytes}
+
+code-requires : tie.Need-code-requires
+code-requires c κs = search needs
+
+bit-byte-requires : tie.Need-bit-byte-requires
+bit-byte-requires c κs = search needs
+
+bit-byte-requires-2 : tie.Need-bit-byte-requires-2
+bit-byte-requires-2 c κs = search needs
+
+bit-byte-requires-3 : tie.Need-bit-byte-requires-3
+bit-byte-requires-3 c κs = search needs
+
+slice-aggregate-copy-at : tie.Need-slice-aggregate-copy-at
+slice-aggregate-copy-at c = search needs
+
+copy-at-requires : tie.Need-copy-at-requires
+copy-at-requires c κs = search needs
+
+same-length : tie.Need-same-length
+same-length c = search needs
+
+returns : tie.Need-returns
+unfolding fieldBytes
+returns c =
+    let a = c .before .before .before .before .before .before .before .before .before .before .args in
+    c .before .before .copy-at .ensures ∙ (λ i. over (a .out .now) 0 (12 ∷ c .before .before .before .before .before .before .before .before .code .ensures i ∷ c .before .before .before .before .before .before .before .bit-byte .ensures i ∷ c .before .before .before .before .before .before .bit-byte2 .ensures i ∷ c .before .before .before .before .before .bit-byte3 .ensures i ∷ []))
+
+pub put-timeout-response-spec : {M : Type 1} → statement M
+put-timeout-response-spec =
+    tie.close
+    (tie.spec
+    code-requires
+    bit-byte-requires
+    bit-byte-requires-2
+    bit-byte-requires-3
+    slice-aggregate-copy-at
+    copy-at-requires
+    same-length
+    returns)

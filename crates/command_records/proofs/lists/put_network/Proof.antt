@@ -1,0 +1,43 @@
+-- `put_network` meets its contract: one list right behind the other. Assumes nothing.
+use borrow.Author.Needs.{needs}
+use mathlib.Core.Path.{_≡_, refl, sym, ap, _∙_}
+use native.Mathlib.Omega.{arith}
+use mathlib.Core.List.{_++_}
+use lib.ListN.{length}
+use Rattle.command_records.proofs.lists.put_network.Statement.{statement}
+use Rattle.command_records.proofs.lists.put_network.Tie as tie
+use Rattle.octets.specs.Strings.{over}
+use Rattle.octets.specs.Numbers.{le}
+use Rattle.octets.proofs.Strings.{over-then}
+use Rattle.command_records.specs.Lists.{entries, numberEntry}
+use Rattle.command_records.proofs.Lengths.{length-counted, length-number}
+
+slice-aggregate-put-counted : tie.Need-slice-aggregate-put-counted
+slice-aggregate-put-counted c = search needs
+
+put-counted-requires : tie.Need-put-counted-requires
+put-counted-requires c κs = search needs
+
+put-counted-powers-requires : tie.Need-put-counted-powers-requires
+put-counted-powers-requires c κs = search needs
+
+same-length : tie.Need-same-length
+same-length c = search needs
+
+returns : tie.Need-returns
+returns c =
+    let a = c .before .before .before .before .before .before .before .before .before .before .args in
+    let all : length (a .t3) ≡ 31 = omega arith in
+    over-then (a .out .now) _ _ 257 320 (le 1 (a .pan-count) ++ entries (numberEntry (a .t3)) 31) _ (omega (arith, c .before .before .before .before .before .before .before .before .before .before .pre)) (rw (length-counted (numberEntry (a .t3)) 2 (length-number (a .t3)) (a .pan-count) 31) refl)
+    (c .before .before .before .before .before .before .put-counted .ensures ∙ ap (λ k. over (a .out .now) 257 (le 1 (a .pan-count) ++ entries (numberEntry (a .t3)) k)) all)
+    (c .before .before .put-counted-powers .ensures)
+
+pub put-network-spec : {M : Type 1} → statement M
+put-network-spec =
+    tie.close
+    (tie.spec
+    slice-aggregate-put-counted
+    put-counted-requires
+    put-counted-powers-requires
+    same-length
+    returns)

@@ -1,0 +1,80 @@
+-- `put_powers` meets its contract. The loop's invariant: the first k entries stand at their places. The measure is what is left.
+-- Assumes nothing.
+use mathlib.Core.Path.{_≡_, refl, sym, ap, _∙_}
+use native.Mathlib.Omega.{arith}
+use Prim.Native.Nat.{_+_, _-_, _*_, _≤_}
+use lib.ListN.{length}
+use Rattle.command_records.proofs.lists.put_powers.Statement.{statement}
+use Rattle.command_records.proofs.lists.put_powers.Tie as tie
+use Rattle.octets.specs.Strings.{over}
+use Rattle.command_records.specs.Lists.{entries, powerEntry}
+use Rattle.command_records.proofs.Entries.{entries-none, entries-more}
+use Rattle.command_records.proofs.Lengths.{length-power}
+
+abbrev Inv-loop : tie.InvT-loop
+Inv-loop out₀ i powers k₀ out k =
+    (k ≤ 35) × (length out ≡ length out₀) × (out ≡ over out₀ i (entries (powerEntry powers) k))
+
+abbrev μ-loop : tie.MeasureT-loop
+μ-loop out₀ i powers k₀ out k = 35 - k
+
+loop-holds : tie.Need-loop-holds Inv-loop μ-loop
+loop-holds c = (omega arith, refl, entries-none _ (c .before .args .out .now) (c .before .args .i))
+
+mul-power : tie.Need-mul-power Inv-loop μ-loop
+mul-power c = omega arith
+
+array-copy-out-power : tie.Need-array-copy-out-power Inv-loop μ-loop
+array-copy-out-power c = omega arith
+
+mul-put-power : tie.Need-mul-put-power Inv-loop μ-loop
+mul-put-power c = omega arith
+
+add-put-power : tie.Need-add-put-power Inv-loop μ-loop
+add-put-power c =
+    omega (arith, c .before .before .before .before .before .pre, c .before .before .before .before .before .good)
+
+put-power-requires : tie.Need-put-power-requires Inv-loop μ-loop
+put-power-requires c κs = omega (arith, c .before .before .before .before .before .pre)
+
+add-k : tie.Need-add-k Inv-loop μ-loop
+add-k c = omega arith
+
+loop-less : tie.Need-loop-less Inv-loop μ-loop
+loop-less c = omega arith
+
+loop-again : tie.Need-loop-again Inv-loop μ-loop
+loop-again c =
+    let a = c .before .before .before .before .before .before .before .before .args in
+    let l = c .before .before .before .before .before .before .loop in (
+      omega arith,
+      c .before .before .put-power .kept .0 ∙ l .inv .1,
+      c .before .before .put-power .ensures ∙ rw (l .inv .2) (entries-more (powerEntry (a .t3)) 3 (length-power (a .t3)) (a .out .now) (a .i) (l .k) (omega (arith, c .before .before .before .before .before .before .before .before .pre))),
+    )
+
+same-length : tie.Need-same-length Inv-loop μ-loop
+same-length c = c .before .loop .inv .1
+
+returns : tie.Need-returns Inv-loop μ-loop
+returns c =
+    let a = c .before .before .before .args in
+    let done : c .before .loop .k ≡ 35 = omega arith in
+    c .before .loop .inv .2 ∙ ap (λ k. over (a .out .now) (a .i) (entries (powerEntry (a .t3)) k)) done
+
+pub put-powers-spec : {M : Type 1} → statement M
+put-powers-spec =
+    tie.close
+    (tie.spec
+    Inv-loop
+    μ-loop
+    loop-holds
+    mul-power
+    array-copy-out-power
+    mul-put-power
+    add-put-power
+    put-power-requires
+    add-k
+    loop-less
+    loop-again
+    same-length
+    returns)

@@ -1,0 +1,47 @@
+-- `put_command` meets its contract: four parts, each right behind the one before. Assumes nothing.
+use borrow.Author.Needs.{needs}
+use mathlib.Core.Path.{_≡_, refl, sym, ap, _∙_}
+use native.Mathlib.Omega.{arith}
+use Rattle.command_records.proofs.put_command.Statement.{statement}
+use Rattle.command_records.proofs.put_command.Tie as tie
+use Rattle.command_records.specs.Fields.{fieldsRecord}
+use Rattle.command_records.specs.CommandRecord.{routingRecord, networkRecord, commandRecord}
+use Rattle.records.proofs.Writes.{over-four}
+use Rattle.command_records.proofs.Lengths.{length-fieldsRecord, length-routing, length-network}
+
+put-fields-requires : tie.Need-put-fields-requires
+put-fields-requires c κs = search needs
+
+put-routing-requires : tie.Need-put-routing-requires
+put-routing-requires c κs = search needs
+
+put-network-requires : tie.Need-put-network-requires
+put-network-requires c κs = search needs
+
+put-unparsed-requires : tie.Need-put-unparsed-requires
+put-unparsed-requires c κs = search needs
+
+same-length : tie.Need-same-length
+same-length c = search needs
+
+returns : tie.Need-returns
+unfolding commandRecord routingRecord networkRecord
+returns c =
+    let a = c .before .before .before .before .before .before .before .before .before .before .before .before .before .before .before .before .before .before .before .before .before .before .args in
+    over-four (a .out .now) _ _ _ _ 0 25 257 426 (fieldsRecord (a .f .command)) (routingRecord (a .f)) (networkRecord (a .f)) _ (omega arith)
+    (rw (length-fieldsRecord (a .f .command)) refl) (rw (length-routing (a .f)) refl) (rw (length-network (a .f)) refl)
+    (c .before .before .before .before .before .before .before .before .before .before .before .before .before .before .put-fields .ensures)
+    (c .before .before .before .before .before .before .before .before .before .before .put-routing .ensures)
+    (c .before .before .before .before .before .before .put-network .ensures)
+    (c .before .before .put-unparsed .ensures)
+
+pub put-command-spec : {M : Type 1} → statement M
+put-command-spec =
+    tie.close
+    (tie.spec
+    put-fields-requires
+    put-routing-requires
+    put-network-requires
+    put-unparsed-requires
+    same-length
+    returns)

@@ -1,0 +1,4 @@
+-- Laws of the answers and refusals of the C functions, and the proofs of the functions.
+pub mod Calls
+pub mod Refusals
+pub mod FrameRefusals

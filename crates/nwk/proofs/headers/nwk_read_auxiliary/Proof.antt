@@ -1,0 +1,75 @@
+-- `nwk_read_auxiliary` meets its contract: refused with nothing changed, or read into the record. Assumes nothing.
+use borrow.Author.Needs.{needs}
+use mathlib.Core.Path.{_≡_, refl, sym, ap, _∙_}
+use native.Mathlib.Omega.{arith}
+use mathlib.Core.Bool.{true}
+use Prim.Native.Nat.{ℕ}
+use lib.ListN.{length}
+use Rattle.nwk.proofs.headers.nwk_read_auxiliary.Statement.{statement}
+use Rattle.nwk.proofs.headers.nwk_read_auxiliary.Tie as tie
+use Rattle.octets.specs.Strings.{over}
+use Rattle.header.specs.Auxiliary.{readAux, auxRefusal}
+use Rattle.records.specs.AuxiliaryRecord.{auxRecord}
+use Rattle.nwk.specs.Headers.{readAuxRefusal}
+use Rattle.nwk.specs.Answer.{answer}
+use Rattle.nwk.proofs.Calls.{refused-by, passed-by}
+use Rattle.nwk.proofs.Refusals.{first, read-short, read-none, aux-number}
+
+deserialize-requires : tie.Need-deserialize-requires
+deserialize-requires c κs = search needs
+
+answer-requires : tie.Need-answer-requires
+answer-requires c κs = search needs
+
+returns : tie.Need-returns
+unfolding readAuxRefusal
+returns c =
+    let a = c .before .before .before .before .before .before .args in
+    let d = c .before .before .before .deserialize in
+    let e = (λ i. d .ensures i .refusal) ∙ aux-number (a .bytes .now) in
+    refused-by _ (d .result .refusal) _ _ _ (a .auxiliary .now)
+    (e ∙ first (auxRefusal (a .bytes .now)) _ (λ z. c .before .if1 .taken (e ∙ z)))
+    (c .before .if1 .taken) (c .answer .ensures)
+
+answer-requires-2 : tie.Need-answer-requires-2
+answer-requires-2 c κs = search needs
+
+returns-2 : tie.Need-returns-2
+unfolding readAuxRefusal
+returns-2 c =
+    let a = c .before .before .before .before .before .before .before .args in
+    let e = sym (aux-number (a .bytes .now)) ∙ (λ i. sym (c .before .before .before .before .deserialize .ensures) i .refusal) ∙ c .before .before .if1 .left in
+    refused-by _ 18 _ _ _ (a .auxiliary .now) (read-short _ 19 (length (a .auxiliary .now)) e (c .before .if2 .taken)) (λ e. omega arith) (c .answer2 .ensures)
+
+put-aux-requires : tie.Need-put-aux-requires
+put-aux-requires c κs = search needs
+
+answer-requires-3 : tie.Need-answer-requires-3
+answer-requires-3 c κs = search needs
+
+same-length : tie.Need-same-length
+same-length c = search needs
+
+returns-3 : tie.Need-returns-3
+unfolding readAuxRefusal
+returns-3 c =
+    let a = c .before .before .before .before .before .before .before .before .before .before .before .before .args in
+    let d = c .before .before .before .before .before .before .before .before .before .deserialize .ensures in
+    let e = sym (aux-number (a .bytes .now)) ∙ (λ i. sym d i .refusal) ∙ c .before .before .before .before .before .before .before .if1 .left in
+    passed-by _ _ _ _ (a .auxiliary .now) _ (read-none _ 19 (length (a .auxiliary .now)) e (c .before .before .before .before .before .before .if2 .left))
+    (c .answer3 .ensures ∙ (λ i. answer 0 (d i .length)))
+    (c .before .before .before .put-aux .ensures ∙ (λ i. over (a .auxiliary .now) 0 (auxRecord true (d i .aux))))
+
+pub nwk-read-auxiliary-spec : {M : Type 1} → statement M
+nwk-read-auxiliary-spec =
+    tie.close
+    (tie.spec
+    deserialize-requires
+    answer-requires
+    returns
+    answer-requires-2
+    returns-2
+    put-aux-requires
+    answer-requires-3
+    same-length
+    returns-3)

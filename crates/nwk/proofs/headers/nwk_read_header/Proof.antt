@@ -1,0 +1,74 @@
+-- `nwk_read_header` meets its contract: refused with nothing changed, or read into the record. Assumes nothing.
+use borrow.Author.Needs.{needs}
+use mathlib.Core.Path.{_≡_, refl, sym, ap, _∙_}
+use native.Mathlib.Omega.{arith}
+use Prim.Native.Nat.{ℕ}
+use lib.ListN.{length}
+use Rattle.nwk.proofs.headers.nwk_read_header.Statement.{statement}
+use Rattle.nwk.proofs.headers.nwk_read_header.Tie as tie
+use Rattle.octets.specs.Strings.{over}
+use Rattle.header.specs.Reading.{readHeader, headerRefusal}
+use Rattle.records.specs.HeaderRecord.{headerRecord}
+use Rattle.nwk.specs.Headers.{readHeaderRefusal}
+use Rattle.nwk.specs.Answer.{answer}
+use Rattle.nwk.proofs.Calls.{refused-by, passed-by}
+use Rattle.nwk.proofs.Refusals.{first, read-short, read-none, header-number}
+
+deserialize-requires : tie.Need-deserialize-requires
+deserialize-requires c κs = search needs
+
+answer-requires : tie.Need-answer-requires
+answer-requires c κs = search needs
+
+returns : tie.Need-returns
+unfolding readHeaderRefusal
+returns c =
+    let a = c .before .before .before .before .before .before .args in
+    let d = c .before .before .before .deserialize in
+    let e = (λ i. d .ensures i .refusal) ∙ header-number (a .bytes .now) in
+    refused-by _ (d .result .refusal) _ _ _ (a .header .now)
+    (e ∙ first (headerRefusal (a .bytes .now)) _ (λ z. c .before .if1 .taken (e ∙ z)))
+    (c .before .if1 .taken) (c .answer .ensures)
+
+answer-requires-2 : tie.Need-answer-requires-2
+answer-requires-2 c κs = search needs
+
+returns-2 : tie.Need-returns-2
+unfolding readHeaderRefusal
+returns-2 c =
+    let a = c .before .before .before .before .before .before .before .args in
+    let e = sym (header-number (a .bytes .now)) ∙ (λ i. sym (c .before .before .before .before .deserialize .ensures) i .refusal) ∙ c .before .before .if1 .left in
+    refused-by _ 18 _ _ _ (a .header .now) (read-short _ 147 (length (a .header .now)) e (c .before .if2 .taken)) (λ e. omega arith) (c .answer2 .ensures)
+
+put-header-requires : tie.Need-put-header-requires
+put-header-requires c κs = search needs
+
+answer-requires-3 : tie.Need-answer-requires-3
+answer-requires-3 c κs = search needs
+
+same-length : tie.Need-same-length
+same-length c = search needs
+
+returns-3 : tie.Need-returns-3
+unfolding readHeaderRefusal
+returns-3 c =
+    let a = c .before .before .before .before .before .before .before .before .before .before .before .before .args in
+    let d = c .before .before .before .before .before .before .before .before .before .deserialize .ensures in
+    let e = sym (header-number (a .bytes .now)) ∙ (λ i. sym d i .refusal) ∙ c .before .before .before .before .before .before .before .if1 .left in
+    passed-by _ _ _ _ (a .header .now) _ (read-none _ 147 (length (a .header .now)) e (c .before .before .before .before .before .before .if2 .left))
+    (c .answer3 .ensures ∙ (λ i. answer 0 (d i .length)))
+    (c .before .before .before .put-header .ensures ∙ (λ i. over (a .header .now) 0 (headerRecord (d i .header))))
+
+pub nwk-read-header-spec : {M : Type 1} → statement M
+nwk-read-header-spec =
+    tie.close
+    (tie.spec
+    deserialize-requires
+    answer-requires
+    returns
+    answer-requires-2
+    returns-2
+    put-header-requires
+    answer-requires-3
+    same-length
+    returns-3)

@@ -1,0 +1,67 @@
+-- Reading, writing, sealing and opening frames by their records: the refusals in document 01's order. 18 is also for a
+-- record lent with too little room, before 19.
+-- Assumes nothing.
+use Prim.Native.Nat.{ℕ}
+use mathlib.Core.Bool.{Bool, not}
+use mathlib.Core.List.{List, [], _∷_}
+use lib.ListN.{length}
+use lib.Dec.{ltb}
+use Rattle.octets.specs.Refusals.{on, firstOf}
+use Rattle.header.specs.declared.nwk.NwkHeader.{NwkHeader}
+use Rattle.ccm.specs.Operations.{micLength}
+use Rattle.ccm.specs.Verification.{Verified}
+use Rattle.frame.specs.declared.OptionAuxHeader.{OptionAuxHeader}
+use Rattle.frame.specs.Reading.{auxIf, readFrame}
+use Rattle.frame.specs.Writing.{frameWriteRefusal}
+use Rattle.frame.specs.Security as security
+use Rattle.frame.specs.Sealing.{sealRefusal, sealedBytes}
+use Rattle.frame.specs.Opening.{behind, verified, openRefusals}
+use Rattle.records.specs.HeaderRecord.{headerRecordSize, headerOf, badHeaderRecord}
+use Rattle.records.specs.AuxiliaryRecord.{auxRecordSize, auxRecord, auxOf, auxPresent, badAuxRecord}
+
+-- the auxiliary header or none that a record says, and the record of one or none
+unfoldable pub auxGiven : List ℕ → OptionAuxHeader
+auxGiven r = auxIf (auxPresent r) (auxOf r)
+
+unfoldable pub optionRecord : OptionAuxHeader → List ℕ
+optionRecord o = auxRecord (not (security.isAbsent o)) (security.auxOf o)
+
+-- ---- reading: 1 to 12, then 18 for the header record or the auxiliary record
+
+unfoldable pub readFrameRefusal : List ℕ → ℕ → ℕ → ℕ
+readFrameRefusal f headerRoom auxRoom =
+    firstOf (readFrame f .refusal ∷ on 18 (ltb headerRoom headerRecordSize) ∷ on 18 (ltb auxRoom auxRecordSize) ∷ [])
+
+-- ---- writing without a key: 13 for the record, then the frame's own 13, 17 and 18
+
+unfoldable pub writeFrameRefusal : List ℕ → List ℕ → ℕ → ℕ
+writeFrameRefusal r p room = firstOf (on 13 (badHeaderRecord r) ∷ frameWriteRefusal (headerOf r) p room ∷ [])
+
+-- ---- sealing: 13 for a record, then the frame's own 13, 14, 15, 17 and 18
+
+unfoldable pub sealRecordsRefusal : List ℕ → List ℕ → List ℕ → ℕ → ℕ
+sealRecordsRefusal r x p room =
+    firstOf (on 13 (badHeaderRecord r) ∷ on 13 (badAuxRecord x) ∷ sealRefusal micLength (headerOf r) (auxGiven x) p room ∷ [])
+
+-- the sealed frame
+unfoldable pub sealedRecords : List ℕ → List ℕ → List ℕ → List ℕ → List ℕ
+sealedRecords key r x p = sealedBytes security.networkLevel micLength key (headerOf r) (security.auxOf (auxGiven x)) p
+
+-- ---- opening
+
+-- those that need no key: reading's number, then 14, 15, 16 and 18
+unfoldable pub openNumber : List ℕ → ℕ → ℕ
+openNumber f room =
+    firstOf (openRefusals micLength (readFrame f .refusal) (readFrame f .header) (readFrame f .aux) (length (behind f (readFrame f))) room)
+
+-- what CCM makes of the frame
+unfoldable pub verifiedFrame : List ℕ → List ℕ → Verified
+verifiedFrame key f = verified security.networkLevel micLength key f (readFrame f)
+
+unfoldable pub openRecordsRefusal : List ℕ → List ℕ → ℕ → ℕ → ℕ → ℕ
+openRecordsRefusal key f headerRoom auxRoom room =
+    firstOf (openNumber f room
+    ∷ on 18 (ltb headerRoom headerRecordSize)
+    ∷ on 18 (ltb auxRoom auxRecordSize)
+    ∷ on 19 (not (verifiedFrame key f .valid))
+    ∷ [])

@@ -1,0 +1,5 @@
+-- Laws of the records, and the proofs of the functions that read and write them.
+pub mod Tests
+pub mod Writes
+pub mod Sizes
+pub mod Refused

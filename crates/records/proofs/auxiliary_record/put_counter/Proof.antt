@@ -1,0 +1,33 @@
+-- `put_counter` meets its contract: three parts, each right behind the one before. Assumes nothing.
+use borrow.Author.Needs.{needs}
+use mathlib.Core.Path.{_≡_, refl, sym, ap, _∙_}
+use native.Mathlib.Omega.{arith}
+use Rattle.records.proofs.auxiliary_record.put_counter.Statement.{statement}
+use Rattle.records.proofs.auxiliary_record.put_counter.Tie as tie
+use Rattle.octets.proofs.Strings.{over-three}
+use Rattle.octets.proofs.Numbers.{length-le}
+use Rattle.records.proofs.Sizes.{length-ieee}
+
+put-u32-requires : tie.Need-put-u32-requires
+put-u32-requires c κs = search needs
+
+put-ieee-requires : tie.Need-put-ieee-requires
+put-ieee-requires c κs = search needs
+
+put-u8-requires : tie.Need-put-u8-requires
+put-u8-requires c κs = search needs
+
+same-length : tie.Need-same-length
+same-length c = search needs
+
+returns : tie.Need-returns
+returns c =
+    let a = c .before .before .before .before .before .before .before .before .before .before .before .before .before .args in
+    over-three (a .out .now) _ _ _ 5 9 18 _ _ _ (omega (arith, c .before .before .before .before .before .before .before .before .before .before .before .before .before .pre)) (rw (length-le 4) refl) (rw length-ieee refl)
+    (c .before .before .before .before .before .before .before .before .before .before .put-u32 .ensures)
+    (c .before .before .before .before .before .before .put-ieee .ensures)
+    (c .before .before .put-u8 .ensures)
+
+pub put-counter-spec : {M : Type 1} → statement M
+put-counter-spec =
+    tie.close (tie.spec put-u32-requires put-ieee-requires put-u8-requires same-length returns)

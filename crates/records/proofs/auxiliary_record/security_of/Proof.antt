@@ -1,0 +1,48 @@
+-- `security_of` meets its contract, field by field. Assumes nothing.
+use borrow.Author.Needs.{needs}
+use mathlib.Core.Path.{_≡_, refl, sym, ap, _∙_}
+use lib.Dec.{eqb}
+use Rattle.records.proofs.auxiliary_record.security_of.Statement.{statement}
+use Rattle.records.proofs.auxiliary_record.security_of.Tie as tie
+use Rattle.header.specs.AuxiliaryControl.{levelOf, keyIdOf}
+use Rattle.records.specs.AuxiliaryRecord.{securityAt}
+
+byte-at-requires : tie.Need-byte-at-requires
+byte-at-requires c κs = search needs
+
+from-code-requires : tie.Need-from-code-requires
+from-code-requires c κs = search needs
+
+byte-at-requires-2 : tie.Need-byte-at-requires-2
+byte-at-requires-2 c κs = search needs
+
+from-code-requires-2 : tie.Need-from-code-requires-2
+from-code-requires-2 c κs = search needs
+
+byte-at-requires-3 : tie.Need-byte-at-requires-3
+byte-at-requires-3 c κs = search needs
+
+byte-at-requires-4 : tie.Need-byte-at-requires-4
+byte-at-requires-4 c κs = search needs
+
+returns : tie.Need-returns
+unfolding securityAt
+returns c =
+    λ i. record {
+      «security_level» = (c .before .before .before .before .from-code .ensures ∙ ap levelOf (c .before .before .before .before .before .byte-at .ensures)) i;
+      «key_id» = (c .before .before .from-code2 .ensures ∙ ap keyIdOf (c .before .before .before .byte-at2 .ensures)) i;
+      «extended_nonce» = eqb (c .before .byte-at3 .ensures i) 1;
+      «require_verified_frame_counter» = eqb (c .byte-at4 .ensures i) 1;
+    }
+
+pub security-of-spec : {M : Type 1} → statement M
+security-of-spec =
+    tie.close
+    (tie.spec
+    byte-at-requires
+    from-code-requires
+    byte-at-requires-2
+    from-code-requires-2
+    byte-at-requires-3
+    byte-at-requires-4
+    returns)

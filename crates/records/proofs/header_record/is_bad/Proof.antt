@@ -1,0 +1,37 @@
+-- `is_bad` meets its contract: each test in its order. Assumes nothing.
+use borrow.Author.Needs.{needs}
+use mathlib.Core.Path.{sym, _∙_}
+use Rattle.records.proofs.header_record.is_bad.Statement.{statement}
+use Rattle.records.proofs.header_record.is_bad.Tie as tie
+use Rattle.records.proofs.Refused.{header-length, header-type, header-rest}
+
+returns : tie.Need-returns
+returns c = header-length (c .before .before .args .bytes .now) (c .if1 .taken)
+
+byte-at-requires : tie.Need-byte-at-requires
+byte-at-requires c κs = search needs
+
+returns-2 : tie.Need-returns-2
+returns-2 c =
+    header-type (c .before .before .before .before .args .bytes .now) (c .before .before .if1 .left) (sym (c .before .byte-at .ensures) ∙ c .if2 .taken)
+
+slice-aggregate-exceeds : tie.Need-slice-aggregate-exceeds
+slice-aggregate-exceeds c = search needs
+
+exceeds-requires : tie.Need-exceeds-requires
+exceeds-requires c κs = search needs
+
+returns-3 : tie.Need-returns-3
+returns-3 c =
+    c .exceeds .ensures ∙ header-rest (c .before .before .before .before .before .before .args .bytes .now) (c .before .before .before .before .if1 .left) (λ e. c .before .before .if2 .left (c .before .before .before .byte-at .ensures ∙ e))
+
+pub is-bad-spec : {M : Type 1} → statement M
+is-bad-spec =
+    tie.close
+    (tie.spec
+    returns
+    byte-at-requires
+    returns-2
+    slice-aggregate-exceeds
+    exceeds-requires
+    returns-3)

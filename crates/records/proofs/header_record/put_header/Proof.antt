@@ -1,0 +1,47 @@
+-- `put_header` meets its contract: four parts, each right behind the one before. Assumes nothing.
+use borrow.Author.Needs.{needs}
+use mathlib.Core.Path.{_≡_, refl, sym, ap, _∙_}
+use native.Mathlib.Omega.{arith}
+use Rattle.records.proofs.header_record.put_header.Statement.{statement}
+use Rattle.records.proofs.header_record.put_header.Tie as tie
+use Rattle.header.specs.Control.{controlValues}
+use Rattle.records.specs.HeaderRecord.{addressRecord, optionalRecord, headerRecord}
+use Rattle.records.proofs.Sizes.{length-address, length-optional}
+use Rattle.records.proofs.Writes.{over-four}
+
+put-control-requires : tie.Need-put-control-requires
+put-control-requires c κs = search needs
+
+put-addresses-requires : tie.Need-put-addresses-requires
+put-addresses-requires c κs = search needs
+
+put-optional-requires : tie.Need-put-optional-requires
+put-optional-requires c κs = search needs
+
+put-source-route-requires : tie.Need-put-source-route-requires
+put-source-route-requires c κs = search needs
+
+same-length : tie.Need-same-length
+same-length c = search needs
+
+returns : tie.Need-returns
+unfolding headerRecord optionalRecord
+returns c =
+    let a = c .before .before .before .before .before .before .before .before .before .before .before .before .before .before .before .before .before .before .before .args in
+    over-four (a .out .now) _ _ _ _ 0 10 16 36 (controlValues (a .h .«frame_control»)) (addressRecord (a .h .destination .0) (a .h .source .0) (a .h .radius) (a .h .«sequence_number»)) (optionalRecord (a .h)) _
+    (omega arith) refl (rw (length-address (a .h .destination .0) (a .h .source .0) (a .h .radius) (a .h .«sequence_number»)) refl) (rw (length-optional (a .h)) refl)
+    (c .before .before .before .before .before .before .before .before .before .before .before .before .before .before .put-control .ensures)
+    (c .before .before .before .before .before .before .before .before .before .before .put-addresses .ensures)
+    (c .before .before .before .before .before .before .put-optional .ensures)
+    (c .before .before .put-source-route .ensures)
+
+pub put-header-spec : {M : Type 1} → statement M
+put-header-spec =
+    tie.close
+    (tie.spec
+    put-control-requires
+    put-addresses-requires
+    put-optional-requires
+    put-source-route-requires
+    same-length
+    returns)

@@ -1,0 +1,44 @@
+-- `route_at` meets its contract: the count and the index if the presence byte is 1. Assumes nothing.
+use borrow.Author.Needs.{needs}
+use mathlib.Core.Path.{_≡_, refl, sym, ap, _∙_}
+use Prim.Native.Nat.{ℕ}
+use lib.Dec.{eqb}
+use Rattle.records.proofs.optional.route_at.Statement.{statement}
+use Rattle.records.proofs.optional.route_at.Tie as tie
+use Rattle.header.specs.Optional.{routeIf}
+use Rattle.records.specs.Optional.{routeAt}
+
+byte-at-requires : tie.Need-byte-at-requires
+byte-at-requires c κs = search needs
+
+add-byte-at : tie.Need-add-byte-at
+add-byte-at c = search needs
+
+byte-at-requires-2 : tie.Need-byte-at-requires-2
+byte-at-requires-2 c κs = search needs
+
+add-byte-at-2 : tie.Need-add-byte-at-2
+add-byte-at-2 c = search needs
+
+byte-at-requires-3 : tie.Need-byte-at-requires-3
+byte-at-requires-3 c κs = search needs
+
+when-requires : tie.Need-when-requires
+when-requires c κs = search needs
+
+returns : tie.Need-returns
+unfolding routeAt
+returns c =
+    c .when .ensures ∙ (λ i. routeIf (eqb (c .before .before .before .byte-at .ensures i) 1) (c .before .before .byte-at2 .ensures i) (c .before .byte-at3 .ensures i))
+
+pub route-at-spec : {M : Type 1} → statement M
+route-at-spec =
+    tie.close
+    (tie.spec
+    byte-at-requires
+    add-byte-at
+    byte-at-requires-2
+    add-byte-at-2
+    byte-at-requires-3
+    when-requires
+    returns)

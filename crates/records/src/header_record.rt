@@ -1,0 +1,228 @@
+// The header record, 147 bytes.
+use crate::limits::exceeds;
+use crate::optional::bit_byte;
+use crate::optional::ieee_at;
+use crate::optional::multicast_at;
+use crate::optional::put_ieee;
+use crate::optional::put_multicast;
+use crate::optional::put_route;
+use crate::optional::route_at;
+use header::control::NwkFrameControl;
+use header::control::NwkFrameType;
+use header::control::NwkRouteDiscovery;
+use header::nwk::NwkHeader;
+use header::optional::NwkSourceRoute;
+use header::optional::OptionEui64;
+use header::optional::OptionMulticast;
+use types::Nwk;
+ghost use mathlib.Core.Path.{_≡_};
+ghost use mathlib.Core.List.{_++_};
+ghost use Prim.Native.Nat.{_+_, _≤_, _<_};
+ghost use lib.ListN.{length};
+ghost use Rattle.octets.specs.Strings.{over};
+ghost use Rattle.header.specs.Control.{controlValues, controlRecord};
+ghost use Rattle.header.specs.Optional.{relayBytes};
+ghost use Rattle.records.specs.Optional.{ieeeRecord, multicastRecord, routeRecord};
+ghost use Rattle.records.specs.HeaderRecord.{addressRecord, headerRecord, relaysFrom, headerOf, badHeaderRecord};
+
+pub const HEADER_RECORD_SIZE: usize = 147;
+
+// The greatest value of each byte from 0 to 36.
+const HEADER_LIMITS: [u8; 37] = [
+    3,
+    15,
+    2,
+    1,
+    1,
+    1,
+    1,
+    1,
+    1,
+    3,
+    255,
+    255,
+    255,
+    255,
+    255,
+    255,
+    1,
+    255,
+    255,
+    255,
+    255,
+    255,
+    255,
+    255,
+    255,
+    1,
+    255,
+    255,
+    255,
+    255,
+    255,
+    255,
+    255,
+    255,
+    1,
+    255,
+    1,
+];
+
+// Whether the record has another length or a byte that a field cannot take (refusal 13).
+pub fn is_bad(bytes: &[u8]) -> bool
+    ensures { λ r. ⌜ r ≡ badHeaderRecord (now (bytes .entry)) ⌝ }
+{
+    if bytes.len() != HEADER_RECORD_SIZE {
+        return true;
+    }
+    if octets::byte_at(bytes, 0) == 2 {
+        return true;
+    }
+    let limits = HEADER_LIMITS;
+    exceeds(&limits, bytes)
+}
+
+// ---- the record of a header
+
+// Write the ten bytes of the frame control at the front.
+fn put_control(out: &mut [u8], c: NwkFrameControl)
+    requires { ⌜ 10 ≤ length (now out) ⌝ }
+    ensures { λ _. ⌜ now (out .exit) ≡ over (now (out .entry)) 0 (controlValues c) ⌝ }
+{
+    let frame_type = c.frame_type;
+    let discover_route = c.discover_route;
+    let values = [
+        frame_type.code() as u8,
+        c.protocol_version,
+        discover_route.code() as u8,
+        bit_byte(c.multicast),
+        bit_byte(c.security),
+        bit_byte(c.source_route),
+        bit_byte(c.destination),
+        bit_byte(c.extended_source),
+        bit_byte(c.end_device_initiator),
+        c.reserved1,
+    ];
+    octets::copy_at(out, 0, &values);
+}
+
+// Write the addresses, the radius and the sequence number at their places.
+fn put_addresses(out: &mut [u8], destination: u16, source: u16, radius: u8, sequence: u8)
+    requires { ⌜ 16 ≤ length (now out) ⌝ }
+    ensures { λ _. ⌜ now (out .exit) ≡ over (now (out .entry)) 10 (addressRecord destination source radius sequence) ⌝ }
+{
+    octets::put_u16(out, 10, destination);
+    octets::put_u16(out, 12, source);
+    octets::put_u8(out, 14, radius);
+    octets::put_u8(out, 15, sequence);
+}
+
+// Write the optional addresses and the multicast control at their places.
+fn put_optional(
+    out: &mut [u8],
+    destination: OptionEui64,
+    source: OptionEui64,
+    multicast: OptionMulticast,
+)
+    requires { ⌜ 36 ≤ length (now out) ⌝ }
+    ensures { λ _. ⌜ now (out .exit) ≡ over (now (out .entry)) 16 (ieeeRecord destination ++ (ieeeRecord source ++ multicastRecord multicast)) ⌝ }
+{
+    put_ieee(out, 16, destination);
+    put_ieee(out, 25, source);
+    put_multicast(out, 34, multicast);
+}
+
+// Write the 54 relays at place 39.
+fn put_relays(out: &mut [u8], relays: [u16; 54])
+    requires { ⌜ 147 ≤ length (now out) ⌝ }
+    ensures { λ _. ⌜ now (out .exit) ≡ over (now (out .entry)) 39 (relayBytes 54 relays) ⌝ }
+{
+    let mut j = 0;
+    while j < 54 {
+        octets::put_u16(out, 39 + 2 * j, relays[j]);
+        j += 1;
+    }
+}
+
+// Write the source route and its relays at their places.
+fn put_source_route(out: &mut [u8], route: NwkSourceRoute, relays: [u16; 54])
+    requires { ⌜ 147 ≤ length (now out) ⌝ }
+    ensures { λ _. ⌜ now (out .exit) ≡ over (now (out .entry)) 36 (routeRecord route ++ relayBytes 54 relays) ⌝ }
+{
+    put_route(out, 36, route);
+    put_relays(out, relays);
+}
+
+// Write the record of a header to the front of an output that has room for it.
+pub fn put_header(out: &mut [u8], h: NwkHeader)
+    requires { ⌜ 147 ≤ length (now out) ⌝ }
+    ensures { λ _. ⌜ now (out .exit) ≡ over (now (out .entry)) 0 (headerRecord h) ⌝ }
+{
+    let frame_control = h.frame_control;
+    let destination_ieee = h.destination_ieee;
+    let source_ieee = h.source_ieee;
+    let multicast_control = h.multicast_control;
+    let source_route = h.source_route;
+    let relays = h.relays;
+    put_control(out, frame_control);
+    put_addresses(
+        out,
+        h.destination.0,
+        h.source.0,
+        h.radius,
+        h.sequence_number,
+    );
+    put_optional(out, destination_ieee, source_ieee, multicast_control);
+    put_source_route(out, source_route, relays);
+}
+
+// ---- the header of a record
+
+// The frame control that the first ten bytes say.
+fn control_of(bytes: &[u8]) -> NwkFrameControl
+    ensures { λ r. ⌜ r ≡ controlRecord (now (bytes .entry)) ⌝ }
+{
+    NwkFrameControl {
+        frame_type: NwkFrameType::from_code(octets::byte_at(bytes, 0) as u16),
+        protocol_version: octets::byte_at(bytes, 1),
+        discover_route: NwkRouteDiscovery::from_code(octets::byte_at(bytes, 2) as u16),
+        multicast: octets::byte_at(bytes, 3) == 1,
+        security: octets::byte_at(bytes, 4) == 1,
+        source_route: octets::byte_at(bytes, 5) == 1,
+        destination: octets::byte_at(bytes, 6) == 1,
+        extended_source: octets::byte_at(bytes, 7) == 1,
+        end_device_initiator: octets::byte_at(bytes, 8) == 1,
+        reserved1: octets::byte_at(bytes, 9),
+    }
+}
+
+// The 54 relays from place 39.
+fn relays_of(bytes: &[u8]) -> [u16; 54]
+    ensures { λ r. ⌜ r ≡ relaysFrom (now (bytes .entry)) 39 ⌝ }
+{
+    let mut relays = [0u16; 54];
+    let mut i = 0;
+    while i < 54 {
+        relays[i] = octets::read_u16(bytes, 39 + 2 * i);
+        i += 1;
+    }
+    relays
+}
+
+// The header that a record says; bytes past its end count 0.
+pub fn header_of(bytes: &[u8]) -> NwkHeader
+    ensures { λ r. ⌜ r ≡ headerOf (now (bytes .entry)) ⌝ }
+{
+    NwkHeader {
+        frame_control: control_of(bytes),
+        destination: Nwk(octets::read_u16(bytes, 10)),
+        source: Nwk(octets::read_u16(bytes, 12)),
+        radius: octets::byte_at(bytes, 14),
+        sequence_number: octets::byte_at(bytes, 15),
+        destination_ieee: ieee_at(bytes, 16),
+        source_ieee: ieee_at(bytes, 25),
+        multicast_control: multicast_at(bytes, 34),
+        source_route: route_at(bytes, 36),
+        relays: relays_of(bytes),
+    }
+}
