@@ -1,6 +1,6 @@
 // Reading a NWK command (document 01, "Commands"): the typed body where there is one, else all the bytes.
 
-mod lists;
+pub mod lists;
 
 ghost use mathlib.Core.Path.{_≡_};
 ghost use Prim.Native.Nat.{_≤_};
