@@ -179,8 +179,9 @@ uint64_t nwk_open(uint64_t key_first, uint64_t key_second, const uint8_t *bytes,
 uint64_t nwk_read_command(const uint8_t *bytes, size_t bytes_len, uint8_t *command, size_t command_len);
 
 /* Write the command of a record. Length: the command's bytes. Refusals: 13 the record, also for an undeclared identifier or
- * code, a cost over 7, or a count over the places of the command's own list; 17 more than 108 bytes; 18 out shorter than
- * what is to be written. Afterwards out holds the command in its first bytes. */
+ * code, a cost over 7, or a count over the places of the command's own list; 17 more than 108 bytes, which for an unparsed
+ * command is a length over 108; 18 out shorter than what is to be written. Afterwards out holds the command in its first
+ * bytes. */
 uint64_t nwk_write_command(const uint8_t *command, size_t command_len, uint8_t *out, size_t out_len);
 
 /* The seconds of an end device timeout code, in place of the length: 10 for code 0, 60 times 2 to the power n for n of 1 to
