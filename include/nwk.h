@@ -8,6 +8,23 @@
  * 0: accepted), the other bits 0. A refusal has length 0 and leaves every lent byte as it was, records included. Where
  * nothing is refused, each result stands at the front of its buffer and the rest of the buffer stays. Refusals are checked
  * in rising order; each function's comment lists those that it can answer.
+ *
+ * Example:
+ *
+ *   #include <stdio.h>
+ *   #include "nwk.h"
+ *
+ *   int main(void) {
+ *     const uint8_t bytes[] = {0x0B, 0x0E, 0x00};
+ *     uint8_t command[NWK_COMMAND_RECORD];
+ *     uint64_t answer = nwk_read_command(bytes, sizeof bytes, command, sizeof command);
+ *     if (NWK_REFUSAL(answer) == 0 && command[0] == 11) {
+ *       printf("timeout %u, %u seconds\n", command[1], NWK_LENGTH(nwk_timeout_seconds(command[1])));
+ *     }
+ *     return 0;
+ *   }
+ *
+ * It prints "timeout 14, 983040 seconds". Build: cc -Iinclude FILE.c target/staticlib/libnwk.a
  */
 #ifndef NWK_H
 #define NWK_H

@@ -1,0 +1,98 @@
+//! CCM and one block of AES, called alone.
+use crate::refusal::length;
+use crate::{sys, Key, Refusal};
+
+/// Encrypts a payload to the front of the output, and gives its length and the MIC. Refusals 1, 18.
+///
+/// ```
+/// use store_reader::{decrypt_ccm, encrypt_ccm, Key};
+///
+/// let key = Key::new([7; 16]);
+/// let mut sealed = [0; 5];
+/// let (n, mic) = encrypt_ccm(&key, &[1; 13], b"header", b"grain", &mut sealed)?;
+///
+/// let mut opened = [0; 5];
+/// assert_eq!(decrypt_ccm(&key, &[1; 13], b"header", &sealed[..n], &mic, &mut opened)?, 5);
+/// assert_eq!(&opened, b"grain");
+/// # Ok::<(), store_reader::Refusal>(())
+/// ```
+pub fn encrypt_ccm(
+    key: &Key,
+    nonce: &[u8; 13],
+    auth: &[u8],
+    payload: &[u8],
+    out: &mut [u8],
+) -> Result<(usize, [u8; 4]), Refusal> {
+    let (first, second) = key.halves();
+    let mut mic = [0; 4];
+    // SAFETY: each pointer goes with the length of its slice, and no two slices overlap.
+    let answer = unsafe {
+        sys::nwk_encrypt_ccm(
+            first,
+            second,
+            nonce.as_ptr(),
+            nonce.len(),
+            auth.as_ptr(),
+            auth.len(),
+            payload.as_ptr(),
+            payload.len(),
+            out.as_mut_ptr(),
+            out.len(),
+            mic.as_mut_ptr(),
+            mic.len(),
+        )
+    };
+    Ok((length(answer)?, mic))
+}
+
+/// Decrypts a ciphertext to the front of the output if its MIC is right, and gives its length. Refusals 1, 18, 19. An
+/// example stands at [`encrypt_ccm`].
+pub fn decrypt_ccm(
+    key: &Key,
+    nonce: &[u8; 13],
+    auth: &[u8],
+    ciphertext: &[u8],
+    mic: &[u8; 4],
+    out: &mut [u8],
+) -> Result<usize, Refusal> {
+    let (first, second) = key.halves();
+    // SAFETY: each pointer goes with the length of its slice, and no two slices overlap.
+    length(unsafe {
+        sys::nwk_decrypt_ccm(
+            first,
+            second,
+            nonce.as_ptr(),
+            nonce.len(),
+            auth.as_ptr(),
+            auth.len(),
+            ciphertext.as_ptr(),
+            ciphertext.len(),
+            mic.as_ptr(),
+            mic.len(),
+            out.as_mut_ptr(),
+            out.len(),
+        )
+    })
+}
+
+/// One block of AES-128.
+///
+/// ```
+/// use store_reader::{encrypt_block, hex, Key};
+///
+/// // FIPS 197, appendix C.1.
+/// let key: Key = "000102030405060708090A0B0C0D0E0F".parse().unwrap();
+/// let block = std::array::from_fn(|i| 0x11 * i as u8);
+/// let expected = hex("69C4E0D86A7B0430D8CDB78070B4C55A").unwrap();
+/// assert_eq!(encrypt_block(&key, &block)?[..], expected);
+/// # Ok::<(), store_reader::Refusal>(())
+/// ```
+pub fn encrypt_block(key: &Key, block: &[u8; 16]) -> Result<[u8; 16], Refusal> {
+    let (first, second) = key.halves();
+    let mut out = [0; 16];
+    // SAFETY: each pointer goes with the length of its slice, and no two slices overlap.
+    let answer =
+        unsafe { sys::nwk_encrypt_block(first, second, block.as_ptr(), block.len(), out.as_mut_ptr(), out.len()) };
+    length(answer)?;
+    Ok(out)
+}

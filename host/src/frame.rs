@@ -1,0 +1,152 @@
+//! Reading, writing, sealing and opening frames.
+use crate::header::Records;
+use crate::refusal::length;
+use crate::{sys, Key, NwkAuxHeader, NwkHeader, Refusal};
+
+/// A frame as read: its headers, and what is behind them. Behind an auxiliary header that is ciphertext with MIC, else
+/// the payload.
+#[derive(Debug, Clone, PartialEq, Eq)]
+pub struct NwkFrame<'a> {
+    pub header: NwkHeader,
+    pub auxiliary: Option<NwkAuxHeader>,
+    pub rest: &'a [u8],
+}
+
+/// A sealed frame as opened: its headers, the auxiliary one with the level received, and its payload.
+#[derive(Debug, Clone, PartialEq, Eq)]
+pub struct OpenedFrame<'a> {
+    pub header: NwkHeader,
+    pub auxiliary: NwkAuxHeader,
+    pub payload: &'a [u8],
+}
+
+/// Reads a frame without a key. Refusals 1 to 12.
+///
+/// ```
+/// use store_reader::{read, Nwk};
+///
+/// let frame = read(&[0x08, 0x00, 0x00, 0x00, 0x34, 0x12, 0x1E, 0x07, 0xAA])?;
+/// assert_eq!(frame.header.source, Nwk(0x1234));
+/// assert_eq!((frame.auxiliary, frame.rest), (None, &[0xAA][..]));
+/// # Ok::<(), store_reader::Refusal>(())
+/// ```
+pub fn read(frame: &[u8]) -> Result<NwkFrame<'_>, Refusal> {
+    let mut records = Records::new();
+    // SAFETY: each pointer goes with the length of its slice, and no two slices overlap.
+    let answer = unsafe {
+        sys::nwk_read_frame(
+            frame.as_ptr(),
+            frame.len(),
+            records.header.as_mut_ptr(),
+            records.header.len(),
+            records.auxiliary.as_mut_ptr(),
+            records.auxiliary.len(),
+        )
+    };
+    let n = length(answer)?;
+    let (header, auxiliary) = records.headers()?;
+    Ok(NwkFrame { header, auxiliary, rest: frame.get(n..).unwrap_or(&[]) })
+}
+
+/// Writes a frame without a key, header and payload, to the front of the output, and gives its length. Refusals 13, 17,
+/// 18.
+///
+/// ```
+/// use store_reader::{write, Nwk, NwkFrameType, NwkHeader};
+///
+/// let header = NwkHeader::new(NwkFrameType::Data, Nwk(0x1234), Nwk(0x0000));
+/// let mut out = [0; 118];
+/// let n = write(&header, &[0xAA], &mut out)?;
+/// assert_eq!(&out[..n], [0x08, 0x00, 0x00, 0x00, 0x34, 0x12, 0x1E, 0x00, 0xAA]);
+/// assert_eq!(write(&header, &[0xAA], &mut out[..8]).unwrap_err().number(), 18);
+/// # Ok::<(), store_reader::Refusal>(())
+/// ```
+pub fn write(header: &NwkHeader, payload: &[u8], out: &mut [u8]) -> Result<usize, Refusal> {
+    let record = header.record();
+    // SAFETY: each pointer goes with the length of its slice, and no two slices overlap.
+    length(unsafe {
+        sys::nwk_write_frame(
+            record.as_ptr(),
+            record.len(),
+            payload.as_ptr(),
+            payload.len(),
+            out.as_mut_ptr(),
+            out.len(),
+        )
+    })
+}
+
+/// Seals a frame to the front of the output, and gives its length. Refusals 13, 14, 15, 17, 18.
+///
+/// ```
+/// use store_reader::{open, seal, Eui64, Key, Nwk, NwkAuxHeader, NwkFrameType, NwkHeader};
+///
+/// let key: Key = "C0C1C2C3C4C5C6C7C8C9CACBCCCDCECF".parse().unwrap();
+/// let mut header = NwkHeader::new(NwkFrameType::Data, Nwk(0x1234), Nwk(0x0000));
+/// header.frame_control.security = true;
+/// let auxiliary = NwkAuxHeader::new(0x12345, Eui64([1, 2, 3, 4, 5, 6, 7, 8]));
+///
+/// let mut frame = [0; 118];
+/// let n = seal(&key, &header, Some(&auxiliary), b"21.5 C", &mut frame)?;
+/// assert_eq!(n, 8 + 14 + 6 + 4);
+///
+/// let mut out = [0; 108];
+/// let opened = open(&key, &frame[..n], &mut out)?;
+/// assert_eq!((opened.header, opened.auxiliary, opened.payload), (header, auxiliary, &b"21.5 C"[..]));
+///
+/// frame[n - 1] ^= 1;
+/// assert_eq!(open(&key, &frame[..n], &mut out).unwrap_err().number(), 19);
+/// # Ok::<(), store_reader::Refusal>(())
+/// ```
+pub fn seal(
+    key: &Key,
+    header: &NwkHeader,
+    auxiliary: Option<&NwkAuxHeader>,
+    payload: &[u8],
+    out: &mut [u8],
+) -> Result<usize, Refusal> {
+    let (first, second) = key.halves();
+    let header = header.record();
+    let auxiliary = NwkAuxHeader::record(auxiliary);
+    // SAFETY: each pointer goes with the length of its slice, and no two slices overlap.
+    length(unsafe {
+        sys::nwk_seal(
+            first,
+            second,
+            header.as_ptr(),
+            header.len(),
+            auxiliary.as_ptr(),
+            auxiliary.len(),
+            payload.as_ptr(),
+            payload.len(),
+            out.as_mut_ptr(),
+            out.len(),
+        )
+    })
+}
+
+/// Opens a sealed frame; its payload stands at the front of the output, of which 108 bytes are always enough. Refusals 1 to
+/// 12, 14, 15, 16, 18, 19. An example stands at [`seal`].
+pub fn open<'a>(key: &Key, frame: &[u8], out: &'a mut [u8]) -> Result<OpenedFrame<'a>, Refusal> {
+    let (first, second) = key.halves();
+    let mut records = Records::new();
+    // SAFETY: each pointer goes with the length of its slice, and no two slices overlap.
+    let answer = unsafe {
+        sys::nwk_open(
+            first,
+            second,
+            frame.as_ptr(),
+            frame.len(),
+            records.header.as_mut_ptr(),
+            records.header.len(),
+            records.auxiliary.as_mut_ptr(),
+            records.auxiliary.len(),
+            out.as_mut_ptr(),
+            out.len(),
+        )
+    };
+    let n = length(answer)?;
+    let (header, auxiliary) = records.headers()?;
+    let auxiliary = auxiliary.ok_or(Refusal::UNDECLARED)?;
+    Ok(OpenedFrame { header, auxiliary, payload: out.get(..n).unwrap_or(&[]) })
+}

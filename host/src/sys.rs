@@ -1,0 +1,86 @@
+//! The C functions of `include/nwk.h`, as they stand there.
+extern "C" {
+    pub fn nwk_read_header(bytes: *const u8, bytes_len: usize, header: *mut u8, header_len: usize) -> u64;
+    pub fn nwk_write_header(header: *const u8, header_len: usize, out: *mut u8, out_len: usize) -> u64;
+    pub fn nwk_read_auxiliary(bytes: *const u8, bytes_len: usize, auxiliary: *mut u8, auxiliary_len: usize) -> u64;
+    pub fn nwk_write_auxiliary(auxiliary: *const u8, auxiliary_len: usize, out: *mut u8, out_len: usize) -> u64;
+    pub fn nwk_read_frame(
+        bytes: *const u8,
+        bytes_len: usize,
+        header: *mut u8,
+        header_len: usize,
+        auxiliary: *mut u8,
+        auxiliary_len: usize,
+    ) -> u64;
+    pub fn nwk_write_frame(
+        header: *const u8,
+        header_len: usize,
+        payload: *const u8,
+        payload_len: usize,
+        out: *mut u8,
+        out_len: usize,
+    ) -> u64;
+    pub fn nwk_seal(
+        key_first: u64,
+        key_second: u64,
+        header: *const u8,
+        header_len: usize,
+        auxiliary: *const u8,
+        auxiliary_len: usize,
+        payload: *const u8,
+        payload_len: usize,
+        out: *mut u8,
+        out_len: usize,
+    ) -> u64;
+    pub fn nwk_open(
+        key_first: u64,
+        key_second: u64,
+        bytes: *const u8,
+        bytes_len: usize,
+        header: *mut u8,
+        header_len: usize,
+        auxiliary: *mut u8,
+        auxiliary_len: usize,
+        out: *mut u8,
+        out_len: usize,
+    ) -> u64;
+    pub fn nwk_read_command(bytes: *const u8, bytes_len: usize, command: *mut u8, command_len: usize) -> u64;
+    pub fn nwk_write_command(command: *const u8, command_len: usize, out: *mut u8, out_len: usize) -> u64;
+    pub fn nwk_timeout_seconds(code: u8) -> u64;
+    pub fn nwk_encrypt_ccm(
+        key_first: u64,
+        key_second: u64,
+        nonce: *const u8,
+        nonce_len: usize,
+        auth: *const u8,
+        auth_len: usize,
+        payload: *const u8,
+        payload_len: usize,
+        out: *mut u8,
+        out_len: usize,
+        mic: *mut u8,
+        mic_len: usize,
+    ) -> u64;
+    pub fn nwk_decrypt_ccm(
+        key_first: u64,
+        key_second: u64,
+        nonce: *const u8,
+        nonce_len: usize,
+        auth: *const u8,
+        auth_len: usize,
+        ciphertext: *const u8,
+        ciphertext_len: usize,
+        mic: *const u8,
+        mic_len: usize,
+        out: *mut u8,
+        out_len: usize,
+    ) -> u64;
+    pub fn nwk_encrypt_block(
+        key_first: u64,
+        key_second: u64,
+        block: *const u8,
+        block_len: usize,
+        out: *mut u8,
+        out_len: usize,
+    ) -> u64;
+}

@@ -1,0 +1,65 @@
+//! The C programs of the README, of `include/nwk.h` and of `examples/`: they compile without a warning and print what they
+//! are said to print.
+use std::fs;
+use std::path::{Path, PathBuf};
+use std::process::Command;
+
+fn root() -> PathBuf {
+    PathBuf::from(env!("CARGO_MANIFEST_DIR")).join("..")
+}
+
+/// Compiles a C program against the archive and gives what it prints; it must end with 0.
+fn output(name: &str, source: &Path) -> String {
+    let program = Path::new(env!("CARGO_TARGET_TMPDIR")).join(name);
+    let compiled = Command::new("cc")
+        .args(["-std=c11", "-Wall", "-Wextra", "-Wpedantic", "-Werror", "-Iinclude"])
+        .arg(source)
+        .arg("target/staticlib/libnwk.a")
+        .arg("-o")
+        .arg(&program)
+        .current_dir(root())
+        .output()
+        .expect("a C compiler called cc is needed");
+    assert!(compiled.status.success(), "{}", String::from_utf8_lossy(&compiled.stderr));
+    let ran = Command::new(&program).output().expect("the program starts");
+    let printed = String::from_utf8(ran.stdout).expect("UTF-8");
+    assert!(ran.status.success(), "{printed}");
+    printed
+}
+
+/// The output of a program given as text.
+fn output_of_text(name: &str, text: &str) -> String {
+    let source = Path::new(env!("CARGO_TARGET_TMPDIR")).join(format!("{name}.c"));
+    fs::write(&source, text).expect("a file for the program");
+    output(name, &source)
+}
+
+/// What stands between two texts, the first of its kind.
+fn between<'a>(text: &'a str, open: &str, close: &str) -> &'a str {
+    let behind = text.split_once(open).expect("the opening mark").1;
+    behind.split_once(close).expect("the closing mark").0
+}
+
+#[test]
+fn the_readmes_program() {
+    let readme = fs::read_to_string(root().join("README.md")).expect("README.md");
+    let program = between(&readme, "```c\n", "```");
+    let behind = readme.split_once("```c\n").expect("the program").1;
+    let printed = between(behind, "and prints\n\n```text\n", "```");
+    assert_eq!(output_of_text("readme", program), printed);
+}
+
+#[test]
+fn the_headers_program() {
+    let header = fs::read_to_string(root().join("include/nwk.h")).expect("include/nwk.h");
+    let lines = between(&header, " * Example:\n *\n", " *\n * It prints");
+    let program: Vec<&str> = lines.lines().map(|line| line.strip_prefix(" *   ").unwrap_or("")).collect();
+    let printed = between(&header, " * It prints \"", "\"");
+    assert_eq!(output_of_text("header", &program.join("\n")), format!("{printed}\n"));
+}
+
+#[test]
+fn the_example_that_seals_and_opens() {
+    let printed = output("seal_open", &root().join("examples/seal_open.c"));
+    assert!(printed.ends_with("damaged: refusal 19, length 0\n"), "{printed}");
+}
