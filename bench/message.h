@@ -1,0 +1,46 @@
+/* message.h: the messages of the benchmark. One message serves every implementation, so that all seal and open the
+ * same. */
+#ifndef BENCH_MESSAGE_H
+#define BENCH_MESSAGE_H
+
+#include "nwk.h"
+
+#include <stdbool.h>
+
+#define KEY_LENGTH 16
+#define BLOCK_LENGTH 16
+#define NONCE_LENGTH 13
+#define MIC_LENGTH 4
+#define AUTH_LENGTH 22
+#define MAX_MESSAGE 83
+
+struct message {
+  uint8_t key[KEY_LENGTH];
+  uint64_t key_first, key_second;
+  uint8_t header[NWK_HEADER_RECORD];
+  uint8_t auxiliary[NWK_AUXILIARY_RECORD];
+  uint8_t payload[MAX_MESSAGE];
+  size_t length;
+  /* The 13 bytes of nonce and the 22 authenticated ones (header of 8, auxiliary header of 14) of this frame. */
+  uint8_t nonce[NONCE_LENGTH];
+  uint8_t auth[AUTH_LENGTH];
+  /* What sealing gives: the frame, and the ciphertext with the MIC behind it. */
+  uint8_t frame[NWK_MAX_FRAME];
+  size_t frame_length;
+  uint8_t sealed[MAX_MESSAGE + MIC_LENGTH];
+  /* Where the measured calls put what they give. */
+  uint8_t out[NWK_MAX_FRAME];
+  uint8_t header_out[NWK_HEADER_RECORD];
+  uint8_t auxiliary_out[NWK_AUXILIARY_RECORD];
+};
+
+/* A call to be measured; whether it went well. */
+typedef bool call(void *input);
+
+/* The message with a payload of so many bytes, sealed by the codec. Ends the program if the codec refuses it. */
+void make_message(struct message *m, size_t length);
+
+/* End the program: what did not come out as it has to. */
+_Noreturn void fail(const char *what, const char *who);
+
+#endif

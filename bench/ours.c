@@ -1,0 +1,37 @@
+/* The codec's own calls. */
+#include "codecs.h"
+
+static bool seal(void *input) {
+  struct message *m = input;
+  uint64_t answer = nwk_encrypt_ccm(m->key_first, m->key_second, m->nonce, NONCE_LENGTH, m->auth, AUTH_LENGTH,
+                                    m->payload, m->length, m->out, m->length, m->out + m->length, MIC_LENGTH);
+  return answer == m->length;
+}
+
+static bool open(void *input) {
+  struct message *m = input;
+  uint64_t answer = nwk_decrypt_ccm(m->key_first, m->key_second, m->nonce, NONCE_LENGTH, m->auth, AUTH_LENGTH,
+                                    m->sealed, m->length, m->sealed + m->length, MIC_LENGTH, m->out, m->length);
+  return answer == m->length;
+}
+
+static bool block(void *input) {
+  struct message *m = input;
+  return nwk_encrypt_block(m->key_first, m->key_second, m->payload, BLOCK_LENGTH, m->out, BLOCK_LENGTH) == BLOCK_LENGTH;
+}
+
+bool seal_frame(void *input) {
+  struct message *m = input;
+  uint64_t answer = nwk_seal(m->key_first, m->key_second, m->header, sizeof m->header, m->auxiliary,
+                             sizeof m->auxiliary, m->payload, m->length, m->out, sizeof m->out);
+  return answer == m->frame_length;
+}
+
+bool open_frame(void *input) {
+  struct message *m = input;
+  uint64_t answer = nwk_open(m->key_first, m->key_second, m->frame, m->frame_length, m->header_out,
+                             sizeof m->header_out, m->auxiliary_out, sizeof m->auxiliary_out, m->out, sizeof m->out);
+  return answer == m->length;
+}
+
+const struct codec ours = {.name = "nwk", .version = "", .seal = seal, .open = open, .block = block};

@@ -1,0 +1,153 @@
+#define _XOPEN_SOURCE 700
+#include "stack.h"
+
+#include "codecs.h"
+#include "readings.h"
+
+#include <stdio.h>
+#include <string.h>
+#include <ucontext.h>
+
+#define STACK_BYTES 16384
+
+/* The painted stack, and what runs on it. */
+static _Alignas(64) uint8_t stack[STACK_BYTES];
+static ucontext_t back, there;
+static call *running;
+static void *given;
+static const uint8_t *caller;
+
+static void enter(void) {
+  caller = __builtin_frame_address(0);
+  running(given);
+}
+
+/* The bytes from the caller's frame to the deepest one that no longer has the paint. */
+static size_t unpainted(uint8_t paint) {
+  size_t i = 0;
+  while (i < sizeof stack && stack[i] == paint) {
+    i++;
+  }
+  if (i == 0) {
+    fail("the painted stack is too small", "stack");
+  }
+  return (size_t)(caller - (stack + i));
+}
+
+static size_t touched_with(uint8_t paint) {
+  memset(stack, paint, sizeof stack);
+  getcontext(&there);
+  there.uc_stack.ss_sp = stack;
+  there.uc_stack.ss_size = sizeof stack;
+  there.uc_link = &back;
+  makecontext(&there, enter, 0);
+  swapcontext(&back, &there);
+  return unpainted(paint);
+}
+
+static size_t larger(size_t a, size_t b) {
+  return a > b ? a : b;
+}
+
+/* Two paints, because a byte written may be as the paint is. */
+static size_t touched(call *run, void *input) {
+  running = run;
+  given = input;
+  return larger(touched_with(0xA5), touched_with(0x5A));
+}
+
+/* ---- calls that only the stack table makes */
+
+static bool read_frame(void *input) {
+  struct message *m = input;
+  return nwk_read_frame(m->frame, m->frame_length, m->header_out, sizeof m->header_out, m->auxiliary_out,
+                        sizeof m->auxiliary_out) == AUTH_LENGTH;
+}
+
+static bool write_frame(void *input) {
+  struct message *m = input;
+  return NWK_REFUSAL(nwk_write_frame(m->header, sizeof m->header, m->payload, m->length, m->out, sizeof m->out)) == 0;
+}
+
+static bool read_auxiliary(void *input) {
+  struct message *m = input;
+  return NWK_REFUSAL(nwk_read_auxiliary(m->auth + 8, 14, m->auxiliary_out, sizeof m->auxiliary_out)) == 0;
+}
+
+static bool write_auxiliary(void *input) {
+  struct message *m = input;
+  return NWK_REFUSAL(nwk_write_auxiliary(m->auxiliary, sizeof m->auxiliary, m->out, sizeof m->out)) == 0;
+}
+
+static bool timeout_seconds(void *input) {
+  struct message *m = input;
+  return NWK_REFUSAL(nwk_timeout_seconds((uint8_t)m->length)) == 0;
+}
+
+/* ---- the most over inputs of every kind */
+
+static size_t over_messages(call *run) {
+  size_t most = 0;
+  for (size_t n = 0; n <= MAX_MESSAGE; n++) {
+    struct message m;
+    make_message(&m, n);
+    most = larger(most, touched(run, &m));
+  }
+  return most;
+}
+
+/* Every second byte of frame control, which has the presence bits. */
+static size_t over_headers(call *run) {
+  size_t most = 0;
+  for (unsigned control = 0; control < 256; control++) {
+    struct reading r;
+    make_routed_header(&r, 46);
+    r.bytes[1] = (uint8_t)control;
+    read_header(&r);
+    most = larger(most, touched(run, &r));
+  }
+  return most;
+}
+
+/* Every identifier and options byte, at the full length and at a short one. */
+static size_t over_commands(call *run) {
+  size_t most = 0;
+  for (unsigned i = 0; i < 16 * 256 * 2; i++) {
+    struct reading r = {.length = i % 2 ? NWK_MAX_PAYLOAD : 2};
+    r.bytes[0] = (uint8_t)(i / 512);
+    r.bytes[1] = (uint8_t)(i / 2);
+    read_command(&r);
+    most = larger(most, touched(run, &r));
+  }
+  return most;
+}
+
+struct use {
+  const char *name;
+  size_t (*over)(call *run);
+  call *run;
+};
+
+void print_stack_use(void) {
+  const struct use uses[] = {
+      {"nwk_read_header", over_headers, read_header},
+      {"nwk_write_header", over_headers, write_header},
+      {"nwk_read_auxiliary", over_messages, read_auxiliary},
+      {"nwk_write_auxiliary", over_messages, write_auxiliary},
+      {"nwk_read_frame", over_messages, read_frame},
+      {"nwk_write_frame", over_messages, write_frame},
+      {"nwk_seal", over_messages, seal_frame},
+      {"nwk_open", over_messages, open_frame},
+      {"nwk_read_command", over_commands, read_command},
+      {"nwk_write_command", over_commands, write_command},
+      {"nwk_timeout_seconds", over_messages, timeout_seconds},
+      {"nwk_encrypt_ccm", over_messages, ours.seal},
+      {"nwk_decrypt_ccm", over_messages, ours.open},
+      {"nwk_encrypt_block", over_messages, ours.block},
+  };
+  printf("\n### Stack, the most that a call touched\n\n");
+  printf("| %-19s | bytes |\n|---------------------|------:|\n", "function");
+  for (size_t i = 0; i < sizeof uses / sizeof uses[0]; i++) {
+    printf("| %-19s | %5zu |\n", uses[i].name, uses[i].over(uses[i].run));
+  }
+}

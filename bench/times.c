@@ -1,0 +1,147 @@
+#include "times.h"
+
+#include "codecs.h"
+#include "readings.h"
+#include "tables.h"
+
+#include <stdio.h>
+#include <string.h>
+
+static const size_t lengths[] = {5, 16, 32, 50, 64, 83};
+#define LENGTHS (sizeof lengths / sizeof lengths[0])
+
+static struct message messages[LENGTHS];
+
+static void make_messages(void) {
+  for (size_t i = 0; i < LENGTHS; i++) {
+    make_message(&messages[i], lengths[i]);
+  }
+}
+
+/* Run a call once and compare what it puts out. */
+static void check(call *run, struct message *m, const uint8_t *expected, size_t n, const char *what, const char *who) {
+  if (!run) {
+    return;
+  }
+  memset(m->out, 0, sizeof m->out);
+  if (!run(m) || memcmp(m->out, expected, n) != 0) {
+    fail(what, who);
+  }
+}
+
+/* The codec's frame is what every implementation is held to: ciphertext and MIC behind the headers. */
+static void check_codec(const struct codec *c, struct message *m) {
+  check(c->seal, m, m->sealed, m->length + MIC_LENGTH, "ciphertext or MIC differ from nwk_seal's", c->name);
+  check(c->open, m, m->payload, m->length, "the opened payload differs", c->name);
+  if (c->set_key) {
+    if (!c->set_key(m)) {
+      fail("the key was not set up", c->name);
+    }
+    check(c->seal_kept, m, m->sealed, m->length + MIC_LENGTH, "ciphertext or MIC differ, key kept", c->name);
+    check(c->open_kept, m, m->payload, m->length, "the opened payload differs, key kept", c->name);
+  }
+}
+
+static void check_block(const struct codec *c, struct message *m, const uint8_t *expected) {
+  check(c->block, m, expected, BLOCK_LENGTH, "the block differs from nwk_encrypt_block's", c->name);
+  check(c->block_kept, m, expected, BLOCK_LENGTH, "the block differs, key kept", c->name);
+}
+
+static void check_all(void) {
+  for (size_t i = 0; i < LENGTHS; i++) {
+    struct message *m = &messages[i];
+    check_codec(&ours, m);
+    check_codec(&nettle, m);
+    check_codec(&mbedtls, m);
+    check(seal_frame, m, m->frame, m->frame_length, "the frame differs", "nwk_seal");
+    check(open_frame, m, m->payload, m->length, "the opened payload differs", "nwk_open");
+  }
+  struct message *m = &messages[LENGTHS - 1];
+  uint8_t expected[BLOCK_LENGTH];
+  if (!ours.block(m)) {
+    fail("refused", "nwk_encrypt_block");
+  }
+  memcpy(expected, m->out, sizeof expected);
+  check_block(&nettle, m, expected);
+  check_block(&mbedtls, m, expected);
+}
+
+/* A row of the three calls on one message. */
+static struct row row_of(const char *label, struct message *m, call *a, call *b, call *c) {
+  struct row row = {.jobs = {{.run = a, .input = m}, {.run = b, .input = m}, {.run = c, .input = m}}};
+  snprintf(row.label, sizeof row.label, "%s", label);
+  return row;
+}
+
+static struct row row_for_length(size_t i, call *a, call *b, call *c) {
+  char label[32];
+  snprintf(label, sizeof label, "%zu bytes", lengths[i]);
+  return row_of(label, &messages[i], a, b, c);
+}
+
+static void compare_lengths(const char *what, const char *way, call *a, call *b, call *c) {
+  struct row rows[LENGTHS];
+  char title[120];
+  for (size_t i = 0; i < LENGTHS; i++) {
+    rows[i] = row_for_length(i, a, b, c);
+  }
+  snprintf(title, sizeof title, "%s, %s", what, way);
+  compare(title, "payload", rows, LENGTHS);
+}
+
+void compare_with_peers(const char *way) {
+  make_messages();
+  check_all();
+  compare_lengths("CCM sealing, key setup in each call", way, ours.seal, nettle.seal, mbedtls.seal);
+  compare_lengths("CCM opening, key setup in each call", way, ours.open, nettle.open, mbedtls.open);
+  struct message *m = &messages[LENGTHS - 1];
+  struct row rows[] = {row_of("set up", m, ours.block, nettle.block, mbedtls.block),
+                       row_of("kept", m, ours.block, nettle.block_kept, mbedtls.block_kept)};
+  char title[120];
+  snprintf(title, sizeof title, "One AES block, %s", way);
+  compare(title, "peers' key", rows, 2);
+}
+
+void compare_with_kept_keys(const char *way) {
+  compare_lengths("CCM sealing, the peers' key kept from call to call", way, ours.seal, nettle.seal_kept,
+                  mbedtls.seal_kept);
+  compare_lengths("CCM opening, the peers' key kept from call to call", way, ours.open, nettle.open_kept,
+                  mbedtls.open_kept);
+}
+
+static void frames_alone(const char *title, call *run) {
+  struct row rows[LENGTHS];
+  for (size_t i = 0; i < LENGTHS; i++) {
+    rows[i] = row_for_length(i, run, NULL, NULL);
+  }
+  alone(title, "payload", rows, LENGTHS);
+}
+
+/* A row of a reading; what it reads is checked by writing it back. */
+static struct row reading_row(const char *label, call *read, call *write, struct reading *r) {
+  struct row row = {.jobs = {{.run = read, .input = r}}};
+  snprintf(row.label, sizeof row.label, "%s, %zu bytes", label, r->length);
+  if (!read(r) || !write(r)) {
+    fail("what was read is not written back as it was", row.label);
+  }
+  return row;
+}
+
+void times_alone(void) {
+  static struct reading r[5];
+  make_plain_header(&r[0]);
+  make_routed_header(&r[1], 3);
+  make_routed_header(&r[2], 46);
+  make_link_status(&r[3], 3);
+  make_link_status(&r[4], 31);
+  struct row rows[] = {
+      reading_row("plain header", read_header, write_header, &r[0]),
+      reading_row("header, both IEEE, 3 relays", read_header, write_header, &r[1]),
+      reading_row("header, both IEEE, 46 relays", read_header, write_header, &r[2]),
+      reading_row("link status of 3 entries", read_command, write_command, &r[3]),
+      reading_row("link status of 31 entries", read_command, write_command, &r[4]),
+  };
+  frames_alone("nwk_seal, a whole frame", seal_frame);
+  frames_alone("nwk_open, a whole frame", open_frame);
+  alone("nwk_read_header and nwk_read_command", "read", rows, sizeof rows / sizeof rows[0]);
+}
