@@ -14,7 +14,7 @@ use Rattle.commands.specs.Format.{partSizes, keptCount, kept, filled, size, wid
 use Rattle.commands.specs.Commands.{leaveFormat, leaveOf, leaveValues, timeoutRequestFormat, timeoutRequestBy, timeoutRequestOf, timeoutRequestValues, linkStatusFormat, linkStatusOf, linkStatusValues, linkOf, linkEntry, firsts}
 use Rattle.commands.specs.Reading.{formatOf, commandOf, places, frame, listed, bodyOf, typedBy, typed, unparsed, frameOf, accepted, readCommand}
 use Rattle.commands.specs.Writing.{wireOf, wire, wireBytes, commandBytes, seconds, timeoutSeconds}
-use Rattle.boundary.specs.Starred.{Reads, All, starred, plainBytes, dataControl, routedControl, fromProbe, routedBytes, leaveWithRequest, timeout14, oneLink}
+use Rattle.boundary.specs.Starred.{All, starred, plainBytes, dataControl, routedControl, fromProbe, routedBytes, leaveWithRequest, timeout14, oneLink}
 
 pub starred-hold : All starred
 unfolding tab le leAt fields packed orElse firstOf xtime productOfBits product bitPower power inverse bit affineBit ofBits affine sbox controlOf sourceAt multicastAt routeAt relaysAt headerEnd optionalRefusals headerRefusal relaysOf headerBy blankHeader headerAnswer readHeader commandIdOf commandIds timeoutOf timeouts partSizes keptCount kept filled size width readField writeField sizes widths readFields writeFields plus summed headEnd announced bodyEnd values writeEntries bodyBytes leaveFormat leaveOf leaveValues timeoutRequestFormat timeoutRequestBy timeoutRequestOf timeoutRequestValues linkStatusFormat linkStatusOf linkStatusValues linkOf linkEntry firsts formatOf commandOf places frame listed bodyOf typedBy typed unparsed frameOf accepted readCommand wireOf wire wireBytes commandBytes seconds timeoutSeconds starred plainBytes dataControl routedControl fromProbe routedBytes leaveWithRequest timeout14 oneLink

@@ -1,11 +1,11 @@
 -- How long the parts of the command record are, and that fields written over a blank front are filled up with zeros.
 -- Assumes nothing.
 use mathlib.Core.Path.{_≡_, refl, sym, ap, _∙_}
-use mathlib.Core.List.{List, [], _∷_, _++_, append-assoc}
+use mathlib.Core.List.{List, _++_, append-assoc}
 use Prim.Native.Nat.{ℕ, _+_, _*_, _≤_}
 use native.Mathlib.Omega.{arith}
 use lib.ListN.{length, getD, drop, replicate, length-append, length-drop, length-replicate}
-use lib.Seq.{drop-append-le, length-take-le}
+use lib.Seq.{drop-append-le}
 use Rattle.octets.specs.Strings.{over}
 use Rattle.octets.specs.Numbers.{le}
 use Rattle.octets.proofs.Strings.{over-front}
@@ -15,7 +15,7 @@ use Rattle.commands.specs.declared.NwkCommand.{NwkCommand}
 use Rattle.commands.specs.declared.NwkCommandFrame.{NwkCommandFrame}
 use Rattle.commands.specs.declared.NwkLinkStatus.{NwkLinkStatus}
 use Rattle.commands.specs.declared.NwkPowerListEntry.{NwkPowerListEntry}
-use Rattle.commands.specs.Commands.{capabilityValues, noLink, noPower}
+use Rattle.commands.specs.Commands.{capabilityValues}
 use Rattle.commands.specs.Reading.{places}
 use Rattle.command_records.specs.Fields.{addressRecord, fieldBytes, fieldsRecord}
 use Rattle.command_records.specs.Lists.{entries, numberEntry, linkRecord, linkEntry, powerRecord, powerEntry}

@@ -1,15 +1,14 @@
 -- The command record, 535 bytes: the identifier and the fields, then the five lists. Only the command's own list counts.
 -- Assumes nothing.
 use Prim.Native.Nat.{ℕ}
-use mathlib.Core.Bool.{Bool, true, false, not, _||_}
+use mathlib.Core.Bool.{Bool, not, _||_}
 use mathlib.Core.List.{List, [], _∷_, _++_}
 use lib.ListN.{length, getD}
 use lib.Dec.{eqb, ltb}
 use Rattle.octets.specs.Numbers.{le}
-use Rattle.commands.specs.declared.TypedBody.{TypedBody}
 use Rattle.commands.specs.declared.NwkCommandFrame.{NwkCommandFrame}
 use Rattle.records.specs.Limits.{exceeds}
-use Rattle.command_records.specs.Fields.{fieldsRecord, recorded}
+use Rattle.command_records.specs.Fields.{fieldsRecord}
 use Rattle.command_records.specs.Lists.{entries, numberEntry, linkEntry, powerEntry}
 
 abbrev pub commandRecordSize : ℕ

@@ -2,10 +2,10 @@
 -- command's own fields in the declared order, each at a fixed place, then 0. A truth value is a byte 0 or 1, a code its
 -- number, an optional IEEE address a presence byte and eight bytes that are 0 where it is absent.
 -- Assumes nothing.
-use Prim.Native.Nat.{ℕ, _+_}
+use Prim.Native.Nat.{ℕ}
 use mathlib.Core.Bool.{cond}
 use mathlib.Core.List.{List, [], _∷_, _++_}
-use lib.ListN.{length, getD, drop}
+use lib.ListN.{getD, drop}
 use lib.Dec.{eqb}
 use Rattle.octets.specs.Numbers.{le, leAt}
 use Rattle.commands.specs.declared.MaybeEui64.{MaybeEui64}

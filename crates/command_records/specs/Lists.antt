@@ -4,7 +4,7 @@
 -- length of an unparsed command and its 108 places.
 -- Assumes nothing.
 use Prim.Native.Nat.{ℕ, zero, suc, _+_, _*_}
-use mathlib.Core.List.{List, [], _∷_, _++_}
+use mathlib.Core.List.{List, [], _++_}
 use lib.ListN.{getD}
 use Rattle.octets.specs.Strings.{tab}
 use Rattle.octets.specs.Numbers.{le, leAt}

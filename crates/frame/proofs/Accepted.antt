@@ -1,21 +1,19 @@
 -- What it means that sealing, reading or opening a frame is accepted: no condition of its list holds.
 -- Assumes nothing.
-use mathlib.Core.Path.{_≡_, refl, sym, ap, _∙_}
-use mathlib.Core.Bool.{Bool, true, false, cond, not, _||_}
+use mathlib.Core.Path.{_≡_, refl, ap, _∙_}
+use mathlib.Core.Bool.{Bool, true, false, not}
 use mathlib.Core.List.{List}
-use Prim.Native.Nat.{ℕ, zero, suc, _+_, _-_, _≤_}
-use native.Mathlib.Omega.{arith}
+use Prim.Native.Nat.{ℕ, zero, suc, _-_, _≤_}
 use lib.ListN.{length}
 use lib.Dec.{ltb}
 use borrow.Author.Tests.{ltb-false, le-ltb}
-use Rattle.octets.specs.Refusals.{on, firstOf, orElse}
+use Rattle.octets.specs.Refusals.{firstOf, orElse}
 use Rattle.octets.proofs.Refusals.{none-split, none-join, not-on, skip, empty}
 use Rattle.header.specs.declared.auxiliary.NwkSecurityLevel.{NwkSecurityLevel}
-use Rattle.header.specs.declared.auxiliary.NwkAuxHeader.{NwkAuxHeader}
 use Rattle.header.specs.declared.auxiliary.AuxRead.{AuxRead}
 use Rattle.header.specs.declared.nwk.HeaderRead.{HeaderRead}
 use Rattle.header.specs.declared.nwk.NwkHeader.{NwkHeader}
-use Rattle.header.specs.Writing.{badHeader, Run, written}
+use Rattle.header.specs.Writing.{badHeader, written}
 use Rattle.header.proofs.ControlFields.{or-false}
 use Rattle.ccm.specs.Verification.{Verified}
 use Rattle.frame.specs.declared.OptionAuxHeader.{OptionAuxHeader}

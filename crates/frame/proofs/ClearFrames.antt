@@ -18,7 +18,7 @@ use Rattle.header.specs.declared.nwk.HeaderRead.{HeaderRead}
 use Rattle.header.specs.declared.nwk.NwkHeader.{NwkHeader}
 use Rattle.header.specs.Reading.{readHeader}
 use Rattle.header.specs.Same.{Agrees, SameHeader, cleared, HeaderFits}
-use Rattle.header.specs.Writing.{headerBytes, written}
+use Rattle.header.specs.Writing.{headerBytes}
 use Rattle.header.proofs.ReadBack.{read-back, same-cleared}
 use Rattle.frame.specs.declared.OptionAuxHeader.{OptionAuxHeader}
 use Rattle.frame.specs.declared.FrameRead.{FrameRead}

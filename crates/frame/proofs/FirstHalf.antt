@@ -3,10 +3,10 @@
 -- Assumes nothing.
 use mathlib.Core.Path.{_≡_, refl, sym, ap, _∙_}
 use mathlib.Core.Bool.{Bool, true, false, cond, not, _&&_}
-use mathlib.Core.List.{List, [], _∷_, _++_, append-assoc}
-use Prim.Native.Nat.{ℕ, zero, suc, _+_, _-_, _≤_}
+use mathlib.Core.List.{List, _++_, append-assoc}
+use Prim.Native.Nat.{ℕ, _+_, _-_, _≤_}
 use native.Mathlib.Omega.{arith}
-use lib.ListN.{length, take, drop, length-append}
+use lib.ListN.{length, drop, length-append}
 use lib.Seq.{take-at, drop-at}
 use lib.Dec.{ltb}
 use Rattle.octets.specs.Strings.{over}
@@ -20,21 +20,20 @@ use Rattle.header.specs.declared.nwk.NwkHeader.{NwkHeader}
 use Rattle.header.specs.Reading.{readHeader}
 use Rattle.header.specs.Auxiliary.{auxBytes, readAux}
 use Rattle.header.specs.Writing.{headerBytes, badHeader}
-use Rattle.header.specs.Same.{Agrees, AuxAgrees, SameHeader, cleared, HeaderFits, AuxFits}
+use Rattle.header.specs.Same.{Agrees, AuxAgrees, cleared, HeaderFits, AuxFits}
 use Rattle.header.proofs.ReadBack.{read-back, same-cleared}
 use Rattle.header.proofs.AuxiliaryLaws.{aux-read-back}
 use Rattle.ccm.specs.Verification.{Verified}
-use Rattle.ccm.specs.Operations.{sealedBy, openedBy}
+use Rattle.ccm.specs.Operations.{openedBy}
 use Rattle.ccm.proofs.Opening.{length-ciphertext, length-tag, opened-sealed}
 use Rattle.frame.specs.declared.OptionAuxHeader.{OptionAuxHeader}
 use Rattle.frame.specs.declared.FrameRead.{FrameRead}
 use Rattle.frame.specs.Reading.{secured, auxIf, auxBehind, frameRefusal, frameAnswer, frameBy, readFrame}
 use Rattle.frame.specs.Security.{sentLevel, atLevel, auxOf, noIeee, nonce, authenticated}
 use Rattle.frame.specs.Sealing.{generated, sealedBytes, sealedLength}
-use Rattle.frame.specs.Opening as opening
-use Rattle.frame.specs.Opening.{behind, ciphertextOf, micOf, verified, openRefusal, opened, openBy}
+use Rattle.frame.specs.Opening.{behind, ciphertextOf, micOf, verified, opened, openBy}
 use Rattle.frame.proofs.Levels.{level-agrees, level-fits, level-length, level-nonce, level-authenticated, level-ieee}
-use Rattle.frame.proofs.Accepted.{Sealable, Openable, open-accepts}
+use Rattle.frame.proofs.Accepted.{Openable, open-accepts}
 
 -- ---- reading a secured frame from its parts
 

@@ -2,33 +2,30 @@
 -- it opened to the ciphertext and MIC that follow them, and the two parts are the whole frame. For every level and tag length.
 -- Assumes nothing.
 use mathlib.Core.Path.{_≡_, refl, sym, ap, _∙_}
-use mathlib.Core.Bool.{Bool, true, false, cond, not, _&&_}
-use mathlib.Core.List.{List, [], _∷_, _++_, append-assoc}
-use Prim.Native.Nat.{ℕ, zero, suc, _+_, _-_, _%_, _/_, _≤_, _<_}
+use mathlib.Core.Bool.{Bool, true, false, cond}
+use mathlib.Core.List.{List, _++_}
+use Prim.Native.Nat.{ℕ, _+_, _-_, _%_, _≤_, _<_}
 use native.Mathlib.Nat.{add-zero}
 use native.Mathlib.Omega.{arith}
-use lib.ListN.{length, getD, take, drop, length-append, length-drop, take-append-drop}
+use lib.ListN.{length, getD, take, drop, length-drop, take-append-drop}
 use lib.Seq.{take-add, getD-drop, length-take-le}
-use lib.Dec.{ltb}
 use Rattle.octets.specs.Strings.{Below}
 use Rattle.octets.proofs.Refusals.{none-split}
 use Rattle.header.specs.declared.auxiliary.NwkSecurityLevel.{NwkSecurityLevel}
 use Rattle.header.specs.declared.auxiliary.NwkAuxHeader.{NwkAuxHeader}
 use Rattle.header.specs.declared.auxiliary.AuxRead.{AuxRead}
 use Rattle.header.specs.declared.nwk.HeaderRead.{HeaderRead}
-use Rattle.header.specs.declared.nwk.NwkHeader.{NwkHeader}
 use Rattle.header.specs.Reading.{readHeader}
-use Rattle.header.specs.Auxiliary.{auxBytes, readAux}
-use Rattle.header.specs.AuxiliaryControl.{securityOf, withLevel}
-use Rattle.header.specs.Writing.{headerBytes, badHeader}
+use Rattle.header.specs.Auxiliary.{auxBytes}
+use Rattle.header.specs.AuxiliaryControl.{withLevel}
+use Rattle.header.specs.Writing.{headerBytes}
 use Rattle.header.proofs.ReadFacts.{HeaderFacts, header-facts, AuxFacts, aux-facts}
 use Rattle.header.proofs.AuxiliaryLaws.{aux-length}
-use Rattle.ccm.specs.Verification.{Verified}
 use Rattle.ccm.proofs.Opening.{length-payload, sealed-opened}
 use Rattle.frame.specs.declared.OptionAuxHeader.{OptionAuxHeader}
 use Rattle.frame.specs.declared.FrameRead.{FrameRead}
 use Rattle.frame.specs.Reading.{secured, auxIf, auxBehind, frameRefusal, frameAnswer, frameBy, readFrame}
-use Rattle.frame.specs.Security.{sentLevel, atLevel, isAbsent, auxOf, noIeee, nonce, authenticated}
+use Rattle.frame.specs.Security.{sentLevel, atLevel, isAbsent, auxOf, nonce, authenticated}
 use Rattle.frame.specs.Sealing.{generated, sealedBytes, sealedLength}
 use Rattle.frame.specs.Opening.{behind, ciphertextOf, micOf, verified}
 use Rattle.frame.proofs.Accepted.{Sealable, Openable, frame-refusal}

@@ -4,23 +4,22 @@
 use mathlib.Core.Path.{_≡_, refl, sym, ap, _∙_}
 use mathlib.Core.Bool.{Bool}
 use mathlib.Core.List.{List, [], _∷_, _++_, append-assoc}
-use Prim.Native.Nat.{ℕ, zero, suc, _+_, _*_, _%_, _^_, _≤_, _<_}
-use native.Mathlib.Nat.{add-zero, mod-lt, mod-eq-of-lt}
+use Prim.Native.Nat.{ℕ, suc, _+_, _*_, _%_, _≤_, _<_}
+use native.Mathlib.Nat.{mod-lt, mod-eq-of-lt}
 use native.Mathlib.Omega.{arith}
 use lib.ListN.{length, getD, take, drop, length-append}
 use lib.Seq.{take-add, drop-cons, drop-drop}
 use native.Mathlib.Numerals.{add-one}
-use lib.Dec.{ltb}
 use borrow.Author.Tests.{le-ltb, ltb-false}
 use Rattle.octets.specs.Strings.{Below}
 use Rattle.octets.specs.Numbers.{le, leAt}
-use Rattle.octets.specs.Refusals.{on, firstOf, orElse}
+use Rattle.octets.specs.Refusals.{firstOf, orElse}
 use Rattle.octets.proofs.Numbers.{length-le, leAt-le, le-leAt}
 use Rattle.octets.proofs.Refusals.{none-split, not-on}
 use Rattle.header.specs.declared.auxiliary.NwkAuxHeader.{NwkAuxHeader}
 use Rattle.header.specs.declared.auxiliary.NwkSecurityHeaderControlField.{NwkSecurityHeaderControlField}
 use Rattle.header.specs.Optional.{bit, ieeeIf, ieeeBytes, hasIeee}
-use Rattle.header.specs.AuxiliaryControl.{securityByte, securityOf}
+use Rattle.header.specs.AuxiliaryControl.{securityByte}
 use Rattle.header.specs.Auxiliary.{security, keySequenceAt, auxRefusal, auxBy, auxAnswer, readAux, auxBytes}
 use Rattle.header.specs.Same.{AuxAgrees, AuxFits}
 use Rattle.header.proofs.ControlFields.{security-back, securityByte-lt, byte-back}

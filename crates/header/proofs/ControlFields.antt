@@ -4,19 +4,19 @@
 use mathlib.Core.Path.{_≡_, refl, sym, ap, _∙_}
 use mathlib.Core.Bool.{Bool, true, false, _||_}
 use mathlib.Core.List.{List, [], _∷_}
-use Prim.Native.Nat.{ℕ, zero, suc, _+_, _*_, _/_, _%_, _^_, _≤_, _<_}
+use Prim.Native.Nat.{ℕ, _+_, _*_, _/_, _%_, _^_, _≤_, _<_}
 use native.Mathlib.Nat.{mod-lt}
 use native.Mathlib.Omega.{arith}
 use borrow.Author.Tests.{ltb-false}
 use lib.ListN.{getD}
 use lib.Dec.{eqb, ltb}
 use Rattle.octets.specs.Fields.{fields, packed, bitsOf, Held}
-use Rattle.octets.proofs.Fields.{fields-packed, packed-fields, packed-lt, fields-held}
+use Rattle.octets.proofs.Fields.{fields-packed, packed-fields, packed-lt}
 use Rattle.header.specs.declared.control.NwkFrameControl.{NwkFrameControl}
 use Rattle.header.specs.declared.auxiliary.NwkSecurityHeaderControlField.{NwkSecurityHeaderControlField}
 use Rattle.header.specs.Optional.{bit}
-use Rattle.header.specs.Control.{controlSizes, controlValues, controlRecord, controlWord, controlOf, typeCode, discoveryCode}
-use Rattle.header.specs.AuxiliaryControl.{securitySizes, securityValues, securityRecord, securityByte, securityOf, levelCode}
+use Rattle.header.specs.Control.{controlSizes, controlValues, controlRecord, controlWord, controlOf}
+use Rattle.header.specs.AuxiliaryControl.{securitySizes, securityValues, securityRecord, securityByte, securityOf}
 use Rattle.header.specs.Writing.{badControl}
 use Rattle.header.proofs.Codes.{bit-back, bit-lt, bit-of, type-back, type-lt, type-of, type-declared, discovery-back, discovery-lt, discovery-of, discovery-declared, level-back, level-lt, level-of, keyId-back, keyId-lt, keyId-of}
 

@@ -4,18 +4,16 @@ use mathlib.Core.Path.{_≡_, refl, sym, ap, _∙_}
 use mathlib.Core.Bool.{Bool, true, false, cond}
 use mathlib.Core.List.{List, [], _∷_, _++_, append-assoc}
 use mathlib.Core.Logic.{⊎-elim}
-use Prim.Native.Nat.{ℕ, zero, suc, _+_, _*_, _%_, _^_, _≤_, _<_}
-use native.Mathlib.Nat.{mod-eq-of-lt, add-zero, add-assoc, mul-suc}
+use Prim.Native.Nat.{ℕ, zero, suc, _+_, _*_, _^_, _≤_, _<_}
+use native.Mathlib.Nat.{mod-eq-of-lt, add-assoc}
 use native.Mathlib.Numerals.{add-one}
 use native.Mathlib.Omega.{arith}
 use lib.ListN.{length, getD, take, drop, length-append}
-use lib.Seq.{drop-drop, take-add, getD-append-add, getD-drop, drop-cons}
-use lib.Dec.{ltb}
-use borrow.Author.Tests.{lt-ltb}
+use lib.Seq.{drop-drop, take-add, drop-cons}
 use Rattle.octets.specs.Strings.{over, Below}
 use Rattle.octets.specs.Numbers.{le, leAt}
 use Rattle.octets.proofs.Strings.{over-over, below-or-last}
-use Rattle.octets.proofs.Numbers.{length-le, leAt-le, le-leAt, leAt-behind, leAt-front, leAt-drop, leAt-lt}
+use Rattle.octets.proofs.Numbers.{length-le, leAt-le, le-leAt, leAt-behind}
 use Rattle.header.specs.declared.optional.OptionEui64.{OptionEui64}
 use Rattle.header.specs.declared.optional.OptionMulticast.{OptionMulticast}
 use Rattle.header.specs.declared.optional.NwkSourceRoute.{NwkSourceRoute}

@@ -2,31 +2,29 @@
 -- behind it, is read back, the places past the relay count cleared. Each field is found behind the bytes before it.
 -- Assumes nothing.
 use mathlib.Core.Path.{_≡_, refl, sym, ap, _∙_}
-use mathlib.Core.Bool.{Bool, true, false, cond, _||_}
+use mathlib.Core.Bool.{Bool, true, false, cond}
 use mathlib.Core.List.{List, [], _∷_, _++_, append-assoc}
-use Prim.Native.Nat.{ℕ, zero, suc, _+_, _*_, _%_, _/_, _^_, _≤_, _<_}
+use Prim.Native.Nat.{ℕ, _+_, _*_, _%_, _/_, _≤_, _<_}
 use native.Mathlib.Nat.{add-zero, add-assoc}
 use native.Mathlib.Omega.{arith}
 use lib.ListN.{length, getD, length-append}
-use lib.Seq.{getD-append-add, getD-at}
+use lib.Seq.{getD-append-add}
 use lib.Dec.{ltb, eqb}
 use borrow.Author.Tests.{le-ltb, lt-ltb, ltb-false, ltb-true}
-use Rattle.octets.specs.Strings.{tab, Below}
 use Rattle.octets.specs.Numbers.{le, leAt}
-use Rattle.octets.specs.Refusals.{on, firstOf, orElse}
+use Rattle.octets.specs.Refusals.{firstOf, orElse}
 use Rattle.octets.proofs.Strings.{tab-ext, getD-tab}
 use Rattle.octets.proofs.Numbers.{length-le, leAt-le, leAt-behind}
 use Rattle.header.specs.declared.control.NwkFrameControl.{NwkFrameControl}
 use Rattle.header.specs.declared.optional.NwkSourceRoute.{NwkSourceRoute}
 use Rattle.header.specs.declared.nwk.NwkHeader.{NwkHeader}
-use Rattle.header.specs.declared.nwk.HeaderRead.{HeaderRead}
-use Rattle.header.specs.Optional.{bit, ieeeIf, ieeeBytes, hasIeee, multicastIf, multicastBytes, hasMulticast, routeIf, routeBytes, hasRoute, relayCount, relayBytes}
+use Rattle.header.specs.Optional.{bit, ieeeIf, ieeeBytes, hasIeee, multicastIf, multicastBytes, hasMulticast, routeIf, routeBytes, relayCount}
 use Rattle.header.specs.Control.{controlWord, controlOf}
 use Rattle.header.specs.Reading.{control, sourceAt, multicastAt, routeAt, relaysAt, headerEnd, headerRefusal, optionalRefusals, relaysOf, headerBy, headerAnswer, readHeader}
 use Rattle.header.specs.Writing.{fixedBytes, optionalBytes, headerBytes, badControl, badHeader}
-use Rattle.header.specs.Same.{Agrees, SameHeader, cleared, HeaderFits, RouteFits}
+use Rattle.header.specs.Same.{Agrees, SameHeader, cleared, HeaderFits}
 use Rattle.header.proofs.ControlFields.{or-false, control-back, controlWord-lt, word-type, word-discovery}
-use Rattle.header.proofs.Pieces.{le-byte, ieee-length, ieee-back, multicast-length, multicast-back, relay-length, route-same, route-length, route-back, route-relays, route-count}
+use Rattle.header.proofs.Pieces.{le-byte, ieee-length, ieee-back, multicast-length, multicast-back, route-same, route-length, route-back, route-relays, route-count}
 
 -- ---- a field behind the bytes before it
 

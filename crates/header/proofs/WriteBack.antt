@@ -2,26 +2,24 @@
 -- meets every condition of writing. Each field's bytes are those at its place, and the places are joined from the front.
 -- Assumes nothing.
 use mathlib.Core.Path.{_≡_, refl, sym, ap, _∙_}
-use mathlib.Core.Bool.{Bool, true, false, cond, _||_}
-use mathlib.Core.List.{List, [], _∷_, _++_}
-use Prim.Native.Nat.{ℕ, zero, suc, _+_, _*_, _%_, _/_, _^_, _≤_, _<_}
+use mathlib.Core.Bool.{Bool, true, false, cond}
+use mathlib.Core.List.{List, _++_}
+use Prim.Native.Nat.{ℕ, _+_, _*_, _%_, _/_, _≤_, _<_}
 use native.Mathlib.Omega.{arith}
-use lib.ListN.{length, getD, take, drop}
+use lib.ListN.{length, getD, take}
 use lib.Seq.{take-add}
 use lib.Dec.{ltb, eqb}
 use borrow.Author.Tests.{le-ltb, lt-ltb, ltb-false}
-use Rattle.octets.specs.Strings.{tab, Below}
+use Rattle.octets.specs.Strings.{Below}
 use Rattle.octets.specs.Numbers.{le, leAt}
-use Rattle.octets.specs.Refusals.{on, firstOf}
 use Rattle.octets.proofs.Strings.{getD-tab}
 use Rattle.octets.proofs.Numbers.{le-leAt, leAt-lt}
 use Rattle.octets.proofs.Refusals.{none-split, not-on}
 use Rattle.header.specs.declared.control.NwkFrameControl.{NwkFrameControl}
-use Rattle.header.specs.declared.nwk.NwkHeader.{NwkHeader}
-use Rattle.header.specs.Optional.{bit, ieeeIf, ieeeBytes, multicastIf, multicastBytes, routeIf, routeBytes, relayCount}
-use Rattle.header.specs.Control.{controlWord, controlOf}
+use Rattle.header.specs.Optional.{bit, ieeeIf, ieeeBytes, multicastIf, multicastBytes, routeIf, routeBytes}
+use Rattle.header.specs.Control.{controlWord}
 use Rattle.header.specs.Reading.{control, sourceAt, multicastAt, routeAt, relaysAt, headerEnd, headerRefusal, optionalRefusals, relaysOf, headerBy}
-use Rattle.header.specs.Writing.{fixedBytes, optionalBytes, headerBytes, badControl, badHeader}
+use Rattle.header.specs.Writing.{fixedBytes, optionalBytes, headerBytes, badHeader}
 use Rattle.header.specs.Same.{Agrees}
 use Rattle.header.proofs.ControlFields.{word-back, control-good}
 use Rattle.header.proofs.Pieces.{byte-read, take-join, ieee-read, ieee-has, multicast-read, multicast-has, route-read, route-has, route-count}

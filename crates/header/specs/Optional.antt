@@ -1,8 +1,8 @@
 -- Fields that may be missing: whether one is there, what reading makes of its presence bit, and the bytes that it has.
 -- Assumes nothing.
-use Prim.Native.Nat.{ℕ, zero, suc, _+_, _*_}
+use Prim.Native.Nat.{ℕ, zero, suc}
 use mathlib.Core.Bool.{Bool, true, false}
-use mathlib.Core.List.{List, [], _∷_, _++_}
+use mathlib.Core.List.{List, [], _++_}
 use lib.ListN.{getD}
 use Rattle.octets.specs.Numbers.{le}
 use Rattle.header.specs.declared.optional.OptionEui64.{OptionEui64}

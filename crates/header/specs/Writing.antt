@@ -1,8 +1,8 @@
 -- Writing a NWK header (Zigbee Specification 3.3.1): its bytes, by the fields present and not by the bits, and the
 -- refusals 13, 17 and 18.
 -- Assumes nothing.
-use Prim.Native.Nat.{ℕ, zero, suc, _+_}
-use mathlib.Core.Bool.{Bool, cond, _||_}
+use Prim.Native.Nat.{ℕ, zero, suc}
+use mathlib.Core.Bool.{Bool, _||_}
 use mathlib.Core.List.{List, [], _∷_, _++_}
 use lib.ListN.{length}
 use lib.Dec.{ltb}

@@ -8,7 +8,7 @@ ghost use Prim.Native.Nat.{_+_, _≤_, _<_};
 ghost use lib.ListN.{length};
 ghost use Rattle.octets.specs.Strings.{over};
 ghost use Rattle.header.specs.AuxiliaryControl.{levelCode, levelOf, keyIdCode, keyIdOf, securityByte, securityOf, withLevel};
-ghost use Rattle.header.specs.Auxiliary.{keySequenceAt, auxRefusal, auxBy, blankAux, readAux, auxBytes, auxWriteRefusal, writeAux};
+ghost use Rattle.header.specs.Auxiliary.{keySequenceAt, auxRefusal, auxBy, blankAux, readAux, auxBytes, writeAux};
 
 // Which key secured the frame.
 pub enum NwkSecurityHeaderKeyId {

@@ -14,10 +14,9 @@ ghost use lib.ListN.{length};
 ghost use Rattle.octets.specs.Strings.{over};
 ghost use Rattle.octets.specs.Numbers.{le, leAt};
 ghost use Rattle.octets.specs.Refusals.{firstOf};
-ghost use Rattle.header.specs.Control.{controlWord};
 ghost use Rattle.header.specs.Optional.{ieeeBytes, multicastBytes, routeBytes, relayCount};
-ghost use Rattle.header.specs.Reading.{optionalRefusals, headerAnswer, sourceAt, multicastAt, routeAt, relaysAt, headerEnd, headerRefusal, relaysOf, headerBy, blankHeader, readHeader};
-ghost use Rattle.header.specs.Writing.{headerBytes, fixedBytes, optionalBytes, badControl, badHeader, headerWriteRefusal, writeHeader};
+ghost use Rattle.header.specs.Reading.{optionalRefusals, sourceAt, multicastAt, routeAt, relaysAt, headerEnd, headerRefusal, relaysOf, headerBy, blankHeader, readHeader};
+ghost use Rattle.header.specs.Writing.{headerBytes, badHeader, headerWriteRefusal, writeHeader};
 
 // The largest MAC payload, and so the largest NWK frame.
 pub const MAX_MAC_PAYLOAD_SIZE: usize = 118;

@@ -3,7 +3,7 @@
 ghost use mathlib.Core.Path.{_≡_};
 ghost use Prim.Native.Nat.{_+_, _≤_};
 ghost use lib.ListN.{length};
-ghost use Rattle.octets.specs.Strings.{over, Below};
+ghost use Rattle.octets.specs.Strings.{over};
 ghost use Rattle.header.specs.Optional.{ieeeIf, ieeeBytes, multicastIf, multicastBytes, routeIf, routeBytes, relayCount, relayBytes};
 
 // An optional long address.

@@ -1,7 +1,7 @@
 -- The refusals of the C functions over frames in their order, at each return of the code, and what opening gives past them.
 -- Assumes nothing.
-use mathlib.Core.Path.{_≡_, refl, sym, ap, _∙_}
-use mathlib.Core.Bool.{Bool, true, false, not}
+use mathlib.Core.Path.{_≡_, refl, sym, _∙_}
+use mathlib.Core.Bool.{Bool, true, false}
 use mathlib.Core.List.{List, [], _∷_}
 use Prim.Native.Nat.{ℕ, zero, suc, _≤_, _<_}
 use native.Mathlib.Omega.{arith}
@@ -15,13 +15,12 @@ use Rattle.ccm.specs.Operations.{micLength}
 use Rattle.ccm.specs.Verification.{Verified}
 use Rattle.frame.specs.declared.FrameRead.{FrameRead}
 use Rattle.frame.specs.declared.FrameOpened.{FrameOpened}
-use Rattle.frame.specs.declared.OptionAuxHeader.{OptionAuxHeader}
 use Rattle.frame.specs.Reading.{readFrame}
 use Rattle.frame.specs.Security.{networkLevel}
-use Rattle.frame.specs.Opening.{behind, verified, openRefusals, openRefusal, Run, opened, openBy, openFrame}
+use Rattle.frame.specs.Opening.{openRefusal, opened, openBy, openFrame}
 use Rattle.frame.proofs.Accepted.{opened-refusal}
-use Rattle.nwk.specs.Frames.{readFrameRefusal, sealRecordsRefusal, openNumber, verifiedFrame, openRecordsRefusal}
-use Rattle.nwk.proofs.Refusals.{first, pass, single}
+use Rattle.nwk.specs.Frames.{readFrameRefusal, openNumber, verifiedFrame, openRecordsRefusal}
+use Rattle.nwk.proofs.Refusals.{first, pass}
 
 -- ---- reading
 

@@ -3,7 +3,6 @@
 use Prim.Native.Nat.{ℕ}
 use mathlib.Core.Bool.{Bool, true, false}
 use mathlib.Core.List.{List, [], _∷_}
-use lib.ListN.{length}
 use lib.Dec.{ltb}
 use Rattle.octets.specs.Refusals.{on, firstOf}
 use Rattle.commands.specs.declared.NwkCommand.{NwkCommand}

@@ -2,12 +2,11 @@
 -- record lent with too little room, before 19.
 -- Assumes nothing.
 use Prim.Native.Nat.{ℕ}
-use mathlib.Core.Bool.{Bool, not}
+use mathlib.Core.Bool.{not}
 use mathlib.Core.List.{List, [], _∷_}
 use lib.ListN.{length}
 use lib.Dec.{ltb}
 use Rattle.octets.specs.Refusals.{on, firstOf}
-use Rattle.header.specs.declared.nwk.NwkHeader.{NwkHeader}
 use Rattle.ccm.specs.Operations.{micLength}
 use Rattle.ccm.specs.Verification.{Verified}
 use Rattle.frame.specs.declared.OptionAuxHeader.{OptionAuxHeader}

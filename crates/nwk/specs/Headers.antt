@@ -1,9 +1,8 @@
 -- Reading and writing a header and an auxiliary header by their records: the refusals in document 01's order.
 -- Assumes nothing.
 use Prim.Native.Nat.{ℕ}
-use mathlib.Core.Bool.{Bool, not, _||_}
+use mathlib.Core.Bool.{not}
 use mathlib.Core.List.{List, [], _∷_}
-use lib.ListN.{length}
 use lib.Dec.{ltb}
 use Rattle.octets.specs.Refusals.{on, firstOf}
 use Rattle.header.specs.Reading.{headerRefusal}

@@ -1,14 +1,13 @@
 -- Bit fields of a word: putting together undoes taking apart, and the other way round, for every list of field sizes.
 -- Both go by induction on the list, a step being division with remainder by a power of two.
 -- Assumes nothing.
-use mathlib.Core.Path.{_≡_, refl, sym, ap, _∙_}
+use mathlib.Core.Path.{_≡_, refl, ap, _∙_}
 use mathlib.Core.List.{List, [], _∷_}
-use Prim.Native.Nat.{ℕ, zero, suc, _+_, _*_, _/_, _%_, _^_, _≤_, _<_}
-use native.Mathlib.Nat.{mod-lt, mod-add-div', add-comm, pow-suc}
+use Prim.Native.Nat.{ℕ, _+_, _*_, _/_, _%_, _^_, _<_}
+use native.Mathlib.Nat.{mod-lt, mod-add-div', add-comm}
 use native.Mathlib.Omega.{arith}
 use lib.Pow.{high, low, shr-lt, pow-pos, pow-add}
 use lib.Arith.{digits-lt}
-use lib.ListN.{length, getD}
 use Rattle.octets.specs.Fields.{fields, packed, bitsOf, Held}
 
 pub fields-held : (ks : List ℕ) (w : ℕ) → Held ks (fields ks w)

@@ -1,14 +1,14 @@
 -- Numbers of n bytes, least significant byte first: writing and reading undo each other, and a number is made of its
 -- lower and its upper bytes. All by induction on n.
 -- Assumes nothing.
-use mathlib.Core.Path.{_≡_, refl, sym, ap, _∙_}
-use mathlib.Core.List.{List, [], _∷_, _++_, append-assoc}
-use Prim.Native.Nat.{ℕ, zero, suc, _+_, _-_, _*_, _/_, _%_, _^_, _≤_, _<_}
+use mathlib.Core.Path.{_≡_, refl, ap, _∙_}
+use mathlib.Core.List.{List, [], _∷_, _++_}
+use Prim.Native.Nat.{ℕ, zero, suc, _+_, _*_, _/_, _%_, _^_, _≤_, _<_}
 use native.Mathlib.Nat.{mod-lt, mod-add-div', pow-suc, pow-zero, suc-add, zero-add, add-zero, add-assoc, add-mul, mul-assoc, mul-comm, div-div-eq-div-mul, div-lt-iff-lt-mul, div-one, mul-one}
 use native.Mathlib.Numerals.{add-one, one-add}
 use native.Mathlib.Omega.{arith}
 use lib.ListN.{length, getD, take, drop, List·getD-append, List·getD-eq-default}
-use lib.Seq.{getD-append-add, getD-append-seam, getD-drop, drop-cons}
+use lib.Seq.{getD-append-add, getD-drop, drop-cons}
 use lib.Arith.{digits-lt, mod-mul}
 use Rattle.octets.specs.Strings.{Below}
 use Rattle.octets.specs.Numbers.{le, leAt}

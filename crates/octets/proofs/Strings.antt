@@ -4,14 +4,14 @@
 use mathlib.Core.Path.{_≡_, refl, sym, ap, _∙_}
 use mathlib.Core.List.{List, [], _∷_, _++_, append-assoc, append-nil}
 use mathlib.Core.Logic.{⊎-elim, _⊎_, inl, inr}
-use Prim.Native.Nat.{ℕ, zero, suc, _+_, _-_, _≤_, _<_}
+use Prim.Native.Nat.{ℕ, zero, suc, _+_, _≤_, _<_}
 use native.Mathlib.Nat.{add-assoc}
 use native.Mathlib.Numerals.{add-one}
 use native.Mathlib.Decide.{decLt}
 use native.Mathlib.Omega.{arith}
 use lib.ListN.{length, getD, take, drop, set, length-append, length-drop, take-append-drop, List·getD-append, drop-of-length-le}
-use lib.Seq.{length-take-le, take-suc, take-at, drop-at, set-at, getD-at, drop-cons, append-snoc, set-split, take-append-add, drop-append-add, drop-drop, take-add, getD-drop, getD-take}
-use Rattle.octets.specs.Strings.{tab, over, Below}
+use lib.Seq.{length-take-le, take-suc, take-at, set-at, getD-at, drop-cons, set-split, drop-append-add, drop-drop, take-add}
+use Rattle.octets.specs.Strings.{tab, over}
 
 -- ---- a list given by its entries
 

@@ -1,7 +1,7 @@
 -- Exclusive or undone: xor with the same number twice is the identity, for numbers by their binary digits and so for
 -- byte strings by index.
 -- Assumes nothing.
-use mathlib.Core.Path.{_≡_, refl, sym, ap, _∙_}
+use mathlib.Core.Path.{_≡_, refl, ap, _∙_}
 use mathlib.Core.List.{List}
 use Prim.Native.Nat.{ℕ, zero, suc, _+_, _*_, _/_, _%_, _≤_, _<_}
 use native.Mathlib.Nat.{mod-lt, div-add-mod'}
@@ -9,7 +9,7 @@ use native.Mathlib.Omega.{arith}
 use lib.Arith.{bin-ind}
 use lib.Bits.{bitXor, differ, xor-step, xor-zero-l, xor-self}
 use lib.ListN.{length, getD, take}
-use Rattle.octets.specs.Strings.{tab, xored}
+use Rattle.octets.specs.Strings.{xored}
 use Rattle.octets.proofs.Strings.{length-tab, getD-tab, tab-ext, tab-getD}
 
 differ-twice : (x y : ℕ) → x < 2 → y < 2 → differ (differ x y) y ≡ x

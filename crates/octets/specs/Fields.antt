@@ -1,6 +1,6 @@
 -- Bit fields of a word, lowest first: a word is read and put together by the list of its fields' sizes in bits.
 -- Assumes nothing.
-use Prim.Native.Nat.{ℕ, zero, suc, _+_, _*_, _/_, _%_, _^_, _<_}
+use Prim.Native.Nat.{ℕ, _+_, _*_, _/_, _%_, _^_, _<_}
 use mathlib.Core.List.{List, [], _∷_}
 
 -- the fields of the word w

@@ -1,7 +1,7 @@
 -- The auxiliary record, 19 bytes: 0 presence of the auxiliary header itself, 1 level, 2 key identifier, 3 extended nonce
 -- bit, 4 verified counter bit, 5 frame counter, 9 IEEE, 18 key sequence number. Of an absent one all bytes are 0.
 -- Assumes nothing.
-use Prim.Native.Nat.{ℕ, _+_}
+use Prim.Native.Nat.{ℕ}
 use mathlib.Core.Bool.{Bool, not, _||_}
 use mathlib.Core.List.{List, [], _∷_, _++_}
 use lib.ListN.{length, getD}

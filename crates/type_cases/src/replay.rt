@@ -1,6 +1,6 @@
 // One call of the port, by its letter in the list of cases.
 
-ghost use Prim.Native.Nat.{_+_, _≤_};
+ghost use Prim.Native.Nat.{_≤_};
 ghost use lib.ListN.{length};
 use types::Eui64;
 use types::Key;

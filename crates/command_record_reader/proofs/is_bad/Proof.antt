@@ -1,6 +1,6 @@
 -- `is_bad` meets its contract: each test in its order. Assumes nothing.
 use borrow.Author.Needs.{needs}
-use mathlib.Core.Path.{_≡_, refl, sym, ap, _∙_}
+use mathlib.Core.Path.{sym, _∙_}
 use lib.ListN.{getD}
 use mathlib.Core.List.{[]}
 use Rattle.command_record_reader.proofs.is_bad.Statement.{statement}

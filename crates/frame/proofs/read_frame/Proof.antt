@@ -1,7 +1,6 @@
 -- `read_frame` meets its contract: the number alone, or the two headers. Assumes nothing.
 use borrow.Author.Needs.{needs}
-use mathlib.Core.Path.{_≡_, refl, sym, ap, _∙_}
-use Prim.Native.Nat.{ℕ}
+use mathlib.Core.Path.{sym, ap, _∙_}
 use native.Mathlib.Omega.{arith}
 use lib.ListN.{length}
 use Rattle.frame.proofs.read_frame.Statement.{statement}
@@ -9,7 +8,7 @@ use Rattle.frame.proofs.read_frame.Tie as tie
 use Rattle.header.proofs.ReadFacts.{header-short, aux-short}
 use Rattle.header.specs.declared.nwk.HeaderRead.{HeaderRead}
 use Rattle.header.specs.declared.auxiliary.AuxRead.{AuxRead}
-use Rattle.frame.specs.Reading.{frameAnswer, readFrame}
+use Rattle.frame.specs.Reading.{frameAnswer}
 use Rattle.frame.proofs.Returns.{frame-refused, frame-done}
 
 deserialize-requires : tie.Need-deserialize-requires

@@ -1,14 +1,14 @@
 -- `octets::copy_at` meets its contract. The loop's invariant: the first j bytes of the source stand at their place.
 -- The measure is what is left of the source. Assumes nothing.
 use mathlib.Core.Path.{_≡_, refl, sym, ap, _∙_}
-use Prim.Native.Nat.{_+_, _-_, _≤_}
+use Prim.Native.Nat.{_-_, _≤_}
 use native.Mathlib.Omega.{arith}
 use lib.ListN.{length, take, length-set}
-use lib.Seq.{take-all, length-take-le}
+use lib.Seq.{take-all}
 use Rattle.octets.proofs.copy_at.Statement.{statement}
 use Rattle.octets.proofs.copy_at.Tie as tie
 use Rattle.octets.specs.Strings.{over}
-use Rattle.octets.proofs.Strings.{over-nil, length-over, copy-more}
+use Rattle.octets.proofs.Strings.{over-nil, copy-more}
 
 abbrev Inv-loop : tie.InvT-loop
 Inv-loop out₀ i src j₀ out j = (j ≤ length src) × (length out ≡ length out₀) × (out ≡ over out₀ i (take j src))

@@ -1,9 +1,9 @@
 -- `address_at` meets its contract: the address if its presence byte is 1. Assumes nothing.
 use borrow.Author.Needs.{needs}
-use mathlib.Core.Path.{_≡_, refl, sym, ap, _∙_}
+use mathlib.Core.Path.{sym, ap, _∙_}
 use mathlib.Core.Bool.{Bool, cond}
 use lib.ListN.{getD}
-use Prim.Native.Nat.{ℕ, _+_}
+use Prim.Native.Nat.{_+_}
 use borrow.Author.Tests.{eq-eqb, ne-eqb}
 use Rattle.command_record_reader.proofs.fields.address_at.Statement.{statement}
 use Rattle.command_record_reader.proofs.fields.address_at.Tie as tie

@@ -1,6 +1,6 @@
 -- `body_at` meets its contract: each command by its own function. Assumes nothing.
 use borrow.Author.Needs.{needs}
-use mathlib.Core.Path.{_≡_, refl, sym, ap, _∙_}
+use mathlib.Core.Path.{sym, ap, _∙_}
 use Rattle.command_record_reader.proofs.fields.body_at.Statement.{statement}
 use Rattle.command_record_reader.proofs.fields.body_at.Tie as tie
 use Rattle.commands.specs.declared.NwkCommandId.{NwkCommandId}

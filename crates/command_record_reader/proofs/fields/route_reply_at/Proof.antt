@@ -1,6 +1,6 @@
 -- `route_reply_at` meets its contract: the fields stand at their places in the record. Assumes nothing.
 use borrow.Author.Needs.{needs}
-use mathlib.Core.Path.{_≡_, refl, sym, ap, _∙_}
+use mathlib.Core.Path.{_≡_, refl, _∙_}
 use Prim.Native.Nat.{ℕ}
 use lib.Dec.{eqb}
 use mathlib.Core.Bool.{Bool, true, false, cond}
@@ -8,7 +8,6 @@ use mathlib.Core.List.{[], _∷_}
 use lib.ListN.{getD}
 use Rattle.command_record_reader.proofs.fields.route_reply_at.Statement.{statement}
 use Rattle.command_record_reader.proofs.fields.route_reply_at.Tie as tie
-use Rattle.commands.specs.declared.NwkCommandId.{NwkCommandId}
 use Rattle.commands.specs.declared.NwkCommand.{NwkCommand}
 use Rattle.commands.specs.declared.TypedBody.{TypedBody}
 use Rattle.commands.specs.Reading.{commandOf}

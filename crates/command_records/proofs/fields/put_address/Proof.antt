@@ -1,6 +1,6 @@
 -- `put_address` meets its contract: the presence byte, and the address behind it. Assumes nothing.
 use borrow.Author.Needs.{needs}
-use mathlib.Core.Path.{_≡_, refl, sym, ap, _∙_}
+use mathlib.Core.Path.{sym, ap, _∙_}
 use native.Mathlib.Omega.{arith}
 use Prim.Native.Nat.{ℕ, _+_}
 use Rattle.command_records.proofs.fields.put_address.Statement.{statement}

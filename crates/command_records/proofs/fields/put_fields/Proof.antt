@@ -1,6 +1,6 @@
 -- `put_fields` meets its contract: the fields over a front of zeros. Assumes nothing.
 use borrow.Author.Needs.{needs}
-use mathlib.Core.Path.{_≡_, refl, sym, ap, _∙_}
+use mathlib.Core.Path.{ap, _∙_}
 use Rattle.command_records.proofs.fields.put_fields.Statement.{statement}
 use Rattle.command_records.proofs.fields.put_fields.Tie as tie
 use Rattle.octets.specs.Strings.{over}

@@ -1,6 +1,6 @@
 -- `put_own_fields` meets its contract: each command by its own function. Assumes nothing.
 use borrow.Author.Needs.{needs}
-use mathlib.Core.Path.{_≡_, refl, sym, ap, _∙_}
+use mathlib.Core.Path.{sym, ap, _∙_}
 use Rattle.command_records.proofs.fields.put_own_fields.Statement.{statement}
 use Rattle.command_records.proofs.fields.put_own_fields.Tie as tie
 use Rattle.octets.specs.Strings.{over}

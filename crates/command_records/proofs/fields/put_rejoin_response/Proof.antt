@@ -1,7 +1,7 @@
 -- `put_rejoin_response` meets its contract: the response with its code. Assumes nothing.
 use borrow.Author.Needs.{needs}
-use mathlib.Core.Path.{_≡_, refl, sym, ap, _∙_}
-use mathlib.Core.List.{[], _∷_, _++_}
+use mathlib.Core.Path.{ap, _∙_}
+use mathlib.Core.List.{_++_}
 use Prim.Native.Nat.{ℕ}
 use Rattle.command_records.proofs.fields.put_rejoin_response.Statement.{statement}
 use Rattle.command_records.proofs.fields.put_rejoin_response.Tie as tie

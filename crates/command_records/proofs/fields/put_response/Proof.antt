@@ -1,6 +1,6 @@
 -- `put_response` meets its contract: three parts, each right behind the one before. Assumes nothing.
 use borrow.Author.Needs.{needs}
-use mathlib.Core.Path.{_≡_, refl, sym, ap, _∙_}
+use mathlib.Core.Path.{refl}
 use native.Mathlib.Omega.{arith}
 use Rattle.command_records.proofs.fields.put_response.Statement.{statement}
 use Rattle.command_records.proofs.fields.put_response.Tie as tie

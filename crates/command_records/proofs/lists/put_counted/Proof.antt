@@ -1,6 +1,6 @@
 -- `put_counted` meets its contract: the count, and the entries behind it. Assumes nothing.
 use borrow.Author.Needs.{needs}
-use mathlib.Core.Path.{_≡_, refl, sym, ap, _∙_}
+use mathlib.Core.Path.{sym, ap}
 use native.Mathlib.Omega.{arith}
 use Prim.Native.Nat.{ℕ, _+_}
 use Rattle.command_records.proofs.lists.put_counted.Statement.{statement}

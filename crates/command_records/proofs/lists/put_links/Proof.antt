@@ -1,8 +1,8 @@
 -- `put_links` meets its contract. The loop's invariant: the first k entries stand at their places. The measure is what is left.
 -- Assumes nothing.
-use mathlib.Core.Path.{_≡_, refl, sym, ap, _∙_}
+use mathlib.Core.Path.{_≡_, refl, ap, _∙_}
 use native.Mathlib.Omega.{arith}
-use Prim.Native.Nat.{_+_, _-_, _*_, _≤_}
+use Prim.Native.Nat.{_-_, _≤_}
 use lib.ListN.{length}
 use Rattle.command_records.proofs.lists.put_links.Statement.{statement}
 use Rattle.command_records.proofs.lists.put_links.Tie as tie

@@ -1,6 +1,6 @@
 -- `put_power` meets its contract: two parts, one right behind the other. Assumes nothing.
 use borrow.Author.Needs.{needs}
-use mathlib.Core.Path.{_≡_, refl, sym, ap, _∙_}
+use mathlib.Core.Path.{sym, ap}
 use native.Mathlib.Omega.{arith}
 use Prim.Native.Nat.{ℕ, _+_}
 use Rattle.command_records.proofs.lists.put_power.Statement.{statement}

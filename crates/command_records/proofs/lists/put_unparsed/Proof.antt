@@ -1,6 +1,6 @@
 -- `put_unparsed` meets its contract: two parts, one right behind the other. Assumes nothing.
 use borrow.Author.Needs.{needs}
-use mathlib.Core.Path.{_≡_, refl, sym, ap, _∙_}
+use mathlib.Core.Path.{refl}
 use native.Mathlib.Omega.{arith}
 use Rattle.command_records.proofs.lists.put_unparsed.Statement.{statement}
 use Rattle.command_records.proofs.lists.put_unparsed.Tie as tie

@@ -1,6 +1,5 @@
 -- `FrameOpened::refused` meets its contract: the blank headers stand beside the number. Assumes nothing.
 use borrow.Author.Needs.{needs}
-use mathlib.Core.Path.{_≡_}
 use Rattle.frame.proofs.FrameOpened.refused.Statement.{statement}
 use Rattle.frame.proofs.FrameOpened.refused.Tie as tie
 use Rattle.frame.specs.declared.OptionAuxHeader.{OptionAuxHeader}

@@ -1,9 +1,9 @@
 -- `open` meets its contract: refused with nothing changed, 19 among the refusals, or opened. Assumes nothing.
 use borrow.Author.Needs.{needs}
-use mathlib.Core.Path.{_≡_, sym, ap, _∙_}
-use Prim.Native.Nat.{ℕ, _+_, _≤_}
+use mathlib.Core.Path.{sym, ap, _∙_}
+use Prim.Native.Nat.{_+_}
 use native.Mathlib.Omega.{arith}
-use lib.ListN.{length, drop}
+use lib.ListN.{length}
 use Rattle.frame.proofs.opening.open.Statement.{statement}
 use Rattle.frame.proofs.opening.open.Tie as tie
 use Rattle.header.specs.declared.auxiliary.NwkAuxHeader.{NwkAuxHeader}
@@ -12,7 +12,6 @@ use Rattle.header.specs.Auxiliary.{auxBytes}
 use Rattle.ccm.specs.Verification.{Verified}
 use Rattle.ccm.specs.Operations.{givenIf}
 use Rattle.frame.specs.Opening as opening
-use Rattle.frame.specs.Opening.{openRefused}
 use Rattle.frame.proofs.Returns.{open-stopped, open-invalid, open-valid, ready, ready-facts, number-is, verified-is, payload-size, given-valid, given-invalid}
 
 read-frame-requires : tie.Need-read-frame-requires

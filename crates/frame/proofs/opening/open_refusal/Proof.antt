@@ -1,6 +1,6 @@
 -- `open_refusal` meets its contract: each return is the first number of the list. Assumes nothing.
 use borrow.Author.Needs.{needs}
-use mathlib.Core.Path.{_≡_, sym, ap, _∙_}
+use mathlib.Core.Path.{sym, ap, _∙_}
 use Prim.Native.Nat.{_-_}
 use borrow.Author.Tests.{lt-ltb, le-ltb}
 use Rattle.frame.proofs.opening.open_refusal.Statement.{statement}

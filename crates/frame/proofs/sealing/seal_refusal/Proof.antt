@@ -1,6 +1,6 @@
 -- `seal_refusal` meets its contract: each return is the first test of the list that holds. Assumes nothing.
 use borrow.Author.Needs.{needs}
-use mathlib.Core.Path.{_≡_, sym, ap, _∙_}
+use mathlib.Core.Path.{sym, ap, _∙_}
 use Rattle.frame.proofs.sealing.seal_refusal.Statement.{statement}
 use Rattle.frame.proofs.sealing.seal_refusal.Tie as tie
 use Rattle.header.specs.declared.auxiliary.NwkAuxHeader.{NwkAuxHeader}

@@ -1,6 +1,5 @@
 -- `at_level` meets its contract: only the level changes. Assumes nothing.
 use borrow.Author.Needs.{needs}
-use mathlib.Core.Path.{_≡_}
 use Rattle.frame.proofs.security.at_level.Statement.{statement}
 use Rattle.frame.proofs.security.at_level.Tie as tie
 use Rattle.frame.specs.Security.{atLevel}

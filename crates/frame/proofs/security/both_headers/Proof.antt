@@ -1,8 +1,7 @@
 -- `both_headers` meets its contract: the headers stand at the front of the array. Assumes nothing.
 use borrow.Author.Needs.{needs}
-use mathlib.Core.Path.{_≡_, sym, ap, _∙_}
+use mathlib.Core.Path.{sym, _∙_}
 use mathlib.Core.List.{_++_}
-use Prim.Native.Nat.{ℕ}
 use lib.ListN.{take, length-append}
 use Rattle.frame.proofs.security.both_headers.Statement.{statement}
 use Rattle.frame.proofs.security.both_headers.Tie as tie

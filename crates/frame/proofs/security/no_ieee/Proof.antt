@@ -1,6 +1,6 @@
 -- `no_ieee` meets its contract: the auxiliary IEEE, or the header's. Assumes nothing.
 use borrow.Author.Needs.{needs}
-use mathlib.Core.Path.{_≡_, sym, ap, _∙_}
+use mathlib.Core.Path.{sym, ap, _∙_}
 use mathlib.Core.Bool.{Bool, not, _||_}
 use Rattle.frame.proofs.security.no_ieee.Statement.{statement}
 use Rattle.frame.proofs.security.no_ieee.Tie as tie

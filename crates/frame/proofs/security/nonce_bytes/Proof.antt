@@ -1,12 +1,10 @@
 -- `nonce_bytes` meets its contract: three parts, one behind the other, fill the nonce. Assumes nothing.
 use borrow.Author.Needs.{needs}
-use mathlib.Core.Path.{_≡_, refl, sym, ap, _∙_}
-use mathlib.Core.List.{_++_, append-nil}
+use mathlib.Core.Path.{refl, _∙_}
 use native.Mathlib.Omega.{arith}
-use lib.ListN.{length, drop, length-append, drop-of-length-le}
+use lib.ListN.{length-append}
 use Rattle.frame.proofs.security.nonce_bytes.Statement.{statement}
 use Rattle.frame.proofs.security.nonce_bytes.Tie as tie
-use Rattle.octets.specs.Strings.{over}
 use Rattle.octets.specs.Numbers.{le}
 use Rattle.octets.proofs.Strings.{over-three, over-all}
 use Rattle.octets.proofs.Numbers.{length-le}

@@ -1,6 +1,6 @@
 -- `nonce_of` meets its contract: its three parts are the nonce's. Assumes nothing.
 use borrow.Author.Needs.{needs}
-use mathlib.Core.Path.{_≡_, ap, _∙_}
+use mathlib.Core.Path.{ap, _∙_}
 use mathlib.Core.List.{_++_}
 use Rattle.frame.proofs.security.nonce_of.Statement.{statement}
 use Rattle.frame.proofs.security.nonce_of.Tie as tie

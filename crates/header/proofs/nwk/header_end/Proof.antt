@@ -1,10 +1,9 @@
 -- `header_end` meets its contract: behind the source route, if there is one. Assumes nothing.
 use borrow.Author.Needs.{needs}
-use mathlib.Core.Path.{_≡_, sym, ap, _∙_}
+use mathlib.Core.Path.{sym, ap, _∙_}
 use mathlib.Core.Bool.{Bool, cond}
-use Prim.Native.Nat.{ℕ, _+_, _*_}
+use Prim.Native.Nat.{_+_, _*_}
 use native.Mathlib.Omega.{arith}
-use lib.ListN.{getD}
 use Rattle.header.proofs.nwk.header_end.Statement.{statement}
 use Rattle.header.proofs.nwk.header_end.Tie as tie
 use Rattle.header.specs.Reading.{routeAt, relaysAt, headerEnd}

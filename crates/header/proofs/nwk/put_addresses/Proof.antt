@@ -1,6 +1,6 @@
 -- `put_addresses` meets its contract: three parts, one behind the other. Assumes nothing.
 use borrow.Author.Needs.{needs}
-use mathlib.Core.Path.{_≡_, refl}
+use mathlib.Core.Path.{refl}
 use native.Mathlib.Omega.{arith}
 use Rattle.header.proofs.nwk.put_addresses.Statement.{statement}
 use Rattle.header.proofs.nwk.put_addresses.Tie as tie

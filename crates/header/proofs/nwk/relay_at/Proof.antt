@@ -1,6 +1,6 @@
 -- `relay_at` meets its contract: the index is below the count, or not. Assumes nothing.
 use borrow.Author.Needs.{needs}
-use mathlib.Core.Path.{_≡_, sym, ap, _∙_}
+use mathlib.Core.Path.{sym, ap, _∙_}
 use mathlib.Core.Bool.{Bool, cond}
 use Prim.Native.Nat.{_+_, _*_}
 use borrow.Author.Tests.{lt-ltb, le-ltb}

@@ -1,6 +1,6 @@
 -- `relays_of` meets its contract. The loop's invariant: the first i places hold their relays or 0.
 -- The measure is what is left of the 54 places. Assumes nothing.
-use mathlib.Core.Path.{_≡_, refl, sym, ap, _∙_}
+use mathlib.Core.Path.{_≡_, refl, ap, _∙_}
 use mathlib.Core.Bool.{cond}
 use mathlib.Core.List.{_++_}
 use Prim.Native.Nat.{ℕ, _+_, _-_, _*_, _≤_, _<_}
@@ -12,7 +12,7 @@ use Rattle.header.proofs.nwk.relays_of.Tie as tie
 use Rattle.octets.specs.Strings.{tab}
 use Rattle.octets.specs.Numbers.{leAt}
 use Rattle.octets.proofs.Strings.{fill-turn, filled}
-use Rattle.header.specs.Reading.{routeAt, relaysAt, relaysOf}
+use Rattle.header.specs.Reading.{relaysOf}
 
 abbrev Inv-loop : tie.InvT-loop
 Inv-loop f n first relays₀ i₀ relays i =

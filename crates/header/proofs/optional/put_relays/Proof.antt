@@ -1,17 +1,13 @@
 -- `put_relays` meets its contract. The loop's invariant: the first j relays stand at their places.
 -- The measure is what is left of the relays. Assumes nothing.
 use mathlib.Core.Path.{_≡_, refl, sym, ap, _∙_}
-use mathlib.Core.List.{_++_}
-use Prim.Native.Nat.{_+_, _-_, _*_, _≤_}
-use native.Mathlib.Numerals.{add-one}
+use Prim.Native.Nat.{_-_, _≤_}
 use native.Mathlib.Omega.{arith}
-use lib.ListN.{length, getD}
+use lib.ListN.{length}
 use Rattle.header.proofs.optional.put_relays.Statement.{statement}
 use Rattle.header.proofs.optional.put_relays.Tie as tie
 use Rattle.octets.specs.Strings.{over}
-use Rattle.octets.specs.Numbers.{le}
-use Rattle.octets.proofs.Strings.{over-nil, length-over, over-over}
-use Rattle.octets.proofs.Numbers.{length-le}
+use Rattle.octets.proofs.Strings.{over-nil}
 use Rattle.header.specs.Optional.{relayBytes}
 use Rattle.header.proofs.Pieces.{relay-length, relays-more}
 

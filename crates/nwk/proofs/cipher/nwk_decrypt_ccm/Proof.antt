@@ -1,19 +1,15 @@
 -- `nwk_decrypt_ccm` meets its contract: refused with nothing changed, or the payload at the front. Assumes nothing.
 use borrow.Author.Needs.{needs}
-use mathlib.Core.Path.{_≡_, refl, sym, ap, _∙_}
+use mathlib.Core.Path.{_≡_, sym, _∙_}
 use native.Mathlib.Omega.{arith}
-use mathlib.Core.Bool.{true, false}
-use lib.ListN.{length}
 use Rattle.nwk.proofs.cipher.nwk_decrypt_ccm.Statement.{statement}
 use Rattle.nwk.proofs.cipher.nwk_decrypt_ccm.Tie as tie
-use Rattle.octets.specs.Strings.{over}
 use Rattle.types.specs.Keys.{keyBytes}
 use Rattle.aes.specs.Cipher.{aes128}
 use Rattle.ccm.specs.Verification.{decryptionVerification}
 use Rattle.ccm.specs.Operations.{micLength, givenIf}
-use Rattle.nwk.specs.Cipher.{decryptLengths, decryptRefusal}
 use Rattle.nwk.proofs.Calls.{refused-by, passed-by, refused-answer, refused-buffer}
-use Rattle.nwk.proofs.Refusals.{Openable, openable, decrypt-length, decrypt-mic, decrypt-none}
+use Rattle.nwk.proofs.Refusals.{openable, decrypt-length, decrypt-mic, decrypt-none}
 
 decrypt-lengths-requires : tie.Need-decrypt-lengths-requires
 decrypt-lengths-requires c κs = search needs

@@ -1,14 +1,12 @@
 -- `nwk_encrypt_block` meets its contract: refused with nothing changed, or the block at the front. Assumes nothing.
 use borrow.Author.Needs.{needs}
-use mathlib.Core.Path.{_≡_, refl, sym, ap, _∙_}
+use mathlib.Core.Path.{ap, _∙_}
 use native.Mathlib.Omega.{arith}
 use lib.ListN.{length}
 use Rattle.nwk.proofs.cipher.nwk_encrypt_block.Statement.{statement}
 use Rattle.nwk.proofs.cipher.nwk_encrypt_block.Tie as tie
 use Rattle.octets.specs.Strings.{over}
-use Rattle.types.specs.Keys.{keyBytes}
 use Rattle.aes.specs.Cipher.{aes128}
-use Rattle.nwk.specs.Cipher.{blockRefusal}
 use Rattle.nwk.proofs.Calls.{refused-by, passed-by}
 use Rattle.nwk.proofs.Refusals.{block-length, block-room, block-none}
 

@@ -1,19 +1,16 @@
 -- `nwk_encrypt_ccm` meets its contract: refused with nothing changed, or the ciphertext and the MIC at the front of their
 -- outputs. Assumes nothing.
 use borrow.Author.Needs.{needs}
-use mathlib.Core.Path.{_≡_, refl, sym, ap, _∙_}
+use mathlib.Core.Path.{sym, ap, _∙_}
 use native.Mathlib.Omega.{arith}
-use lib.ListN.{length}
 use Rattle.nwk.proofs.cipher.nwk_encrypt_ccm.Statement.{statement}
 use Rattle.nwk.proofs.cipher.nwk_encrypt_ccm.Tie as tie
 use Rattle.octets.specs.Strings.{over}
-use Rattle.types.specs.Keys.{keyBytes}
 use Rattle.aes.specs.Cipher.{aes128}
 use Rattle.ccm.specs.Generation.{generationEncryption}
 use Rattle.ccm.specs.Operations.{micLength}
-use Rattle.nwk.specs.Cipher.{encryptRefusal}
 use Rattle.nwk.proofs.Calls.{refused-answer, refused-buffer, passed-answer, given-passed}
-use Rattle.nwk.proofs.Refusals.{Sealable, sealable}
+use Rattle.nwk.proofs.Refusals.{sealable}
 
 encrypt-refusal-requires : tie.Need-encrypt-refusal-requires
 encrypt-refusal-requires c κs = search needs

@@ -1,6 +1,6 @@
 -- `nwk_read_command` meets its contract: refused with nothing changed, or read into the record. Assumes nothing.
 use borrow.Author.Needs.{needs}
-use mathlib.Core.Path.{_≡_, refl, sym, ap, _∙_}
+use mathlib.Core.Path.{sym, _∙_}
 use native.Mathlib.Omega.{arith}
 use lib.ListN.{length}
 use Rattle.nwk.proofs.command.nwk_read_command.Statement.{statement}

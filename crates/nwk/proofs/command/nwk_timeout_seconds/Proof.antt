@@ -1,6 +1,6 @@
 -- `nwk_timeout_seconds` meets its contract: the answer goes by the code's value. Assumes nothing.
 use borrow.Author.Needs.{needs}
-use mathlib.Core.Path.{_≡_, refl, sym, ap, _∙_}
+use mathlib.Core.Path.{_≡_, sym, ap, _∙_}
 use Rattle.nwk.proofs.command.nwk_timeout_seconds.Statement.{statement}
 use Rattle.nwk.proofs.command.nwk_timeout_seconds.Tie as tie
 use Rattle.commands.specs.declared.EndDeviceTimeoutSeconds.{EndDeviceTimeoutSeconds}

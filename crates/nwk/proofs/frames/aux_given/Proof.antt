@@ -1,6 +1,6 @@
 -- `aux_given` meets its contract: the auxiliary header if the record has one. Assumes nothing.
 use borrow.Author.Needs.{needs}
-use mathlib.Core.Path.{_≡_, refl, sym, ap, _∙_}
+use mathlib.Core.Path.{_∙_}
 use Rattle.nwk.proofs.frames.aux_given.Statement.{statement}
 use Rattle.nwk.proofs.frames.aux_given.Tie as tie
 use Rattle.frame.specs.Reading.{auxIf}

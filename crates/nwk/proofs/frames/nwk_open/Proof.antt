@@ -1,8 +1,6 @@
 -- `nwk_open` meets its contract: refused with nothing changed, or opened into the output and the two records. Assumes nothing.
 use borrow.Author.Needs.{needs}
-use mathlib.Core.Path.{_≡_, refl, sym, ap, _∙_}
-use native.Mathlib.Omega.{arith}
-use Prim.Native.Nat.{ℕ}
+use mathlib.Core.Path.{sym, _∙_}
 use lib.ListN.{length}
 use Rattle.nwk.proofs.frames.nwk_open.Statement.{statement}
 use Rattle.nwk.proofs.frames.nwk_open.Tie as tie

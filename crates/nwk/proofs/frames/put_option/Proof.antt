@@ -1,6 +1,6 @@
 -- `put_option` meets its contract: the record of what is there, or of the blank one. Assumes nothing.
 use borrow.Author.Needs.{needs}
-use mathlib.Core.Path.{_≡_, refl, sym, ap, _∙_}
+use mathlib.Core.Path.{_∙_}
 use Rattle.nwk.proofs.frames.put_option.Statement.{statement}
 use Rattle.nwk.proofs.frames.put_option.Tie as tie
 use Rattle.octets.specs.Strings.{over}

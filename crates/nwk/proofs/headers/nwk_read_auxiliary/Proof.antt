@@ -1,14 +1,13 @@
 -- `nwk_read_auxiliary` meets its contract: refused with nothing changed, or read into the record. Assumes nothing.
 use borrow.Author.Needs.{needs}
-use mathlib.Core.Path.{_≡_, refl, sym, ap, _∙_}
+use mathlib.Core.Path.{sym, _∙_}
 use native.Mathlib.Omega.{arith}
 use mathlib.Core.Bool.{true}
-use Prim.Native.Nat.{ℕ}
 use lib.ListN.{length}
 use Rattle.nwk.proofs.headers.nwk_read_auxiliary.Statement.{statement}
 use Rattle.nwk.proofs.headers.nwk_read_auxiliary.Tie as tie
 use Rattle.octets.specs.Strings.{over}
-use Rattle.header.specs.Auxiliary.{readAux, auxRefusal}
+use Rattle.header.specs.Auxiliary.{auxRefusal}
 use Rattle.records.specs.AuxiliaryRecord.{auxRecord}
 use Rattle.nwk.specs.Headers.{readAuxRefusal}
 use Rattle.nwk.specs.Answer.{answer}

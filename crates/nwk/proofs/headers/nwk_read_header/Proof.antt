@@ -1,13 +1,12 @@
 -- `nwk_read_header` meets its contract: refused with nothing changed, or read into the record. Assumes nothing.
 use borrow.Author.Needs.{needs}
-use mathlib.Core.Path.{_≡_, refl, sym, ap, _∙_}
+use mathlib.Core.Path.{sym, _∙_}
 use native.Mathlib.Omega.{arith}
-use Prim.Native.Nat.{ℕ}
 use lib.ListN.{length}
 use Rattle.nwk.proofs.headers.nwk_read_header.Statement.{statement}
 use Rattle.nwk.proofs.headers.nwk_read_header.Tie as tie
 use Rattle.octets.specs.Strings.{over}
-use Rattle.header.specs.Reading.{readHeader, headerRefusal}
+use Rattle.header.specs.Reading.{headerRefusal}
 use Rattle.records.specs.HeaderRecord.{headerRecord}
 use Rattle.nwk.specs.Headers.{readHeaderRefusal}
 use Rattle.nwk.specs.Answer.{answer}

@@ -1,8 +1,8 @@
 -- `nwk_write_auxiliary` meets its contract: refused for its record, or what writing the header answers. Assumes nothing.
 use borrow.Author.Needs.{needs}
-use mathlib.Core.Path.{_≡_, refl, sym, ap, _∙_}
+use mathlib.Core.Path.{sym, ap, _∙_}
 use native.Mathlib.Omega.{arith}
-use mathlib.Core.Bool.{true, false, not}
+use mathlib.Core.Bool.{not}
 use lib.ListN.{length}
 use Rattle.nwk.proofs.headers.nwk_write_auxiliary.Statement.{statement}
 use Rattle.nwk.proofs.headers.nwk_write_auxiliary.Tie as tie

@@ -1,8 +1,7 @@
 -- `nwk_write_header` meets its contract: refused for its record, or what writing the header answers. Assumes nothing.
 use borrow.Author.Needs.{needs}
-use mathlib.Core.Path.{_≡_, refl, sym, ap, _∙_}
+use mathlib.Core.Path.{sym, _∙_}
 use native.Mathlib.Omega.{arith}
-use mathlib.Core.Bool.{true, false}
 use lib.ListN.{length}
 use Rattle.nwk.proofs.headers.nwk_write_header.Statement.{statement}
 use Rattle.nwk.proofs.headers.nwk_write_header.Tie as tie

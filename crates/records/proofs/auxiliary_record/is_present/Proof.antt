@@ -1,6 +1,6 @@
 -- `is_present` meets its contract: the first byte is 1. Assumes nothing.
 use borrow.Author.Needs.{needs}
-use mathlib.Core.Path.{_≡_, refl, sym, ap, _∙_}
+use mathlib.Core.Path.{ap}
 use Prim.Native.Nat.{ℕ}
 use lib.Dec.{eqb}
 use Rattle.records.proofs.auxiliary_record.is_present.Statement.{statement}

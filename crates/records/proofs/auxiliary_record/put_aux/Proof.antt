@@ -1,6 +1,6 @@
 -- `put_aux` meets its contract: the five bytes of presence and security control, and the rest behind them. Assumes nothing.
 use borrow.Author.Needs.{needs}
-use mathlib.Core.Path.{_≡_, refl, sym, ap, _∙_}
+use mathlib.Core.Path.{refl}
 use native.Mathlib.Omega.{arith}
 use Rattle.records.proofs.auxiliary_record.put_aux.Statement.{statement}
 use Rattle.records.proofs.auxiliary_record.put_aux.Tie as tie

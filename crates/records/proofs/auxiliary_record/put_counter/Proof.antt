@@ -1,6 +1,6 @@
 -- `put_counter` meets its contract: three parts, each right behind the one before. Assumes nothing.
 use borrow.Author.Needs.{needs}
-use mathlib.Core.Path.{_≡_, refl, sym, ap, _∙_}
+use mathlib.Core.Path.{refl}
 use native.Mathlib.Omega.{arith}
 use Rattle.records.proofs.auxiliary_record.put_counter.Statement.{statement}
 use Rattle.records.proofs.auxiliary_record.put_counter.Tie as tie

@@ -1,6 +1,6 @@
 -- `put_security` meets its contract: the five values, byte by byte. Assumes nothing.
 use borrow.Author.Needs.{needs}
-use mathlib.Core.Path.{_≡_, refl, sym, ap, _∙_}
+use mathlib.Core.Path.{_∙_}
 use mathlib.Core.List.{[], _∷_}
 use Rattle.records.proofs.auxiliary_record.put_security.Statement.{statement}
 use Rattle.records.proofs.auxiliary_record.put_security.Tie as tie

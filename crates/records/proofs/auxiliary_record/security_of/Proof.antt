@@ -1,6 +1,6 @@
 -- `security_of` meets its contract, field by field. Assumes nothing.
 use borrow.Author.Needs.{needs}
-use mathlib.Core.Path.{_≡_, refl, sym, ap, _∙_}
+use mathlib.Core.Path.{ap, _∙_}
 use lib.Dec.{eqb}
 use Rattle.records.proofs.auxiliary_record.security_of.Statement.{statement}
 use Rattle.records.proofs.auxiliary_record.security_of.Tie as tie

@@ -1,6 +1,5 @@
 -- `header_of` meets its contract, field by field. Assumes nothing.
 use borrow.Author.Needs.{needs}
-use mathlib.Core.Path.{_≡_, refl, sym, ap, _∙_}
 use Rattle.records.proofs.header_record.header_of.Statement.{statement}
 use Rattle.records.proofs.header_record.header_of.Tie as tie
 use Rattle.records.specs.HeaderRecord.{headerOf}

@@ -1,12 +1,9 @@
 -- `put_addresses` meets its contract: four parts, each right behind the one before. Assumes nothing.
 use borrow.Author.Needs.{needs}
-use mathlib.Core.Path.{_≡_, refl, sym, ap, _∙_}
+use mathlib.Core.Path.{refl}
 use native.Mathlib.Omega.{arith}
-use Prim.Native.Nat.{ℕ, _+_}
 use Rattle.records.proofs.header_record.put_addresses.Statement.{statement}
 use Rattle.records.proofs.header_record.put_addresses.Tie as tie
-use Rattle.octets.specs.Strings.{over}
-use Rattle.octets.specs.Numbers.{le}
 use Rattle.octets.proofs.Numbers.{length-le}
 use Rattle.records.specs.HeaderRecord.{addressRecord}
 use Rattle.records.proofs.Writes.{over-four}

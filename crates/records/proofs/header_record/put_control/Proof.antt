@@ -1,6 +1,6 @@
 -- `put_control` meets its contract: the ten values, byte by byte. Assumes nothing.
 use borrow.Author.Needs.{needs}
-use mathlib.Core.Path.{_≡_, refl, sym, ap, _∙_}
+use mathlib.Core.Path.{_∙_}
 use mathlib.Core.List.{[], _∷_}
 use Rattle.records.proofs.header_record.put_control.Statement.{statement}
 use Rattle.records.proofs.header_record.put_control.Tie as tie

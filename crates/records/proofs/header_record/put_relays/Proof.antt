@@ -2,8 +2,8 @@
 -- The measure is what is left of the relays. Assumes nothing.
 use mathlib.Core.Path.{_≡_, refl, sym, ap, _∙_}
 use native.Mathlib.Omega.{arith}
-use Prim.Native.Nat.{_+_, _-_, _*_, _≤_}
-use lib.ListN.{length, getD}
+use Prim.Native.Nat.{_-_, _≤_}
+use lib.ListN.{length}
 use Rattle.records.proofs.header_record.put_relays.Statement.{statement}
 use Rattle.records.proofs.header_record.put_relays.Tie as tie
 use Rattle.octets.specs.Strings.{over}

@@ -1,6 +1,6 @@
 -- `put_source_route` meets its contract: the relays right behind the route. Assumes nothing.
 use borrow.Author.Needs.{needs}
-use mathlib.Core.Path.{_≡_, refl, sym, ap, _∙_}
+use mathlib.Core.Path.{refl}
 use native.Mathlib.Omega.{arith}
 use Rattle.records.proofs.header_record.put_source_route.Statement.{statement}
 use Rattle.records.proofs.header_record.put_source_route.Tie as tie

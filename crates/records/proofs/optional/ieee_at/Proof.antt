@@ -1,7 +1,6 @@
 -- `ieee_at` meets its contract: the address if its presence byte is 1. Assumes nothing.
 use borrow.Author.Needs.{needs}
-use mathlib.Core.Path.{_≡_, refl, sym, ap, _∙_}
-use Prim.Native.Nat.{ℕ}
+use mathlib.Core.Path.{_∙_}
 use lib.Dec.{eqb}
 use Rattle.records.proofs.optional.ieee_at.Statement.{statement}
 use Rattle.records.proofs.optional.ieee_at.Tie as tie

@@ -1,6 +1,6 @@
 -- `put_multicast` meets its contract: the presence byte, and the field behind it. Assumes nothing.
 use borrow.Author.Needs.{needs}
-use mathlib.Core.Path.{_≡_, refl, sym, ap, _∙_}
+use mathlib.Core.Path.{sym, ap, _∙_}
 use native.Mathlib.Omega.{arith}
 use Prim.Native.Nat.{ℕ, _+_}
 use Rattle.records.proofs.optional.put_multicast.Statement.{statement}

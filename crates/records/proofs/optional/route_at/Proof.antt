@@ -1,7 +1,6 @@
 -- `route_at` meets its contract: the count and the index if the presence byte is 1. Assumes nothing.
 use borrow.Author.Needs.{needs}
-use mathlib.Core.Path.{_≡_, refl, sym, ap, _∙_}
-use Prim.Native.Nat.{ℕ}
+use mathlib.Core.Path.{_∙_}
 use lib.Dec.{eqb}
 use Rattle.records.proofs.optional.route_at.Statement.{statement}
 use Rattle.records.proofs.optional.route_at.Tie as tie

@@ -1,12 +1,11 @@
 -- `NwkAuxHeader::deserialize` meets its contract: the number alone, or the record. Assumes nothing.
 use borrow.Author.Needs.{needs}
-use mathlib.Core.Path.{_≡_, sym, ap, _∙_}
+use mathlib.Core.Path.{sym, ap, _∙_}
 use Prim.Native.Nat.{_+_}
 use Rattle.header.proofs.auxiliary.NwkAuxHeader.deserialize.Statement.{statement}
 use Rattle.header.proofs.auxiliary.NwkAuxHeader.deserialize.Tie as tie
 use Rattle.header.specs.AuxiliaryControl.{securityOf}
 use Rattle.header.specs.Auxiliary.{keySequenceAt, auxBy, auxAnswer, readAux}
-use Rattle.header.specs.declared.auxiliary.NwkSecurityHeaderControlField.{NwkSecurityHeaderControlField}
 use Rattle.header.proofs.Answers.{aux-refused}
 
 aux-refusal-requires : tie.Need-aux-refusal-requires

@@ -1,6 +1,6 @@
 -- `NwkAuxHeader::fields` meets its contract, field by field. Assumes nothing.
 use borrow.Author.Needs.{needs}
-use mathlib.Core.Path.{_≡_, ap, _∙_}
+use mathlib.Core.Path.{ap, _∙_}
 use Prim.Native.Nat.{ℕ}
 use lib.ListN.{getD}
 use Rattle.header.proofs.auxiliary.NwkAuxHeader.fields.Statement.{statement}

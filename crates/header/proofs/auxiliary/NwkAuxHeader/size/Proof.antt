@@ -1,6 +1,5 @@
 -- `NwkAuxHeader::size` meets its contract: six bytes, and those of the IEEE if it is present. Assumes nothing.
 use borrow.Author.Needs.{needs}
-use mathlib.Core.Path.{_≡_}
 use native.Mathlib.Omega.{arith}
 use lib.ListN.{length-append}
 use Rattle.header.proofs.auxiliary.NwkAuxHeader.size.Statement.{statement}

@@ -1,6 +1,5 @@
 -- `NwkSecurityHeaderControlField::from_byte` meets its contract: taking the fields from the lowest is what `fields` does. Assumes nothing.
 use borrow.Author.Needs.{needs}
-use mathlib.Core.Path.{_≡_}
 use Rattle.header.proofs.auxiliary.NwkSecurityHeaderControlField.from_byte.Statement.{statement}
 use Rattle.header.proofs.auxiliary.NwkSecurityHeaderControlField.from_byte.Tie as tie
 use Rattle.octets.specs.Fields.{fields}

@@ -1,6 +1,5 @@
 -- `NwkFrameControl::from_word` meets its contract: taking the fields from the lowest is what `fields` does. Assumes nothing.
 use borrow.Author.Needs.{needs}
-use mathlib.Core.Path.{_≡_}
 use Rattle.header.proofs.control.NwkFrameControl.from_word.Statement.{statement}
 use Rattle.header.proofs.control.NwkFrameControl.from_word.Tie as tie
 use Rattle.octets.specs.Fields.{fields}

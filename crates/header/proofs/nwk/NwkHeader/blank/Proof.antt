@@ -1,6 +1,6 @@
 -- `NwkHeader::blank` meets its contract: every field of no bytes is 0. Assumes nothing.
 use borrow.Author.Needs.{needs}
-use mathlib.Core.Path.{_≡_, refl}
+use mathlib.Core.Path.{refl}
 use Rattle.header.proofs.nwk.NwkHeader.blank.Statement.{statement}
 use Rattle.header.proofs.nwk.NwkHeader.blank.Tie as tie
 use Rattle.octets.specs.Strings.{tab}

@@ -1,6 +1,6 @@
 -- `NwkHeader::deserialize` meets its contract: the number alone, or the record. Assumes nothing.
 use borrow.Author.Needs.{needs}
-use mathlib.Core.Path.{_≡_, sym, ap, _∙_}
+use mathlib.Core.Path.{sym, ap, _∙_}
 use Rattle.header.proofs.nwk.NwkHeader.deserialize.Statement.{statement}
 use Rattle.header.proofs.nwk.NwkHeader.deserialize.Tie as tie
 use Rattle.header.specs.Control.{controlOf}

@@ -1,6 +1,6 @@
 -- `NwkHeader::fields` meets its contract, field by field. Assumes nothing.
 use borrow.Author.Needs.{needs}
-use mathlib.Core.Path.{_≡_, ap, _∙_}
+use mathlib.Core.Path.{ap, _∙_}
 use Prim.Native.Nat.{ℕ, _+_}
 use lib.ListN.{getD}
 use Rattle.header.proofs.nwk.NwkHeader.fields.Statement.{statement}

@@ -1,6 +1,6 @@
 -- `NwkHeader::is_bad` meets its contract, condition by condition. Assumes nothing.
 use borrow.Author.Needs.{needs}
-use mathlib.Core.Path.{_≡_, sym, ap, _∙_}
+use mathlib.Core.Path.{ap}
 use borrow.Author.Tests.{lt-ltb, le-ltb}
 use lib.Dec.{ltb}
 use Rattle.header.proofs.nwk.NwkHeader.is_bad.Statement.{statement}

@@ -1,10 +1,10 @@
 -- `NwkHeader::put` meets its contract: the eight bytes, and behind them the fields that may be missing. Assumes nothing.
 use borrow.Author.Needs.{needs}
-use mathlib.Core.Path.{_≡_, refl, sym, ap, _∙_}
+use mathlib.Core.Path.{sym, ap, _∙_}
 use mathlib.Core.List.{_++_}
 use native.Mathlib.Nat.{zero-add}
 use native.Mathlib.Omega.{arith}
-use lib.ListN.{length, length-append}
+use lib.ListN.{length-append}
 use Rattle.header.proofs.nwk.NwkHeader.put.Statement.{statement}
 use Rattle.header.proofs.nwk.NwkHeader.put.Tie as tie
 use Rattle.octets.specs.Strings.{over}

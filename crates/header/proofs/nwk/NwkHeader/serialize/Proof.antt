@@ -1,6 +1,6 @@
 -- `NwkHeader::serialize` meets its contract: refused with nothing changed, or written. Assumes nothing.
 use borrow.Author.Needs.{needs}
-use mathlib.Core.Path.{_≡_, sym, ap, _∙_}
+use mathlib.Core.Path.{sym, ap, _∙_}
 use Prim.Native.Nat.{ℕ}
 use lib.ListN.{length}
 use Rattle.header.proofs.nwk.NwkHeader.serialize.Statement.{statement}

@@ -1,8 +1,7 @@
 -- `NwkHeader::size` meets its contract: eight bytes, and those of the fields that are present. Assumes nothing.
 use borrow.Author.Needs.{needs}
-use mathlib.Core.Path.{_≡_}
 use native.Mathlib.Omega.{arith}
-use lib.ListN.{length, length-append}
+use lib.ListN.{length-append}
 use Rattle.header.proofs.nwk.NwkHeader.size.Statement.{statement}
 use Rattle.header.proofs.nwk.NwkHeader.size.Tie as tie
 use Rattle.header.specs.Writing.{headerBytes, optionalBytes}

@@ -1,6 +1,6 @@
 -- `NwkSourceRoute::put` meets its contract: nothing is written of a route that is missing. Assumes nothing.
 use borrow.Author.Needs.{needs}
-use mathlib.Core.Path.{_≡_, sym, ap, _∙_}
+use mathlib.Core.Path.{sym, ap, _∙_}
 use lib.ListN.{length}
 use native.Mathlib.Omega.{arith}
 use Rattle.header.proofs.optional.NwkSourceRoute.put.Statement.{statement}

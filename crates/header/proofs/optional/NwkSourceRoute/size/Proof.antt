@@ -1,9 +1,8 @@
 -- `NwkSourceRoute::size` meets its contract: the count, the index and two bytes for each relay. Assumes nothing.
 use borrow.Author.Needs.{needs}
-use mathlib.Core.Path.{_≡_, sym, ap, _∙_}
+use mathlib.Core.Path.{sym, ap, _∙_}
 use native.Mathlib.Omega.{arith}
 use lib.ListN.{length}
-use mathlib.Core.Bool.{cond}
 use Rattle.header.proofs.optional.NwkSourceRoute.size.Statement.{statement}
 use Rattle.header.proofs.optional.NwkSourceRoute.size.Tie as tie
 use Rattle.header.specs.declared.optional.NwkSourceRoute.{NwkSourceRoute}
