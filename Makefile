@@ -1,5 +1,6 @@
 # make          the archive and the command, and what is in the sample capture
 # make test     the gate: every proof and must-fail edit, then the tests of the host and of the C programs
+# make bench    times beside nettle and mbedtls, stack and memory
 # make clean    removes what the above made
 
 SHELL := bash
@@ -53,3 +54,4 @@ host-test: $(COMMAND)
 clean:
 	rm -rf target host/target
 
+include bench/bench.mk

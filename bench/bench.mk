@@ -4,7 +4,6 @@
 # A peer is used where it is installed (Debian: nettle-dev, libmbedtls-dev). Of mbedtls the static archive is linked, so that
 # the linker can send its question for AES instructions to bench/mbedtls.c.
 
-BENCH_ARCHIVE := target/staticlib/libnwk.a
 BENCH_PROGRAM := target/bench/bench
 BENCH_CFLAGS := -std=c11 -O2 -Wall -Wextra -Iinclude -Ibench
 BENCH_LIBS := -Wl,-z,now
@@ -15,14 +14,14 @@ BENCH_LIBS += $(shell pkg-config --libs nettle)
 endif
 
 BENCH_MBEDTLS := $(wildcard $(shell $(CC) -print-file-name=libmbedcrypto.a))
-ifeq ($(shell nm $(BENCH_MBEDTLS) 2>/dev/null | grep -q 'T mbedtls_aesni_has_support' && echo yes),yes)
+ifeq ($(shell nm $(BENCH_MBEDTLS) 2>/dev/null | grep 'T mbedtls_aesni_has_support' >/dev/null && echo yes),yes)
 BENCH_CFLAGS += -DHAVE_MBEDTLS
 BENCH_LIBS += -Wl,--wrap=mbedtls_aesni_has_support $(BENCH_MBEDTLS)
 endif
 
-$(BENCH_PROGRAM): $(wildcard bench/*.c bench/*.h) bench/bench.mk include/nwk.h $(BENCH_ARCHIVE)
+$(BENCH_PROGRAM): $(wildcard bench/*.c bench/*.h) bench/bench.mk include/nwk.h $(ARCHIVE)
 	@mkdir -p $(@D)
-	$(CC) $(BENCH_CFLAGS) $(wildcard bench/*.c) $(BENCH_ARCHIVE) $(BENCH_LIBS) -o $@
+	$(CC) $(BENCH_CFLAGS) $(wildcard bench/*.c) $(ARCHIVE) $(BENCH_LIBS) -o $@
 
 .PHONY: bench
 bench: $(BENCH_PROGRAM)
@@ -30,6 +29,6 @@ bench: $(BENCH_PROGRAM)
 	@$(CC) --version | head -n 1
 	@echo "load before: $$(cut -d ' ' -f 1 /proc/loadavg) on $$(nproc) processors"
 	@$(BENCH_PROGRAM)
-	@sh bench/memory.sh $(BENCH_ARCHIVE)
+	@sh bench/memory.sh $(ARCHIVE)
 	@echo
 	@echo "load after: $$(cut -d ' ' -f 1 /proc/loadavg)"
