@@ -1,10 +1,10 @@
 -- Bytes as hexadecimal digits, two for each byte, the higher first.
 -- Assumes nothing.
-use mathlib.Core.Bool.{cond}
-use mathlib.Core.List.{List}
+use mathlib.Core.Bool.{Bool, true, cond, _&&_}
+use mathlib.Core.List.{List, [], _∷_}
 use Prim.Native.Nat.{ℕ, _+_, _*_, _-_}
-use lib.Dec.{ltb}
-use lib.ListN.{getD}
+use lib.Dec.{ltb, eqb}
+use lib.ListN.{length}
 
 -- x where b is below n, and else y
 abbrev pub below : ℕ → ℕ → ℕ → ℕ → ℕ
@@ -17,6 +17,17 @@ digitValue b =
     (below 0x41 b 16 (below 0x47 b (b - 0x41 + 10)
     (below 0x61 b 16 (below 0x67 b (b - 0x61 + 10) 16)))))
 
--- the byte k that the digits ds stand for
-unfoldable pub hexByte : List ℕ → ℕ → ℕ
-hexByte ds k = digitValue (getD ds (2 * k) 0) * 16 + digitValue (getD ds (2 * k + 1) 0)
+-- the bytes that the digits ds stand for
+unfoldable pub hexBytes : List ℕ → List ℕ
+hexBytes [] = []
+hexBytes (h ∷ []) = []
+hexBytes (h ∷ l ∷ ds) = (digitValue h * 16 + digitValue l) ∷ hexBytes ds
+
+-- whether each byte of ds is a digit
+unfoldable pub allDigits : List ℕ → Bool
+allDigits [] = true
+allDigits (d ∷ ds) = ltb (digitValue d) 16 && allDigits ds
+
+-- whether ds are the digits of n bytes
+unfoldable pub isHex : List ℕ → ℕ → Bool
+isHex ds n = eqb (length ds) (2 * n) && allDigits ds

@@ -1,7 +1,10 @@
 // A file of vectors: its bytes, and its lines.
-ghost use Prim.Native.Nat.{_≤_};
-ghost use lib.ListN.{length};
+ghost use mathlib.Core.Path.{_≡_};
+ghost use Prim.Native.Nat.{_+_, _≤_, min};
+ghost use lib.Dec.{eqb};
+ghost use lib.ListN.{length, drop};
 ghost use Rattle.io.specs.Counts.{Counts};
+ghost use Rattle.casefile.specs.Texts.{before, wordStart, wordEnd, sectionOf};
 use crate::report;
 
 // Reads the whole file into `bytes` and answers how many there are, or says what is wrong and answers 0.
@@ -29,6 +32,7 @@ pub fn load(name: &[u8], bytes: &mut [u8]) -> usize
 // The number n, or the length of `s` where that is less: a count of bytes at the front of `s`.
 pub fn within(n: usize, s: &[u8]) -> usize
     ensures { λ r. ⌜ Counts r (now (s .entry)) ⌝ }
+    ensures { λ r. ⌜ r ≡ min n (length (now (s .entry))) ⌝ }
 {
     if n < s.len() { n } else { s.len() }
 }
@@ -37,6 +41,7 @@ pub fn within(n: usize, s: &[u8]) -> usize
 pub fn next(text: &[u8], at: usize, mark: u8) -> usize
     requires { ⌜ at ≤ length (now text) ⌝ }
     ensures { λ r. ⌜ (at ≤ r) × (r ≤ length (now (text .entry))) ⌝ }
+    ensures { λ r. ⌜ r ≡ at + before mark (drop at (now (text .entry))) ⌝ }
 {
     let mut end = at;
     while end < text.len() {
@@ -59,22 +64,22 @@ pub fn section_of(text: &[u8], at: usize, end: usize, before: Section) -> Sectio
     requires { ⌜ (at ≤ end) × (end ≤ length (now text)) ⌝ }
     requires { ⌜ (before .start ≤ before .end) × (before .end ≤ length (now text)) ⌝ }
     ensures { λ r. ⌜ (r .start ≤ r .end) × (r .end ≤ length (now (text .entry))) ⌝ }
+    ensures { λ r. ⌜ r ≡ sectionOf (now (text .entry)) at end before ⌝ }
 {
-    let mark = b"# file ";
     if end - at < 7 {
         return before;
     }
-    for i in 0..7 {
-        if text[at + i] != mark[i] {
-            return before;
-        }
+    let start = at + 7;
+    if check::same(&text[at..start], b"# file ") {
+        return Section { start, end };
     }
-    Section { start: at + 7, end }
+    before
 }
 
 // Where word k of a line starts: behind its k-th space.
 fn word_start(line: &[u8], k: usize) -> usize
     ensures { λ r. ⌜ r ≤ length (now (line .entry)) ⌝ }
+    ensures { λ r. ⌜ r ≡ wordStart (now (line .entry)) k ⌝ }
 {
     let mut i = 0;
     let mut left = k;
@@ -93,6 +98,7 @@ fn word_start(line: &[u8], k: usize) -> usize
 // Word k of a line, counted from 0; where there is none, it is empty and stands at the end.
 pub fn word(line: &[u8], k: usize) -> Section
     ensures { λ r. ⌜ (r .start ≤ r .end) × (r .end ≤ length (now (line .entry))) ⌝ }
+    ensures { λ r. ⌜ (r .start ≡ wordStart (now (line .entry)) k) × (r .end ≡ wordEnd (now (line .entry)) k) ⌝ }
 {
     let start = word_start(line, k);
     Section {
@@ -102,6 +108,8 @@ pub fn word(line: &[u8], k: usize) -> Section
 }
 
 // Whether a line has no word k.
-pub fn ends_at(line: &[u8], k: usize) -> bool {
+pub fn ends_at(line: &[u8], k: usize) -> bool
+    ensures { λ r. ⌜ r ≡ eqb (wordStart (now (line .entry)) k) (length (now (line .entry))) ⌝ }
+{
     word_start(line, k) == line.len()
 }

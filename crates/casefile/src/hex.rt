@@ -1,9 +1,9 @@
 // Bytes as hexadecimal digits.
 ghost use mathlib.Core.Path.{_≡_};
 ghost use mathlib.Core.Bool.{true};
-ghost use Prim.Native.Nat.{ℕ, _≤_, _<_};
-ghost use lib.ListN.{length, getD};
-ghost use Rattle.casefile.specs.Hex.{digitValue, hexByte};
+ghost use Prim.Native.Nat.{_≤_};
+ghost use lib.ListN.{length};
+ghost use Rattle.casefile.specs.Hex.{digitValue, hexBytes, isHex};
 
 // The value of a digit, and 16 for what is none.
 fn digit(b: u8) -> u8
@@ -18,8 +18,10 @@ fn digit(b: u8) -> u8
 }
 
 // Fills `out` with what `digits` stand for, two digits a byte, and answers whether they are digits and just as many.
+// Where they are not, what it leaves in `out` is not said.
 pub fn decode(digits: &[u8], out: &mut [u8]) -> bool
-    ensures { λ r. ⌜ (r ≡ true → (k : ℕ) → k < length (now (out .entry)) → getD (now (out .exit)) k 0 ≡ hexByte (now (digits .entry)) k) ⌝ }
+    ensures { λ r. ⌜ r ≡ isHex (now (digits .entry)) (length (now (out .entry))) ⌝ }
+    ensures { λ r. ⌜ (r ≡ true → now (out .exit) ≡ hexBytes (now (digits .entry))) ⌝ }
 {
     if digits.len() % 2 != 0 {
         return false;

@@ -1,29 +1,32 @@
--- `casefile::hex::decode` meets its contract. The loop's invariant: the output keeps its length, and its first i bytes are those of the digits.
+-- `casefile::hex::decode` meets its contract. The loop's invariant: the first i bytes of the output are those of the first i pairs of digits.
 -- Assumes nothing.
 use mathlib.Core.Bool.{false≢true}
-use mathlib.Core.Path.{_≡_}
-use mathlib.Core.List.{List}
+use mathlib.Core.Path.{_≡_, refl, sym, _∙_}
+use mathlib.Core.List.{List, _++_}
 use Prim.Native.Nat.{ℕ, _+_, _*_, _-_, _≤_, _<_}
 use native.Mathlib.Omega.{arith}
 use denote.Ref.{now}
-use lib.ListN.{length, getD, length-set}
+use lib.ListN.{length, take, drop, length-set}
 use borrow.Author.Needs.{needs}
-use Rattle.casefile.specs.Hex.{hexByte}
-use Rattle.casefile.proofs.Digits.{byte-stored}
+use Rattle.casefile.specs.Hex.{hexBytes, allDigits}
+use Rattle.casefile.proofs.Digits.{digits-more, high-not, low-not, byte-stored, hex-not, hex-digits, digits-end, bytes-end}
 use Rattle.casefile.proofs.hex.decode.Statement.{statement}
 use Rattle.casefile.proofs.hex.decode.Tie as tie
 
 abbrev Inv-loop : tie.InvT-loop
-Inv-loop digits out₀ i₀ out i = (i ≤ length out) × (length out ≡ length out₀) × ((k : ℕ) → k < i → getD out k 0 ≡ hexByte digits k)
+Inv-loop digits out₀ i₀ out i =
+    (i ≤ length out) × (length out ≡ length out₀)
+    × (allDigits digits ≡ allDigits (drop (2 * i) digits))
+    × (hexBytes digits ≡ take i out ++ hexBytes (drop (2 * i) digits))
 
 abbrev μ-loop : tie.MeasureT-loop
 μ-loop digits out₀ i₀ out i = length out₀ - i
 
 returns : tie.Need-returns Inv-loop μ-loop
-returns c is-true k h = absurd (false≢true is-true)
+returns c = (sym (hex-not _ _ (λ e. omega arith)), λ t. absurd (false≢true t))
 
 returns-2 : tie.Need-returns-2 Inv-loop μ-loop
-returns-2 c is-true k h = absurd (false≢true is-true)
+returns-2 c = (sym (hex-not _ _ (λ e. omega arith)), λ t. absurd (false≢true t))
 
 mul-digit : tie.Need-mul-digit Inv-loop μ-loop
 mul-digit c = omega arith
@@ -41,10 +44,18 @@ shared-slice-read-digit-2 : tie.Need-shared-slice-read-digit-2 Inv-loop μ-loop
 shared-slice-read-digit-2 c = omega arith
 
 returns-3 : tie.Need-returns-3 Inv-loop μ-loop
-returns-3 c is-true k h = absurd (false≢true is-true)
+returns-3 c =
+    let loop = c .before .before .before .before .before .before .loop in
+    let high = c .before .before .before .digit in
+    let entry = c .before .before .before .before .before .before .before .before .before .before .before .args in
+    (sym (hex-digits (now (entry .digits)) (length (now (entry .out))) (omega arith) ∙ loop .inv .2 ∙ high-not (now (entry .digits)) (loop .i) (omega arith) (sym (high .ensures .0) ∙ c .if3 .taken)), λ t. absurd (false≢true t))
 
 returns-4 : tie.Need-returns-4 Inv-loop μ-loop
-returns-4 c is-true k h = absurd (false≢true is-true)
+returns-4 c =
+    let loop = c .before .before .before .before .before .before .before .loop in
+    let low = c .before .before .digit2 in
+    let entry = c .before .before .before .before .before .before .before .before .before .before .before .before .args in
+    (sym (hex-digits (now (entry .digits)) (length (now (entry .out))) (omega arith) ∙ loop .inv .2 ∙ low-not (now (entry .digits)) (loop .i) (omega arith) (sym (low .ensures .0) ∙ c .if4 .taken)), λ t. absurd (false≢true t))
 
 mul-out : tie.Need-mul-out Inv-loop μ-loop
 mul-out c = omega arith
@@ -62,19 +73,27 @@ loop-less : tie.Need-loop-less Inv-loop μ-loop
 loop-less c = omega arith
 
 loop-again : tie.Need-loop-again Inv-loop μ-loop
-unfolding hexByte
 loop-again c =
     let ds : List ℕ = now (c .before .before .before .before .before .before .before .before .before .before .before .before .args .digits) in
     let out : List ℕ = c .before .before .before .before .before .before .before .loop .out in
     let i : ℕ = c .before .before .before .before .before .before .before .loop .i in
-    let high : ℕ = c .before .before .before .before .digit .result in
-    let low : ℕ = c .before .before .digit2 .result in
+    let inv = c .before .before .before .before .before .before .before .loop .inv in
+    let high = c .before .before .before .before .digit in
+    let low = c .before .before .digit2 in
     let inside : i < length out = omega arith in
-    let here : high * 16 + low ≡ hexByte ds i = rw (c .before .before .before .before .digit .ensures .0, c .before .before .digit2 .ensures .0) in
-    simp length-set (search needs, search needs, byte-stored ds out i (high * 16 + low) inside (c .before .before .before .before .before .before .before .loop .inv .2) here)
+    let pair : 2 * i + 1 < length ds = omega arith in
+    simp length-set (
+      search needs,
+      search needs,
+      inv .2 ∙ digits-more ds i pair (omega (arith, high .ensures)) (omega (arith, low .ensures)),
+      inv .3 ∙ byte-stored ds out i (high .result * 16 + low .result) pair inside (rw (high .ensures .0, low .ensures .0)),
+    )
 
 returns-5 : tie.Need-returns-5 Inv-loop μ-loop
-returns-5 c is-true k h = c .before .loop .inv .2 k (omega arith)
+returns-5 c =
+    let loop = c .before .loop in
+    let entry = c .before .before .before .before .before .before .args in
+    (sym (hex-digits (now (entry .digits)) (length (now (entry .out))) (omega arith) ∙ loop .inv .2 ∙ digits-end (now (entry .digits)) (2 * loop .i) (omega arith)), λ t. sym (loop .inv .3 ∙ bytes-end (now (entry .digits)) (loop .out) (loop .i) (omega arith) (omega arith)))
 
 pub decode-spec : {M : Type 1} → statement M
 decode-spec =
@@ -84,7 +103,7 @@ decode-spec =
     μ-loop
     returns
     returns-2
-    (λ c. search needs)
+    (λ c. (search needs, refl, refl, refl))
     mul-digit
     shared-slice-read-digit
     (λ c κs. search needs)

@@ -1,0 +1,32 @@
+-- The fields of a line: words of hexadecimal digits, "-" for nothing.
+-- Assumes nothing.
+use mathlib.Core.Bool.{Bool, true, false, cond}
+use mathlib.Core.List.{List, [], _∷_}
+use Prim.Native.Nat.{ℕ, _-_, _/_, min}
+use lib.Dec.{eqb}
+use lib.ListN.{length, take, drop}
+use Rattle.casefile.specs.declared.fields.FieldRead.{FieldRead}
+use Rattle.casefile.specs.Hex.{hexBytes, isHex}
+use Rattle.casefile.specs.Texts.{wordStart, wordEnd}
+
+-- word k of a line
+unfoldable pub wordOf : List ℕ → ℕ → List ℕ
+wordOf line k = take (wordEnd line k - wordStart line k) (drop (wordStart line k) line)
+
+-- whether a word is "-" (0x2d)
+unfoldable pub isDash : List ℕ → Bool
+isDash [] = false
+isDash (b ∷ []) = eqb b 0x2d
+isDash (b ∷ d ∷ w) = false
+
+-- how many bytes of digits a word is read as, at most as many as there is room for
+abbrev pub fieldCount : List ℕ → ℕ → ℕ
+fieldCount w room = min (length w / 2) room
+
+-- what reading a word gives where there is room for so many bytes
+unfoldable pub fieldOf : List ℕ → ℕ → FieldRead
+fieldOf w room = cond (isDash w) (record { good = true; n = 0 }) (record { good = isHex w (fieldCount w room); n = fieldCount w room })
+
+-- the bytes that a word stands for
+unfoldable pub fieldBytes : List ℕ → List ℕ
+fieldBytes w = cond (isDash w) [] (hexBytes w)
