@@ -1,6 +1,5 @@
 // The headers that a case hands to a writer: read from bytes, then changed where the case says so, since the bits of a
 // record need not agree with its fields.
-use crate::words;
 use casefile::fields::field;
 use frame::OptionAuxHeader;
 use header::auxiliary::NwkAuxHeader;
@@ -8,6 +7,7 @@ use header::auxiliary::NwkSecurityHeaderControlField;
 use header::control::NwkFrameControl;
 use header::nwk::NwkHeader;
 use header::optional::NwkSourceRoute;
+use header_cases::words;
 
 // A header, and whether the case's words for it are well formed.
 pub struct HandedHeader {

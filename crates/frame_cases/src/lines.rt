@@ -1,21 +1,21 @@
 // A file of cases, one a line: each is run, and those that agree are counted.
 ghost use Prim.Native.Nat.{_≤_, _<_};
 use crate::opening;
-use crate::parts;
 use crate::reading;
 use crate::sealing;
-use crate::words;
-use crate::words::Line;
 use casefile::file;
 use casefile::report;
+use header_cases::parts;
+use header_cases::words;
+use header_cases::words::Line;
 
 // What one case shows, by its first word: those of a header or an auxiliary header alone.
 fn check_case(line: &[u8]) -> Line {
     if words::is(line, 0, b"header") {
-        return ended(line, 4, reading::check_header(line));
+        return ended(line, 4, header_cases::reading::check_header(line));
     }
     if words::is(line, 0, b"aux") {
-        return ended(line, 4, reading::check_aux(line));
+        return ended(line, 4, header_cases::reading::check_aux(line));
     }
     if words::is(line, 0, b"fields") {
         return ended(line, 8, parts::check_fields(line));

@@ -3,10 +3,8 @@
 mod handed;
 mod lines;
 mod opening;
-mod parts;
 mod reading;
 mod sealing;
-mod words;
 
 fn main() {
     lines::run(b"frames.txt");

@@ -2,8 +2,6 @@
 //   open KEY FRAME ROOM REFUSAL PAYLOAD HEADERS
 // PAYLOAD is what the output's front must be; the rest, and after a refusal the whole, must stay. HEADERS is what the two
 // headers that come back are written as, the level as received.
-use crate::words;
-use crate::words::Line;
 use casefile::fields::field;
 use casefile::fields::whole;
 use casefile::file;
@@ -13,6 +11,8 @@ use frame::FrameOpened;
 use header::auxiliary::NwkAuxHeader;
 use header::nwk::NwkHeader;
 use header::nwk::Written;
+use header_cases::words;
+use header_cases::words::Line;
 use types::Key;
 
 // Writes an auxiliary header behind the first n bytes.

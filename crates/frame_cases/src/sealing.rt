@@ -3,8 +3,6 @@
 //   seal KEY HEADER CHANGE AUX CHANGE PAYLOAD ROOM REFUSAL FRAME         seal a frame
 // FRAME is what the output's front must be; the rest, and after a refusal the whole, must stay.
 use crate::handed;
-use crate::words;
-use crate::words::Line;
 use casefile::fields::field;
 use casefile::fields::whole;
 use casefile::file;
@@ -13,6 +11,8 @@ use casefile::outputs::FILLER;
 use frame::OptionAuxHeader;
 use header::nwk::NwkHeader;
 use header::nwk::Written;
+use header_cases::words;
+use header_cases::words::Line;
 use types::Key;
 
 // What a writer must answer: the number, and the room that it is given.

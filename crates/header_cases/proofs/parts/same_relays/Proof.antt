@@ -1,9 +1,9 @@
--- `frame_cases::parts::same_relays` is safe and ends. The measure is what is left of the relays.
+-- `header_cases::parts::same_relays` is safe and ends. The measure is what is left of the relays.
 -- Assumes nothing.
 use Prim.Native.Nat.{_≤_, _-_}
 use borrow.Author.Needs.{needs}
-use Rattle.frame_cases.proofs.parts.same_relays.Statement.{statement}
-use Rattle.frame_cases.proofs.parts.same_relays.Tie as tie
+use Rattle.header_cases.proofs.parts.same_relays.Statement.{statement}
+use Rattle.header_cases.proofs.parts.same_relays.Tie as tie
 
 abbrev Inv-loop : tie.InvT-loop
 Inv-loop row relays i₀ i = i ≤ 54
