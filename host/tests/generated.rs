@@ -10,7 +10,7 @@ use support::random::Random;
 use support::tally::{all_kinds, Tally};
 
 const SEED: u64 = 0x5A19_BEE0_2025;
-const CALLS_EACH: usize = 40_000;
+const CALLS_EACH: usize = 24_000;
 const CALLS_IN_ALL: usize = 200_000;
 /// Every refusal of every operation, every kind of content, every length and every room is met at least this often.
 const AT_LEAST: usize = 10;

@@ -1,5 +1,5 @@
 //! Generated commands, as records and as bytes, by the model's tables of fields.
-use super::headers::sized;
+use super::headers::{scatter, sized};
 use crate::support::model::commands::{fields, write, Field, List};
 use crate::support::operations::COMMAND_RECORD;
 use crate::support::random::Random;
@@ -19,25 +19,18 @@ pub fn record(random: &mut Random) -> Vec<u8> {
 
 fn unparsed(record: &mut [u8], random: &mut Random) {
     record[UNPARSED_LENGTH] = if random.percent(85) { random.below(109) } else { random.between(109, 255) } as u8;
-    record[UNPARSED_LENGTH + 1..].iter_mut().for_each(|place| *place = random.byte());
+    scatter(&mut record[UNPARSED_LENGTH + 1..], random);
 }
 
-/// Values that the fields can take.
+/// Values that the fields can take. An IEEE has its bytes also where it is absent and they are not read.
 fn fill(fields: &[Field], record: &mut [u8], base: usize, random: &mut Random) {
     for field in fields {
         match *field {
-            Field::Reserved(_) | Field::Ieee(_) => {}
-            Field::Bits(width, at) => {
-                record[base + at] = random.below(1 << width) as u8;
-                // an IEEE behind a presence byte is filled by the bytes that are not read otherwise
-                if width == 1 && base == 0 && random.bit() {
-                    scatter_ieee(fields, at, record, random);
-                }
-            }
+            Field::Reserved(_) => {}
+            Field::Bits(width, at) => record[base + at] = random.below(1 << width) as u8,
             Field::Code(_, at, declared) => record[base + at] = random.pick(declared),
-            Field::Bytes(n, at) => {
-                record[base + at..base + at + n].iter_mut().for_each(|place| *place = random.byte());
-            }
+            Field::Bytes(n, at) => scatter(&mut record[base + at..base + at + n], random),
+            Field::Ieee(at) => scatter(&mut record[base + at + 1..base + at + 9], random),
             Field::Count(_, list) => record[list.count_at] = count(list, random) as u8,
             Field::Entries(list) => {
                 for i in 0..usize::from(record[list.count_at]) {
@@ -45,12 +38,6 @@ fn fill(fields: &[Field], record: &mut [u8], base: usize, random: &mut Random) {
                 }
             }
         }
-    }
-}
-
-fn scatter_ieee(fields: &[Field], presence: usize, record: &mut [u8], random: &mut Random) {
-    if fields.iter().any(|field| matches!(field, Field::Ieee(at) if *at == presence)) {
-        record[presence + 1..presence + 9].iter_mut().for_each(|place| *place = random.byte());
     }
 }
 

@@ -119,8 +119,13 @@ pub fn scatter_header(header: &Header, record: &mut [u8], random: &mut Random) {
         (true, relays_end..record.len()),
     ];
     for (_, places) in unread.into_iter().filter(|(absent, _)| *absent) {
-        record[places].iter_mut().for_each(|place| *place = random.byte());
+        scatter(&mut record[places], random);
     }
+}
+
+/// Random bytes in all the places.
+pub fn scatter(places: &mut [u8], random: &mut Random) {
+    places.iter_mut().for_each(|place| *place = random.byte());
 }
 
 /// An auxiliary record for writing, sometimes without the auxiliary header or with a bit that does not agree.
@@ -131,7 +136,7 @@ pub fn any_auxiliary_record(random: &mut Random) -> Vec<u8> {
     }
     let mut record = auxiliary::record(&Some(some));
     if record[9] == 0 && random.bit() {
-        record[10..18].iter_mut().for_each(|place| *place = random.byte());
+        scatter(&mut record[10..18], random);
     }
     if random.percent(6) {
         // absent, with the rest 0 or left as it was
