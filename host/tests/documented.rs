@@ -3,9 +3,9 @@
 #[allow(dead_code)]
 mod support;
 
-use support::calls::{check_boundary, perform, Call, Outcome};
+use support::calls::{Call, Outcome};
+use support::compare::compare;
 use support::hex::unhex;
-use support::model;
 use support::operations::{Operation, AUXILIARY_RECORD, COMMAND_RECORD, HEADER_RECORD};
 
 const FILL: u8 = 0xA5;
@@ -16,11 +16,7 @@ fn bytes(text: &str) -> Vec<u8> {
 
 /// The outcome of a call, which codec and model agree on.
 fn asked(operation: Operation, key: [u8; 16], inputs: Vec<Vec<u8>>, rooms: Vec<usize>) -> Outcome {
-    let call = Call { operation, key, inputs, rooms };
-    let outcome = perform(&call, FILL, 0x96);
-    check_boundary(&call, &outcome, FILL);
-    assert_eq!(outcome, model::outcome(&call, FILL), "{}", call.line());
-    outcome
+    compare(&Call { operation, key, inputs, rooms }, FILL, 0x96)
 }
 
 fn read_header(text: &str) -> Outcome {

@@ -2,9 +2,9 @@
 #[allow(dead_code)]
 mod support;
 
-use support::calls::{check_boundary, perform, Call, Outcome};
+use support::calls::Call;
+use support::compare::compare;
 use support::generate;
-use support::model;
 use support::operations::{Operation, OPERATIONS};
 use support::random::Random;
 use support::tally::{all_kinds, Tally};
@@ -15,19 +15,6 @@ const CALLS_IN_ALL: usize = 200_000;
 /// Every refusal of every operation, every kind of content, every length and every room is met at least this often.
 const AT_LEAST: usize = 10;
 
-/// Makes the call, and compares answer and buffers with the model.
-fn compare(call: &Call, random: &mut Random) -> Outcome {
-    let (fill, guard) = (random.byte(), random.byte());
-    let outcome = perform(call, fill, guard);
-    check_boundary(call, &outcome, fill);
-    let expected = model::outcome(call, fill);
-    assert_eq!(outcome.answer, expected.answer, "answer in hexadecimal {:X}: {}", outcome.answer, call.line());
-    for (i, (found, wanted)) in outcome.outputs.iter().zip(&expected.outputs).enumerate() {
-        assert!(found == wanted, "output {i} is {found:02X?}, expected {wanted:02X?}: {}", call.line());
-    }
-    outcome
-}
-
 #[test]
 fn every_operation_answers_as_the_model() {
     let mut random = Random::new(SEED);
@@ -35,7 +22,7 @@ fn every_operation_answers_as_the_model() {
     for number in 0..CALLS_EACH {
         for operation in OPERATIONS {
             let generated = generate::call(operation, number, &mut random);
-            let outcome = compare(&generated.call, &mut random);
+            let outcome = compare(&generated.call, random.byte(), random.byte());
             tally.count(&generated.call, &outcome, &generated.exact);
         }
     }
@@ -68,11 +55,10 @@ fn check_tally(tally: &Tally, operation: Operation) {
 
 #[test]
 fn every_timeout_code_answers_as_the_model() {
-    let mut random = Random::new(SEED);
     for code in 0..=255 {
         let inputs = vec![vec![code]];
         let call = Call { operation: Operation::TimeoutSeconds, key: [0; 16], inputs, rooms: Vec::new() };
-        let outcome = compare(&call, &mut random);
+        let outcome = compare(&call, 0, code);
         assert_eq!(outcome.refusal() == 0, code <= 14);
     }
 }
