@@ -3,6 +3,7 @@
 mod support;
 
 use std::io::Write;
+use std::sync::Once;
 use support::calls::{check_boundary, perform, Call, Outcome};
 use support::generate::headers::{auxiliary, header};
 use support::generate::sealed::ccm_inputs;
@@ -16,11 +17,14 @@ const SEED: u64 = 0x0E77_1E00;
 const ROUNDS: usize = 5_000;
 const FILL: u8 = 0xA5;
 
-/// The library, or one line, on the standard error itself, saying that it is not compared with.
-fn nettle(what: &str) -> Option<Nettle> {
+/// The library. Where it is missing, one line on the standard error itself says so.
+fn nettle() -> Option<Nettle> {
+    static SAID: Once = Once::new();
     let nettle = Nettle::load();
     if nettle.is_none() {
-        let _ = writeln!(std::io::stderr(), "nettle is not installed: {what} are compared with the model only");
+        SAID.call_once(|| {
+            let _ = writeln!(std::io::stderr(), "nettle is not installed: skipped, compared with the model only");
+        });
     }
     nettle
 }
@@ -34,7 +38,7 @@ fn made(operation: Operation, key: [u8; 16], inputs: Vec<Vec<u8>>, rooms: Vec<us
 
 #[test]
 fn one_block_is_encrypted_as_by_nettle() {
-    let nettle = nettle("blocks");
+    let nettle = nettle();
     let mut random = Random::new(SEED);
     for _ in 0..ROUNDS {
         let (key, block) = (random.array(), random.array());
@@ -50,7 +54,7 @@ fn one_block_is_encrypted_as_by_nettle() {
 
 #[test]
 fn ccm_alone_is_that_of_nettle() {
-    let nettle = nettle("CCM's results");
+    let nettle = nettle();
     let mut random = Random::new(SEED + 1);
     for round in 0..ROUNDS {
         let key = random.array();
@@ -101,7 +105,7 @@ fn compare_opening(
 
 #[test]
 fn sealed_frames_carry_the_ciphertext_of_nettle() {
-    let nettle = nettle("sealed frames");
+    let nettle = nettle();
     let mut random = Random::new(SEED + 2);
     let mut compared = 0;
     for _ in 0..ROUNDS {

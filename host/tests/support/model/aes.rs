@@ -54,7 +54,8 @@ fn add(state: &mut [u8; 16], round_key: &[u8; 16]) {
 
 /// SubBytes and ShiftRows: byte `row` of a column comes from the column `row` places on.
 fn substitute_and_shift(state: &[u8; 16]) -> [u8; 16] {
-    std::array::from_fn(|i| s_box()[usize::from(state[(i + 4 * (i % 4)) % 16])])
+    let table = s_box();
+    std::array::from_fn(|i| table[usize::from(state[(i + 4 * (i % 4)) % 16])])
 }
 
 fn mix_columns(state: &[u8; 16]) -> [u8; 16] {
@@ -64,15 +65,28 @@ fn mix_columns(state: &[u8; 16]) -> [u8; 16] {
     })
 }
 
-pub fn encrypt(key: &[u8; 16], block: &[u8; 16]) -> [u8; 16] {
-    let round_keys = key_expansion(key);
-    let mut state = *block;
-    add(&mut state, &round_keys[0]);
-    for round_key in &round_keys[1..10] {
-        state = mix_columns(&substitute_and_shift(&state));
-        add(&mut state, round_key);
+/// The cipher under one key.
+pub struct Cipher([[u8; 16]; 11]);
+
+impl Cipher {
+    pub fn new(key: &[u8; 16]) -> Self {
+        Self(key_expansion(key))
     }
-    state = substitute_and_shift(&state);
-    add(&mut state, &round_keys[10]);
-    state
+
+    pub fn encrypt(&self, block: &[u8; 16]) -> [u8; 16] {
+        let mut state = *block;
+        add(&mut state, &self.0[0]);
+        for round_key in &self.0[1..10] {
+            state = mix_columns(&substitute_and_shift(&state));
+            add(&mut state, round_key);
+        }
+        state = substitute_and_shift(&state);
+        add(&mut state, &self.0[10]);
+        state
+    }
+}
+
+/// One block under a key.
+pub fn encrypt(key: &[u8; 16], block: &[u8; 16]) -> [u8; 16] {
+    Cipher::new(key).encrypt(block)
 }
