@@ -1,0 +1,162 @@
+//! The cases that document 01 prints under "At the boundaries", and known answers of FIPS 197 and of NIST's CCM validation
+//! set: each is asked of the codec and of the model.
+#[allow(dead_code)]
+mod support;
+
+use support::calls::{Call, Outcome};
+use support::compare::compare;
+use support::hex::unhex;
+use support::operations::{Operation, AUXILIARY_RECORD, COMMAND_RECORD, HEADER_RECORD};
+
+const FILL: u8 = 0xA5;
+
+fn bytes(text: &str) -> Vec<u8> {
+    unhex(&text.replace(' ', "")).expect("hexadecimal digits")
+}
+
+/// The outcome of a call, which codec and model agree on.
+fn asked(operation: Operation, key: [u8; 16], inputs: Vec<Vec<u8>>, rooms: Vec<usize>) -> Outcome {
+    compare(&Call { operation, key, inputs, rooms }, FILL, 0x96)
+}
+
+fn read_header(text: &str) -> Outcome {
+    asked(Operation::ReadHeader, [0; 16], vec![bytes(text)], vec![HEADER_RECORD])
+}
+
+fn read_frame(bytes: Vec<u8>) -> Outcome {
+    asked(Operation::ReadFrame, [0; 16], vec![bytes], vec![HEADER_RECORD, AUXILIARY_RECORD])
+}
+
+fn open(bytes: Vec<u8>) -> Outcome {
+    asked(Operation::Open, [0; 16], vec![bytes], vec![HEADER_RECORD, AUXILIARY_RECORD, 118])
+}
+
+fn read_command(text: &str) -> Vec<u8> {
+    let outcome = asked(Operation::ReadCommand, [0; 16], vec![bytes(text)], vec![COMMAND_RECORD]);
+    assert_eq!(outcome.answer, COMMAND_RECORD as u64);
+    outcome.outputs[0].clone()
+}
+
+#[test]
+fn a_short_header_is_read() {
+    let read = read_header("08 00 00 00 34 12 1E 07 AA");
+    assert_eq!(read.answer, 8);
+    let mut expected = vec![0; HEADER_RECORD];
+    (expected[1], expected[12], expected[13], expected[14], expected[15]) = (2, 0x34, 0x12, 30, 7);
+    assert_eq!(read.outputs[0], expected);
+}
+
+#[test]
+fn wrong_headers_are_refused_in_order() {
+    let cases = [
+        ("08 00 00 00 34 12 1E", 2),
+        ("0A 00 00 00 34 12 1E 07 AA", 3),
+        ("C8 00 00 00 34 12 1E 07 AA", 4),
+        ("CA 00 00 00 34 12 1E 07 AA", 3),
+        ("08 04 00 00 34 12 1E 07 02 01 34 12 78", 8),
+    ];
+    for (text, refusal) in cases {
+        assert_eq!(read_header(text).answer, refusal << 32, "{text}");
+    }
+}
+
+#[test]
+fn a_source_route_is_read() {
+    let read = read_header("08 04 00 00 34 12 1E 07 02 01 34 12 78 56");
+    assert_eq!(read.answer, 14);
+    assert_eq!(read.outputs[0][36..43], [1, 2, 1, 0x34, 0x12, 0x78, 0x56]);
+}
+
+#[test]
+fn an_unsecured_payload_has_at_most_108_bytes() {
+    for (payload, answer) in [(108, 8), (109, 12 << 32), (110, 12 << 32), (111, 1 << 32)] {
+        let mut frame = bytes("08 00 00 00 34 12 1E 07");
+        frame.resize(8 + payload, 0xAA);
+        assert_eq!(read_frame(frame).answer, answer, "{payload} bytes");
+    }
+}
+
+#[test]
+fn an_auxiliary_header_with_extended_nonce_has_14_bytes() {
+    for (n, answer) in [(5, 9 << 32), (12, 10 << 32), (13, 11 << 32), (14, 14)] {
+        let mut given = vec![0x28; 1];
+        given.resize(n, 7);
+        let read = asked(Operation::ReadAuxiliary, [0; 16], vec![given], vec![AUXILIARY_RECORD]);
+        assert_eq!(read.answer, answer, "{n} bytes");
+    }
+}
+
+#[test]
+fn ciphertext_with_mic_has_at_least_4_bytes() {
+    let mut frame = bytes("08 02 00 00 34 12 1E 07 28 00 00 00 00 01 02 03 04 05 06 07 08 00");
+    frame.extend([0; 3]);
+    assert_eq!(open(frame.clone()).refusal(), 16);
+    frame.push(0);
+    assert_eq!(open(frame).refusal(), 19);
+}
+
+/// 26 bytes of overhead with one IEEE in all: a payload of 92 fits, one of 93 does not. The empty payload opens again.
+#[test]
+fn sealing_fills_a_frame() {
+    let mut header = vec![0; HEADER_RECORD];
+    header[4] = 1;
+    let auxiliary = bytes("01 00 01 01 00 45 23 01 00 01 01 02 03 04 05 06 07 08 00");
+    let seal = |n: usize| {
+        let inputs = vec![header.clone(), auxiliary.clone(), vec![0x55; n]];
+        asked(Operation::Seal, [0; 16], inputs, vec![118])
+    };
+    assert_eq!(seal(92).answer, 118);
+    assert_eq!(seal(93).answer, 17 << 32);
+    let empty = seal(0);
+    assert_eq!(empty.answer, 26);
+    assert_eq!(open(empty.outputs[0][..26].to_vec()).answer, 0);
+}
+
+#[test]
+fn commands_are_typed_or_unparsed() {
+    let leave = read_command("04 40");
+    assert_eq!(leave[..4], [4, 0, 1, 0]);
+    let cut = read_command("04");
+    assert_eq!((cut[0], cut[426], cut[427]), (0, 1, 0x04));
+    let timeout = read_command("0B 0E 00");
+    assert_eq!(timeout[..3], [11, 14, 0]);
+    let undeclared = read_command("0B 0F 00");
+    assert_eq!((undeclared[0], &undeclared[426..430]), (0, &[3, 0x0B, 0x0F, 0x00][..]));
+    let seconds = asked(Operation::TimeoutSeconds, [0; 16], vec![vec![14]], vec![]);
+    assert_eq!(seconds.answer, 983_040);
+}
+
+#[test]
+fn a_link_status_loses_its_reserved_bits() {
+    let record = read_command("08 E1 34 12 B9");
+    assert_eq!((record[0], record[1], record[2]), (8, 1, 1));
+    assert_eq!(record[132..137], [1, 0x34, 0x12, 1, 3]);
+    let written = asked(Operation::WriteCommand, [0; 16], vec![record], vec![5]);
+    assert_eq!((written.answer, &written.outputs[0]), (5, &bytes("08 61 34 12 31")));
+}
+
+/// FIPS 197, appendix C.1.
+#[test]
+fn a_block_of_fips_197() {
+    let key = std::array::from_fn(|i| i as u8);
+    let block = bytes("00112233445566778899AABBCCDDEEFF");
+    let outcome = asked(Operation::EncryptBlock, key, vec![block], vec![16]);
+    assert_eq!(outcome.outputs[0], bytes("69C4E0D86A7B0430D8CDB78070B4C55A"));
+}
+
+/// The first entry of NIST's VTT128.rsp with a tag of 4 bytes.
+#[test]
+fn a_sealed_payload_of_nist() {
+    let key = bytes("43b1a6bc8d0d22d6d1ca95c18593cca5");
+    let key: [u8; 16] = std::array::from_fn(|i| key[i]);
+    let nonce = bytes("9882578e750b9682c6ca7f8f86");
+    let auth = bytes("2084f3861c9ad0ccee7c63a7e05aece5db8b34bd8724cc06b4ca99a7f9c4914f");
+    let payload = bytes("a2b381c7d1545c408fe29817a21dc435a154c87256346b05");
+    let ciphertext = bytes("cc69ed76985e0ed4c8365a72775e5a19bfccc71aeb116c85");
+    let mic = bytes("a8c74677");
+    let inputs = vec![nonce.clone(), auth.clone(), payload.clone()];
+    let sealed = asked(Operation::EncryptCcm, key, inputs, vec![24, 4]);
+    assert_eq!((sealed.answer, &sealed.outputs), (24, &vec![ciphertext.clone(), mic.clone()]));
+    let opened = asked(Operation::DecryptCcm, key, vec![nonce, auth, ciphertext, mic], vec![24]);
+    assert_eq!((opened.answer, &opened.outputs[0]), (24, &payload));
+}

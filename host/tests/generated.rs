@@ -1,0 +1,64 @@
+//! Generated calls over all fourteen operations, each between guard bytes and compared with a model of document 01.
+#[allow(dead_code)]
+mod support;
+
+use support::calls::Call;
+use support::compare::compare;
+use support::generate;
+use support::operations::{Operation, OPERATIONS};
+use support::random::Random;
+use support::tally::{all_kinds, Tally};
+
+const SEED: u64 = 0x5A19_BEE0_2025;
+const CALLS_EACH: usize = 24_000;
+const CALLS_IN_ALL: usize = 200_000;
+/// Every refusal of every operation, every kind of content, every length and every room is met at least this often.
+const AT_LEAST: usize = 10;
+
+#[test]
+fn every_operation_answers_as_the_model() {
+    let mut random = Random::new(SEED);
+    let mut tally = Tally::new();
+    for number in 0..CALLS_EACH {
+        for operation in OPERATIONS {
+            let generated = generate::call(operation, number, &mut random);
+            let outcome = compare(&generated.call, random.byte(), random.byte());
+            tally.count(&generated.call, &outcome, &generated.exact);
+        }
+    }
+    println!("{} calls\n{}", tally.all_calls(), tally.report());
+    assert!(tally.all_calls() >= CALLS_IN_ALL);
+    OPERATIONS.into_iter().for_each(|operation| check_tally(&tally, operation));
+}
+
+/// Acceptance, each refusal, each kind of content, each length of the bytes read and each room around the exact one were met.
+fn check_tally(tally: &Tally, operation: Operation) {
+    let shape = operation.shape();
+    assert_eq!(tally.calls(operation), CALLS_EACH, "{}", shape.name);
+    assert!(tally.answers(operation, 0) >= CALLS_EACH / 8, "{} was hardly ever accepted", shape.name);
+    for &refusal in shape.refusals {
+        let met = tally.answers(operation, refusal);
+        assert!(met >= AT_LEAST, "{} refused by {refusal} only {met} times", shape.name);
+    }
+    let (kinds, rarest) = tally.kinds(operation);
+    assert_eq!(kinds, all_kinds(operation), "{}: kinds of content accepted", shape.name);
+    assert!(rarest >= AT_LEAST, "{}: a kind of content was accepted only {rarest} times", shape.name);
+    for (i, (name, _)) in shape.inputs.iter().enumerate().filter(|(_, (_, free))| *free) {
+        let rarest = tally.rarest_length(operation, i);
+        assert!(rarest >= AT_LEAST, "{}: a length of {name} was met only {rarest} times", shape.name);
+    }
+    for i in 0..shape.outputs.len() {
+        let rarest = tally.rarest_room(operation, i);
+        assert!(rarest >= AT_LEAST, "{}: a room of output {i} was met only {rarest} times", shape.name);
+    }
+}
+
+#[test]
+fn every_timeout_code_answers_as_the_model() {
+    for code in 0..=255 {
+        let inputs = vec![vec![code]];
+        let call = Call { operation: Operation::TimeoutSeconds, key: [0; 16], inputs, rooms: Vec::new() };
+        let outcome = compare(&call, 0, code);
+        assert_eq!(outcome.refusal() == 0, code <= 14);
+    }
+}

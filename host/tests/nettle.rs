@@ -1,0 +1,136 @@
+//! AES, CCM and sealed frames compared with the model's, and with the library nettle where it is installed.
+#[allow(dead_code)]
+mod support;
+
+use std::io::Write;
+use std::sync::Once;
+use support::calls::{check_boundary, perform, Call, Outcome};
+use support::generate::headers::{auxiliary, header};
+use support::generate::sealed::ccm_inputs;
+use support::model::auxiliary::record as auxiliary_record;
+use support::model::{aes, ccm, frame, MAX_CCM, MAX_FRAME};
+use support::nettle::Nettle;
+use support::operations::{Operation, MIC};
+use support::random::Random;
+
+const SEED: u64 = 0x0E77_1E00;
+const ROUNDS: usize = 5_000;
+const FILL: u8 = 0xA5;
+
+/// The library. Where it is missing, one line on the standard error itself says so.
+fn nettle() -> Option<Nettle> {
+    static SAID: Once = Once::new();
+    let nettle = Nettle::load();
+    if nettle.is_none() {
+        SAID.call_once(|| {
+            let _ = writeln!(std::io::stderr(), "nettle is not installed: skipped, compared with the model only");
+        });
+    }
+    nettle
+}
+
+fn made(operation: Operation, key: [u8; 16], inputs: Vec<Vec<u8>>, rooms: Vec<usize>) -> Outcome {
+    let call = Call { operation, key, inputs, rooms };
+    let outcome = perform(&call, FILL, 0xC3);
+    check_boundary(&call, &outcome, FILL);
+    outcome
+}
+
+#[test]
+fn one_block_is_encrypted_as_by_nettle() {
+    let nettle = nettle();
+    let mut random = Random::new(SEED);
+    for _ in 0..ROUNDS {
+        let (key, block) = (random.array(), random.array());
+        let expected = aes::encrypt(&key, &block);
+        if let Some(nettle) = &nettle {
+            assert_eq!(nettle.block(&key, &block), expected);
+        }
+        let outcome = made(Operation::EncryptBlock, key, vec![block.to_vec()], vec![16]);
+        assert_eq!(outcome.answer, 16);
+        assert_eq!(outcome.outputs[0], expected);
+    }
+}
+
+#[test]
+fn ccm_alone_is_that_of_nettle() {
+    let nettle = nettle();
+    let mut random = Random::new(SEED + 1);
+    for round in 0..ROUNDS {
+        let key = random.array();
+        let mut inputs = ccm_inputs(Some(round % (MAX_CCM + 1)), &mut random);
+        inputs.iter_mut().for_each(|input| input.truncate(MAX_CCM));
+        let sealed = compare_sealing(nettle.as_ref(), key, &inputs);
+        let damaged = random.percent(30).then(|| random.below(8 * sealed.len()));
+        compare_opening(nettle.as_ref(), key, &inputs, sealed, damaged);
+    }
+}
+
+/// Seals nonce, authenticated data and payload; gives ciphertext and MIC.
+fn compare_sealing(nettle: Option<&Nettle>, key: [u8; 16], inputs: &[Vec<u8>]) -> Vec<u8> {
+    let [nonce, auth, payload] = [&inputs[0], &inputs[1], &inputs[2]];
+    let (ciphertext, mic) = ccm::encrypt(&key, nonce, auth, payload);
+    let expected = [ciphertext, mic.to_vec()].concat();
+    if let Some(nettle) = nettle {
+        assert_eq!(nettle.ccm_encrypt(&key, nonce, auth, payload), expected);
+    }
+    let sealed = made(Operation::EncryptCcm, key, inputs.to_vec(), vec![payload.len(), MIC]);
+    assert_eq!(sealed.answer, payload.len() as u64);
+    assert_eq!(sealed.outputs.concat(), expected);
+    expected
+}
+
+/// Opens what was sealed, perhaps with one bit flipped, which is then refused.
+fn compare_opening(
+    nettle: Option<&Nettle>,
+    key: [u8; 16],
+    inputs: &[Vec<u8>],
+    mut sealed: Vec<u8>,
+    flipped: Option<usize>,
+) {
+    let [nonce, auth, payload] = [&inputs[0], &inputs[1], &inputs[2]];
+    if let Some(bit) = flipped {
+        sealed[bit / 8] ^= 1 << (bit % 8);
+    }
+    let expected = flipped.is_none().then(|| payload.clone());
+    if let Some(nettle) = nettle {
+        assert_eq!(nettle.ccm_decrypt(&key, nonce, auth, &sealed), expected);
+    }
+    let (ciphertext, mic) = sealed.split_at(payload.len());
+    let inputs = vec![nonce.clone(), auth.clone(), ciphertext.to_vec(), mic.to_vec()];
+    let opened = made(Operation::DecryptCcm, key, inputs, vec![payload.len()]);
+    assert_eq!(opened.refusal(), if flipped.is_some() { 19 } else { 0 });
+    assert_eq!(opened.outputs[0], expected.unwrap_or(vec![FILL; payload.len()]));
+}
+
+#[test]
+fn sealed_frames_carry_the_ciphertext_of_nettle() {
+    let nettle = nettle();
+    let mut random = Random::new(SEED + 2);
+    let mut compared = 0;
+    for _ in 0..ROUNDS {
+        let (key, header, auxiliary) = (random.array(), header(100, &mut random), auxiliary(&mut random));
+        let n = random.below(60);
+        let payload = random.bytes(n);
+        let inputs = vec![header.record(), auxiliary_record(&Some(auxiliary.clone())), payload.clone()];
+        let sealed = made(Operation::Seal, key, inputs, vec![MAX_FRAME]);
+        let Some(ieee) = frame::nonce_ieee(&header, &auxiliary) else {
+            assert_eq!(sealed.refusal(), 15);
+            continue;
+        };
+        if sealed.refusal() == 17 {
+            continue;
+        }
+        assert_eq!(sealed.refusal(), 0);
+        let auth = frame::authenticated(&header, &auxiliary);
+        let (ciphertext, mic) = ccm::encrypt(&key, &frame::nonce(&auxiliary, &ieee), &auth, &payload);
+        let expected = [ciphertext, mic.to_vec()].concat();
+        if let Some(nettle) = &nettle {
+            assert_eq!(nettle.ccm_encrypt(&key, &frame::nonce(&auxiliary, &ieee), &auth, &payload), expected);
+        }
+        assert_eq!(sealed.outputs[0][auth.len()..sealed.length()], expected);
+        compared += 1;
+    }
+    println!("{compared} sealed frames compared");
+    assert!(compared >= ROUNDS / 2);
+}

@@ -1,0 +1,125 @@
+//! The sealing law of document 01, both halves, on generated data through the C boundary.
+#[allow(dead_code)]
+mod support;
+
+use support::calls::{check_boundary, perform, Call, Outcome};
+use support::generate::headers::{auxiliary, header, scatter_header};
+use support::generate::sealed::secured_frame;
+use support::model::auxiliary::record as auxiliary_record;
+use support::model::{frame, MAX_FRAME, MAX_PAYLOAD};
+use support::operations::{Operation, AUXILIARY_RECORD, HEADER_RECORD};
+use support::random::Random;
+
+const SEED: u64 = 0x5EA1_1A17;
+const ROUNDS: usize = 20_000;
+const FILL: u8 = 0xA5;
+/// The control's level and bit 7, which sealing sends as 0.
+const UNAUTHENTICATED: u8 = 0x87;
+
+fn made(call: &Call) -> Outcome {
+    let outcome = perform(call, FILL, 0x3C);
+    check_boundary(call, &outcome, FILL);
+    outcome
+}
+
+fn seal(key: [u8; 16], header: &[u8], auxiliary: &[u8], payload: &[u8]) -> Outcome {
+    let inputs = vec![header.to_vec(), auxiliary.to_vec(), payload.to_vec()];
+    made(&Call { operation: Operation::Seal, key, inputs, rooms: vec![MAX_FRAME] })
+}
+
+fn open(key: [u8; 16], bytes: &[u8], room: usize) -> Outcome {
+    let rooms = vec![HEADER_RECORD, AUXILIARY_RECORD, room];
+    made(&Call { operation: Operation::Open, key, inputs: vec![bytes.to_vec()], rooms })
+}
+
+/// The first half: opening what sealing wrote gives the same headers, the level now 0, and the same payload.
+#[test]
+fn sealed_frames_open_to_what_was_sealed() {
+    let mut random = Random::new(SEED);
+    let mut accepted = 0;
+    for _ in 0..ROUNDS {
+        let (key, header, auxiliary) = (random.array(), header(100, &mut random), auxiliary(&mut random));
+        assert!(header.agrees() && auxiliary.agrees());
+        let n = random.below(90);
+        let payload = random.bytes(n);
+        let mut handed = header.record();
+        scatter_header(&header, &mut handed, &mut random);
+
+        let sealed = seal(key, &handed, &auxiliary_record(&Some(auxiliary.clone())), &payload);
+        if sealed.refusal() != 0 {
+            assert!([15, 17].contains(&sealed.refusal()));
+            continue;
+        }
+        let opened = open(key, &sealed.outputs[0][..sealed.length()], n + random.below(3));
+        assert_eq!((opened.refusal(), opened.length()), (0, n));
+        assert_eq!(opened.outputs[0], header.record());
+        assert_eq!(opened.outputs[1], auxiliary_record(&Some(auxiliary.at_level(0))));
+        assert_eq!(opened.outputs[2][..n], payload);
+        accepted += 1;
+    }
+    println!("{accepted} frames sealed and opened");
+    assert!(accepted >= ROUNDS / 2);
+}
+
+/// The second half: sealing afresh what opening returned writes exactly the frame's bytes, if its control arrived with level
+/// and bit 7 zero; else the frame with these bits 0.
+#[test]
+fn opened_frames_seal_to_their_bytes() {
+    let mut random = Random::new(SEED + 1);
+    let (mut plain, mut other) = (0, 0);
+    for round in 0..ROUNDS {
+        let key = random.array();
+        let wanted = (round % 2 == 0).then_some(round / 2 % (MAX_FRAME + 1));
+        let bytes = secured_frame(&key, wanted, &mut random);
+        let opened = open(key, &bytes, MAX_PAYLOAD);
+        if opened.refusal() != 0 {
+            continue;
+        }
+        let sealed = seal(key, &opened.outputs[0], &opened.outputs[1], &opened.outputs[2][..opened.length()]);
+        assert_eq!((sealed.refusal(), sealed.length()), (0, bytes.len()));
+        let expected = with_plain_control(&bytes);
+        assert_eq!(sealed.outputs[0][..sealed.length()], expected);
+        if expected == bytes {
+            plain += 1;
+        } else {
+            other += 1;
+        }
+    }
+    println!("{plain} frames opened and sealed, {other} more with level or bit 7 set");
+    assert!(plain >= ROUNDS / 4 && other >= ROUNDS / 20);
+}
+
+/// Where the security control byte stands.
+fn control_place(bytes: &[u8]) -> usize {
+    let frame = frame::read(bytes).expect("a frame that was opened");
+    frame.header.bytes().len()
+}
+
+fn with_plain_control(bytes: &[u8]) -> Vec<u8> {
+    let mut plain = bytes.to_vec();
+    plain[control_place(bytes)] &= !UNAUTHENTICATED;
+    plain
+}
+
+/// Only the four bits that are not authenticated may be flipped; under another key nothing opens.
+#[test]
+fn no_other_bit_may_be_flipped() {
+    let mut random = Random::new(SEED + 2);
+    let mut frames = 0;
+    while frames < 20 {
+        let key = random.array();
+        let bytes = secured_frame(&key, None, &mut random);
+        if open(key, &bytes, MAX_PAYLOAD).refusal() != 0 {
+            continue;
+        }
+        frames += 1;
+        assert_eq!(open(random.array(), &bytes, MAX_PAYLOAD).refusal(), 19);
+        let control = control_place(&bytes);
+        for bit in 0..8 * bytes.len() {
+            let mut flipped = bytes.clone();
+            flipped[bit / 8] ^= 1 << (bit % 8);
+            let free = bit / 8 == control && UNAUTHENTICATED >> (bit % 8) & 1 == 1;
+            assert_eq!(open(key, &flipped, MAX_PAYLOAD).refusal() == 0, free, "bit {bit} of {bytes:02X?}");
+        }
+    }
+}

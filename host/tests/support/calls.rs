@@ -1,0 +1,129 @@
+//! One call through the C boundary, made between guard bytes, and what must hold after every call.
+use super::guarded::Guarded;
+use super::hex::hex;
+use super::operations::{Extent, Operation};
+use store_reader::sys;
+
+/// An operation with its inputs and the lengths of its lent outputs, in the order of its parameters.
+#[derive(Clone, Debug)]
+pub struct Call {
+    pub operation: Operation,
+    pub key: [u8; 16],
+    pub inputs: Vec<Vec<u8>>,
+    pub rooms: Vec<usize>,
+}
+
+/// What a call answered, and the whole of each lent output afterwards.
+#[derive(Clone, PartialEq, Eq, Debug)]
+pub struct Outcome {
+    pub answer: u64,
+    pub outputs: Vec<Vec<u8>>,
+}
+
+impl Outcome {
+    pub fn length(&self) -> usize {
+        self.answer as u32 as usize
+    }
+
+    pub fn refusal(&self) -> u8 {
+        (self.answer >> 32) as u8
+    }
+
+    /// Bits 40 to 63, which are always 0.
+    fn other_bits(&self) -> u64 {
+        self.answer >> 40
+    }
+}
+
+impl Call {
+    /// The call as one line, for a report.
+    pub fn line(&self) -> String {
+        let inputs: Vec<String> = self.inputs.iter().map(|input| hex(input)).collect();
+        let name = self.operation.shape().name;
+        format!("{name} key {} inputs {} rooms {:?}", hex(&self.key), inputs.join(" "), self.rooms)
+    }
+}
+
+/// The two numbers of a key: its first eight bytes in the first, the first byte lowest.
+fn key_numbers(key: &[u8; 16]) -> (u64, u64) {
+    let half = |from: usize| u64::from_le_bytes(std::array::from_fn(|i| key[from + i]));
+    (half(0), half(8))
+}
+
+/// Makes the call with outputs filled with `fill`, every buffer between guards of the value `guard`. Guards and inputs must
+/// be unchanged afterwards.
+pub fn perform(call: &Call, fill: u8, guard: u8) -> Outcome {
+    let inputs: Vec<Guarded> = call.inputs.iter().map(|input| Guarded::new(input, guard)).collect();
+    let mut outputs: Vec<Guarded> = call.rooms.iter().map(|&room| Guarded::new(&vec![fill; room], guard)).collect();
+    let answer = through_c(call, &inputs, &mut outputs);
+    for (i, input) in inputs.iter().enumerate() {
+        assert!(input.unchanged(), "input {i} or its guards changed: {}", call.line());
+    }
+    for (i, output) in outputs.iter().enumerate() {
+        assert!(output.guards_unchanged(), "guards of output {i} changed: {}", call.line());
+    }
+    Outcome { answer, outputs: outputs.iter().map(|output| output.content().to_vec()).collect() }
+}
+
+/// What holds after every call, whatever it is expected to answer: bits, refusal number, and bytes left alone.
+pub fn check_boundary(call: &Call, outcome: &Outcome, fill: u8) {
+    let shape = call.operation.shape();
+    assert_eq!(outcome.other_bits(), 0, "bits above the refusal: {}", call.line());
+    let refusal = outcome.refusal();
+    if refusal != 0 {
+        assert!(shape.refusals.contains(&refusal), "refusal {refusal}: {}", call.line());
+        assert_eq!(outcome.length(), 0, "length beside a refusal: {}", call.line());
+    }
+    for (extent, output) in shape.outputs.iter().zip(&outcome.outputs) {
+        let written = match (refusal, *extent) {
+            (0, Extent::Length) => outcome.length(),
+            (0, Extent::Fixed(size)) => size,
+            _ => 0,
+        };
+        assert!(written <= output.len(), "more written than lent: {}", call.line());
+        assert!(output[written..].iter().all(|&byte| byte == fill), "bytes not to be touched: {}", call.line());
+    }
+}
+
+fn through_c(call: &Call, inputs: &[Guarded], outputs: &mut [Guarded]) -> u64 {
+    use Operation::*;
+    let (first, second) = key_numbers(&call.key);
+    let p = |i: usize| inputs[i].pointer();
+    let n = |i: usize| inputs[i].len();
+    let out: Vec<*mut u8> = outputs.iter_mut().map(Guarded::pointer_mut).collect();
+    let room = |i: usize| call.rooms[i];
+    // SAFETY: each pointer is that of a live buffer of the length beside it, and no two buffers overlap.
+    unsafe {
+        match call.operation {
+            ReadHeader => sys::nwk_read_header(p(0), n(0), out[0], room(0)),
+            WriteHeader => sys::nwk_write_header(p(0), n(0), out[0], room(0)),
+            ReadAuxiliary => sys::nwk_read_auxiliary(p(0), n(0), out[0], room(0)),
+            WriteAuxiliary => sys::nwk_write_auxiliary(p(0), n(0), out[0], room(0)),
+            ReadFrame => sys::nwk_read_frame(p(0), n(0), out[0], room(0), out[1], room(1)),
+            WriteFrame => sys::nwk_write_frame(p(0), n(0), p(1), n(1), out[0], room(0)),
+            Seal => sys::nwk_seal(first, second, p(0), n(0), p(1), n(1), p(2), n(2), out[0], room(0)),
+            Open => sys::nwk_open(first, second, p(0), n(0), out[0], room(0), out[1], room(1), out[2], room(2)),
+            ReadCommand => sys::nwk_read_command(p(0), n(0), out[0], room(0)),
+            WriteCommand => sys::nwk_write_command(p(0), n(0), out[0], room(0)),
+            TimeoutSeconds => sys::nwk_timeout_seconds(inputs[0].content()[0]),
+            EncryptCcm => sys::nwk_encrypt_ccm(
+                first,
+                second,
+                p(0),
+                n(0),
+                p(1),
+                n(1),
+                p(2),
+                n(2),
+                out[0],
+                room(0),
+                out[1],
+                room(1),
+            ),
+            DecryptCcm => {
+                sys::nwk_decrypt_ccm(first, second, p(0), n(0), p(1), n(1), p(2), n(2), p(3), n(3), out[0], room(0))
+            }
+            EncryptBlock => sys::nwk_encrypt_block(first, second, p(0), n(0), out[0], room(0)),
+        }
+    }
+}

@@ -1,0 +1,113 @@
+//! Damage to a call's inputs: bits flipped, bytes cut, records of wrong length or with bytes out of range.
+use super::LONG;
+use crate::support::calls::Call;
+use crate::support::operations::Operation;
+use crate::support::random::Random;
+
+/// Values at the edges of what some field can take.
+const EDGES: [u8; 24] = [0, 1, 2, 3, 4, 5, 7, 8, 14, 15, 16, 20, 21, 31, 32, 35, 36, 53, 54, 55, 108, 109, 0x80, 0xF0];
+
+/// Where a command record's counts stand, and its list entries that can be out of range.
+const COMMAND_COUNTS: [usize; 5] = [25, 132, 257, 320, 426];
+const LINK_STATUS_PLACES: usize = 133;
+
+pub fn call(call: &mut Call, random: &mut Random) {
+    use Operation::*;
+    if random.below(200) == 0 && call.operation != TimeoutSeconds {
+        let input = random.below(call.inputs.len());
+        return prolong(&mut call.inputs[input], random);
+    }
+    match call.operation {
+        ReadHeader | ReadAuxiliary | ReadFrame | Open | ReadCommand => bytes(&mut call.inputs[0], random),
+        WriteHeader | WriteFrame => record(&mut call.inputs[0], 40, random),
+        WriteAuxiliary => record(&mut call.inputs[0], 19, random),
+        Seal => {
+            record(&mut call.inputs[0], 40, random);
+            record(&mut call.inputs[1], 19, random);
+        }
+        WriteCommand => command_record(&mut call.inputs[0], random),
+        EncryptCcm => odd_length(&mut call.inputs[0], random),
+        DecryptCcm => {
+            odd_length(&mut call.inputs[0], random);
+            odd_length(&mut call.inputs[3], random);
+            if random.percent(30) {
+                let at = random.below(4);
+                flip(&mut call.inputs[at], random);
+            }
+        }
+        TimeoutSeconds | EncryptBlock => {}
+    }
+}
+
+/// Makes an input far too long, by a length whose lowest bits are 0.
+fn prolong(bytes: &mut Vec<u8>, random: &mut Random) {
+    let more = random.pick(&LONG);
+    bytes.resize(bytes.len() + more, 0);
+}
+
+/// Bytes read from the air: mostly left alone.
+fn bytes(bytes: &mut Vec<u8>, random: &mut Random) {
+    match random.below(20) {
+        0..=3 => (0..random.between(1, 3)).for_each(|_| flip(bytes, random)),
+        4 => {
+            // frame control, security control or the command identifier
+            let front = bytes.len().min(2);
+            let random_front = random.bytes(front);
+            bytes[..front].copy_from_slice(&random_front);
+        }
+        5 => {
+            let cut = random.between(1, 20);
+            bytes.truncate(bytes.len().saturating_sub(cut));
+        }
+        6 => *bytes = random.bytes(bytes.len()),
+        _ => {}
+    }
+}
+
+/// Flips one bit.
+pub fn flip(bytes: &mut [u8], random: &mut Random) {
+    if !bytes.is_empty() {
+        bytes[random.below(bytes.len())] ^= 1 << random.below(8);
+    }
+}
+
+/// A record of another length, or one of its first bytes changed.
+fn record(record: &mut Vec<u8>, front: usize, random: &mut Random) {
+    match random.below(20) {
+        0 => wrong_length(record, random),
+        1..=3 => change(&mut record[random.below(front)], random),
+        _ => {}
+    }
+}
+
+fn command_record(record: &mut Vec<u8>, random: &mut Random) {
+    match random.below(20) {
+        0 => wrong_length(record, random),
+        1..=3 => change(&mut record[random.below(25)], random),
+        4 => change(&mut record[random.pick(&COMMAND_COUNTS)], random),
+        5 => {
+            let entry = random.below(usize::from(record[132]).clamp(1, 31));
+            change(&mut record[LINK_STATUS_PLACES + 4 * entry + random.between(2, 3)], random);
+        }
+        _ => {}
+    }
+}
+
+fn change(byte: &mut u8, random: &mut Random) {
+    *byte = if random.bit() { random.byte() } else { random.pick(&EDGES) };
+}
+
+fn wrong_length(record: &mut Vec<u8>, random: &mut Random) {
+    let size = record.len();
+    let other = random.pick(&[0, 1, size - 1, size + 1, size / 2, size + 40]);
+    record.resize(other, 1);
+}
+
+/// Sometimes a nonce or a MIC of another length.
+fn odd_length(bytes: &mut Vec<u8>, random: &mut Random) {
+    if random.percent(5) {
+        let size = bytes.len();
+        let other = random.pick(&[0, size - 1, size + 1, size + 16]);
+        bytes.resize(other, 0);
+    }
+}

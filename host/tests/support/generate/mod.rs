@@ -1,0 +1,103 @@
+//! Generated calls: mostly valid inputs, then damage, then outputs of a room around the one that is needed.
+pub mod commands;
+pub mod damage;
+pub mod headers;
+pub mod sealed;
+
+use super::calls::Call;
+use super::model;
+use super::operations::{Extent, Operation};
+use super::random::Random;
+use super::tally::{AROUND, LONGEST};
+
+/// A call, and how many bytes each of its outputs needs.
+pub struct Generated {
+    pub call: Call,
+    pub exact: Vec<usize>,
+}
+
+/// Room that is never short.
+const ROOMY: usize = 1000;
+/// What is lent, more or less, where nothing can be written anyway.
+const ANY_ROOM: usize = 30;
+/// Lengths whose lowest bits are all 0: a length cut to 8 or 16 bits would be short.
+pub const LONG: [usize; 3] = [256, 512, 65_536];
+
+/// The call of a number. Half of the numbers go through the lengths 0 to 130 of the bytes read, the others take the length
+/// that the content has of itself.
+pub fn call(operation: Operation, number: usize, random: &mut Random) -> Generated {
+    let wanted = (number / (LONGEST + 1) % 2 == 0).then_some(number % (LONGEST + 1));
+    let mut call = undamaged(operation, wanted, random);
+    let before = needed(&call).unwrap_or_else(|| fallback(operation));
+    damage::call(&mut call, random);
+    let exact = needed(&call).unwrap_or(before);
+    call.rooms = rooms(&exact, random);
+    Generated { call, exact }
+}
+
+fn undamaged(operation: Operation, wanted: Option<usize>, random: &mut Random) -> Call {
+    use Operation::*;
+    let key = random.array();
+    let inputs = match operation {
+        ReadHeader => vec![headers::header_bytes(wanted, random)],
+        WriteHeader => vec![headers::any_header_record(random)],
+        ReadAuxiliary => vec![headers::auxiliary_bytes(wanted, random)],
+        WriteAuxiliary => vec![headers::any_auxiliary_record(random)],
+        ReadFrame | Open => vec![sealed::frame(&key, wanted, random)],
+        WriteFrame => vec![headers::any_header_record(random), payload(wanted, random)],
+        Seal => {
+            vec![headers::any_header_record(random), headers::any_auxiliary_record(random), payload(wanted, random)]
+        }
+        ReadCommand => vec![commands::bytes(wanted, random)],
+        WriteCommand => vec![commands::record(random)],
+        TimeoutSeconds => vec![vec![if random.bit() { random.below(16) as u8 } else { random.byte() }]],
+        EncryptCcm => sealed::ccm_inputs(wanted, random),
+        DecryptCcm => sealed::ccm_sealed_inputs(&key, wanted, random),
+        EncryptBlock => vec![block(wanted, random)],
+    };
+    Call { operation, key, inputs, rooms: Vec::new() }
+}
+
+fn payload(wanted: Option<usize>, random: &mut Random) -> Vec<u8> {
+    let n = wanted.unwrap_or_else(|| random.below(60));
+    random.bytes(n)
+}
+
+/// Mostly of 16 bytes.
+fn block(wanted: Option<usize>, random: &mut Random) -> Vec<u8> {
+    let odd = random.percent(40);
+    random.bytes(wanted.filter(|_| odd).unwrap_or(16))
+}
+
+/// What each output needs, none where the call is refused however much is lent.
+fn needed(call: &Call) -> Option<Vec<usize>> {
+    let rooms = vec![ROOMY; call.operation.shape().outputs.len()];
+    let done = model::run(&Call { rooms, ..call.clone() }).ok()?;
+    Some(done.written.iter().map(Vec::len).collect())
+}
+
+fn fallback(operation: Operation) -> Vec<usize> {
+    let size = |extent: &Extent| match *extent {
+        Extent::Fixed(size) => size,
+        Extent::Length => ANY_ROOM,
+    };
+    operation.shape().outputs.iter().map(size).collect()
+}
+
+/// One output takes any room around the exact one, the others mostly enough.
+fn rooms(exact: &[usize], random: &mut Random) -> Vec<usize> {
+    let narrow = random.below(exact.len().max(1));
+    exact.iter().enumerate().map(|(i, &needed)| room(needed, i == narrow, random)).collect()
+}
+
+fn room(needed: usize, narrow: bool, random: &mut Random) -> usize {
+    if random.below(200) == 0 {
+        return random.pick(&LONG) + random.below(3);
+    }
+    match random.below(20) {
+        0 if narrow => 0,
+        1..=8 if narrow => (needed + random.below(2 * AROUND as usize + 1)).saturating_sub(AROUND as usize),
+        9..=12 => needed,
+        _ => needed + random.between(AROUND as usize + 1, 40),
+    }
+}

@@ -1,0 +1,66 @@
+//! Generated frames, most of them sealed under the call's key, and inputs of CCM alone.
+use super::headers;
+use crate::support::model::{ccm, frame, MAX_FRAME, MAX_PAYLOAD};
+use crate::support::random::Random;
+use crate::support::tally::LONGEST;
+
+const NONCE: usize = 13;
+
+/// A frame's bytes, brought to the length wanted. Most are secured and carry the right MIC.
+pub fn frame(key: &[u8; 16], wanted: Option<usize>, random: &mut Random) -> Vec<u8> {
+    let near_longest = wanted.unwrap_or(0) > MAX_FRAME - 4;
+    if random.percent(if near_longest { 40 } else { 12 }) {
+        return unsecured_frame(near_longest, wanted, random);
+    }
+    let bytes = secured_frame(key, wanted, random);
+    headers::sized(bytes, wanted, random)
+}
+
+/// A frame without auxiliary header. Behind the shortest header a payload can be longer than 108 bytes.
+fn unsecured_frame(shortest: bool, wanted: Option<usize>, random: &mut Random) -> Vec<u8> {
+    let header = if shortest { headers::plain_header(random) } else { headers::header(0, random) };
+    let mut bytes = header.bytes();
+    let behind = random.below(MAX_PAYLOAD).min(MAX_FRAME.saturating_sub(bytes.len()));
+    bytes.extend(random.bytes(behind));
+    headers::sized(bytes, wanted, random)
+}
+
+/// A frame with auxiliary header; its payload is as long as the length wanted allows. The control's level and bit 7 are
+/// sometimes not 0, which opening does not mind.
+pub fn secured_frame(key: &[u8; 16], wanted: Option<usize>, random: &mut Random) -> Vec<u8> {
+    let header = headers::header(100, random);
+    let auxiliary = headers::auxiliary(random);
+    let front = header.bytes().len();
+    let overhead = front + auxiliary.bytes().len() + ccm::MIC;
+    let natural = random.below(60).min(MAX_FRAME.saturating_sub(overhead));
+    let n = wanted.map_or(natural, |wanted| wanted.saturating_sub(overhead));
+    let payload = random.bytes(n);
+    let mut bytes = match frame::nonce_ieee(&header, &auxiliary) {
+        Some(ieee) => frame::seal(key, &header, &auxiliary, &ieee, &payload),
+        None => [header.bytes(), auxiliary.bytes(), payload, random.bytes(ccm::MIC)].concat(),
+    };
+    if random.percent(30) {
+        bytes[front] |= random.byte() & 0x87;
+    }
+    bytes
+}
+
+/// Nonce, authenticated data and payload. One of the last two has the length wanted.
+pub fn ccm_inputs(wanted: Option<usize>, random: &mut Random) -> Vec<Vec<u8>> {
+    let nonce = random.bytes(NONCE);
+    let other = match random.below(10) {
+        0 => 0,
+        1 => random.between(100, LONGEST),
+        _ => random.below(60),
+    };
+    let wanted = wanted.unwrap_or_else(|| random.below(40));
+    let (auth, payload) = if random.bit() { (wanted, other) } else { (other, wanted) };
+    vec![nonce, random.bytes(auth), random.bytes(payload)]
+}
+
+/// Nonce, authenticated data, ciphertext and the right MIC.
+pub fn ccm_sealed_inputs(key: &[u8; 16], wanted: Option<usize>, random: &mut Random) -> Vec<Vec<u8>> {
+    let inputs = ccm_inputs(wanted, random);
+    let (ciphertext, mic) = ccm::encrypt(key, &inputs[0], &inputs[1], &inputs[2]);
+    vec![inputs[0].clone(), inputs[1].clone(), ciphertext, mic.to_vec()]
+}

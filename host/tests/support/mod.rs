@@ -1,0 +1,11 @@
+//! What the tests share: calls through the C boundary between guard bytes, a model of document 01, and generated calls.
+pub mod calls;
+pub mod compare;
+pub mod generate;
+pub mod guarded;
+pub mod hex;
+pub mod model;
+pub mod nettle;
+pub mod operations;
+pub mod random;
+pub mod tally;

@@ -1,0 +1,184 @@
+//! A model of document 01 in plain Rust: each operation's refusals in order, and the bytes it writes.
+//!
+//! Written from the document and from `include/nwk.h` for the records' layouts, independently of the codec.
+pub mod aes;
+pub mod auxiliary;
+pub mod ccm;
+pub mod commands;
+pub mod frame;
+pub mod header;
+
+use super::calls::{Call, Outcome};
+use super::operations::{Operation, AUXILIARY_RECORD, COMMAND_RECORD, HEADER_RECORD, MIC};
+
+pub const MAX_FRAME: usize = 118;
+pub const MAX_PAYLOAD: usize = 108;
+pub const MAX_CCM: usize = 127;
+const NONCE: usize = 13;
+const BLOCK: usize = 16;
+
+/// An accepted call: the length answered, and the first bytes of each output.
+pub struct Done {
+    pub length: usize,
+    pub written: Vec<Vec<u8>>,
+}
+
+/// A refusal is its number alone.
+pub type Answer = Result<Done, u8>;
+
+/// The first number whose condition holds.
+pub fn refuse(conditions: &[(u8, bool)]) -> Result<(), u8> {
+    match conditions.iter().find(|(_, holds)| *holds) {
+        Some((number, _)) => Err(*number),
+        None => Ok(()),
+    }
+}
+
+/// What the codec must answer to a call.
+pub fn run(call: &Call) -> Answer {
+    let input = |i: usize| call.inputs[i].as_slice();
+    let rooms = call.rooms.as_slice();
+    match call.operation {
+        Operation::ReadHeader => read_header(input(0), rooms),
+        Operation::WriteHeader => write_header(input(0), rooms),
+        Operation::ReadAuxiliary => read_auxiliary(input(0), rooms),
+        Operation::WriteAuxiliary => write_auxiliary(input(0), rooms),
+        Operation::ReadFrame => read_frame(input(0), rooms),
+        Operation::WriteFrame => write_frame(input(0), input(1), rooms),
+        Operation::Seal => seal(&call.key, input(0), input(1), input(2), rooms),
+        Operation::Open => open(&call.key, input(0), rooms),
+        Operation::ReadCommand => read_command(input(0), rooms),
+        Operation::WriteCommand => write_command(input(0), rooms),
+        Operation::TimeoutSeconds => timeout_seconds(input(0)[0]),
+        Operation::EncryptCcm => encrypt_ccm(&call.key, input(0), input(1), input(2), rooms),
+        Operation::DecryptCcm => decrypt_ccm(&call.key, input(0), input(1), input(2), input(3), rooms),
+        Operation::EncryptBlock => encrypt_block(&call.key, input(0), rooms),
+    }
+}
+
+/// The answer as the C functions give it, and the outputs afterwards if they were filled with `fill`.
+pub fn outcome(call: &Call, fill: u8) -> Outcome {
+    let mut outputs: Vec<Vec<u8>> = call.rooms.iter().map(|&room| vec![fill; room]).collect();
+    match run(call) {
+        Err(refusal) => Outcome { answer: u64::from(refusal) << 32, outputs },
+        Ok(done) => {
+            for (output, written) in outputs.iter_mut().zip(&done.written) {
+                output[..written.len()].copy_from_slice(written);
+            }
+            Outcome { answer: done.length as u64, outputs }
+        }
+    }
+}
+
+/// An answer whose length is that of the one output.
+fn given(bytes: Vec<u8>) -> Answer {
+    Ok(Done { length: bytes.len(), written: vec![bytes] })
+}
+
+fn read_header(bytes: &[u8], rooms: &[usize]) -> Answer {
+    let (header, length) = header::read(bytes)?;
+    refuse(&[(18, rooms[0] < HEADER_RECORD)])?;
+    Ok(Done { length, written: vec![header.record()] })
+}
+
+fn write_header(record: &[u8], rooms: &[usize]) -> Answer {
+    let bytes = header::Header::of_record(record)?.bytes();
+    refuse(&[(17, bytes.len() > MAX_FRAME), (18, rooms[0] < bytes.len())])?;
+    given(bytes)
+}
+
+fn read_auxiliary(bytes: &[u8], rooms: &[usize]) -> Answer {
+    refuse(&[(1, bytes.len() > MAX_FRAME)])?;
+    let (auxiliary, length) = auxiliary::read(bytes)?;
+    refuse(&[(18, rooms[0] < AUXILIARY_RECORD)])?;
+    Ok(Done { length, written: vec![auxiliary::record(&Some(auxiliary))] })
+}
+
+fn write_auxiliary(record: &[u8], rooms: &[usize]) -> Answer {
+    let bytes = auxiliary::of_record(record)?.ok_or(13)?.bytes();
+    refuse(&[(18, rooms[0] < bytes.len())])?;
+    given(bytes)
+}
+
+fn read_frame(bytes: &[u8], rooms: &[usize]) -> Answer {
+    let frame = frame::read(bytes)?;
+    refuse(&[(18, rooms[0] < HEADER_RECORD || rooms[1] < AUXILIARY_RECORD)])?;
+    let written = vec![frame.header.record(), auxiliary::record(&frame.auxiliary)];
+    Ok(Done { length: frame.headers_length, written })
+}
+
+fn write_frame(record: &[u8], payload: &[u8], rooms: &[usize]) -> Answer {
+    let mut bytes = header::Header::of_record(record)?.bytes();
+    bytes.extend(payload);
+    let too_long = payload.len() > MAX_PAYLOAD || bytes.len() > MAX_FRAME;
+    refuse(&[(17, too_long), (18, rooms[0] < bytes.len())])?;
+    given(bytes)
+}
+
+fn seal(key: &[u8; 16], header: &[u8], auxiliary: &[u8], payload: &[u8], rooms: &[usize]) -> Answer {
+    let header = header::Header::of_record(header)?;
+    let auxiliary = auxiliary::of_record(auxiliary)?.ok_or(14)?;
+    let ieee = frame::nonce_ieee(&header, &auxiliary).ok_or(15)?;
+    let length = header.bytes().len() + auxiliary.bytes().len() + payload.len() + MIC;
+    let too_long = payload.len() > MAX_PAYLOAD || length > MAX_FRAME;
+    refuse(&[(17, too_long), (18, rooms[0] < length)])?;
+    given(frame::seal(key, &header, &auxiliary, &ieee, payload))
+}
+
+fn open(key: &[u8; 16], bytes: &[u8], rooms: &[usize]) -> Answer {
+    let frame = frame::read(bytes)?;
+    let auxiliary = frame.auxiliary.as_ref().ok_or(14)?;
+    let ieee = frame::nonce_ieee(&frame.header, auxiliary).ok_or(15)?;
+    let behind = &bytes[frame.headers_length..];
+    refuse(&[(16, behind.len() < MIC)])?;
+    let length = behind.len() - MIC;
+    let short = rooms[0] < HEADER_RECORD || rooms[1] < AUXILIARY_RECORD || rooms[2] < length;
+    refuse(&[(18, short)])?;
+    let payload = frame::open(key, &frame.header, auxiliary, &ieee, behind).ok_or(19)?;
+    let written = vec![frame.header.record(), auxiliary::record(&frame.auxiliary), payload];
+    Ok(Done { length, written })
+}
+
+fn read_command(bytes: &[u8], rooms: &[usize]) -> Answer {
+    refuse(&[(12, bytes.len() > MAX_PAYLOAD), (18, rooms[0] < COMMAND_RECORD)])?;
+    given(commands::read(bytes))
+}
+
+fn write_command(record: &[u8], rooms: &[usize]) -> Answer {
+    let bytes = commands::write(record)?;
+    refuse(&[(17, bytes.len() > MAX_PAYLOAD), (18, rooms[0] < bytes.len())])?;
+    given(bytes)
+}
+
+fn timeout_seconds(code: u8) -> Answer {
+    let length = match code {
+        0 => 10,
+        1..=14 => 60 * 2usize.pow(u32::from(code)),
+        _ => return Err(13),
+    };
+    Ok(Done { length, written: Vec::new() })
+}
+
+fn encrypt_ccm(key: &[u8; 16], nonce: &[u8], auth: &[u8], payload: &[u8], rooms: &[usize]) -> Answer {
+    refuse(&[
+        (1, auth.len() > MAX_CCM || payload.len() > MAX_CCM),
+        (13, nonce.len() != NONCE),
+        (18, rooms[0] < payload.len() || rooms[1] < MIC),
+    ])?;
+    let (ciphertext, mic) = ccm::encrypt(key, nonce, auth, payload);
+    Ok(Done { length: payload.len(), written: vec![ciphertext, mic.to_vec()] })
+}
+
+fn decrypt_ccm(key: &[u8; 16], nonce: &[u8], auth: &[u8], ciphertext: &[u8], mic: &[u8], rooms: &[usize]) -> Answer {
+    refuse(&[
+        (1, auth.len() > MAX_CCM || ciphertext.len() > MAX_CCM),
+        (13, nonce.len() != NONCE || mic.len() != MIC),
+        (18, rooms[0] < ciphertext.len()),
+    ])?;
+    given(ccm::decrypt(key, nonce, auth, ciphertext, mic).ok_or(19)?)
+}
+
+fn encrypt_block(key: &[u8; 16], block: &[u8], rooms: &[usize]) -> Answer {
+    refuse(&[(13, block.len() != BLOCK), (18, rooms[0] < BLOCK)])?;
+    given(aes::encrypt(key, &std::array::from_fn(|i| block[i])).to_vec())
+}

@@ -1,0 +1,132 @@
+//! The fourteen operations of `include/nwk.h`: their buffers, and the refusals each of them can answer.
+
+pub const HEADER_RECORD: usize = 147;
+pub const AUXILIARY_RECORD: usize = 19;
+pub const COMMAND_RECORD: usize = 535;
+pub const MIC: usize = 4;
+
+#[derive(Clone, Copy, PartialEq, Eq, Debug)]
+pub enum Operation {
+    ReadHeader,
+    WriteHeader,
+    ReadAuxiliary,
+    WriteAuxiliary,
+    ReadFrame,
+    WriteFrame,
+    Seal,
+    Open,
+    ReadCommand,
+    WriteCommand,
+    TimeoutSeconds,
+    EncryptCcm,
+    DecryptCcm,
+    EncryptBlock,
+}
+
+/// How many bytes of a lent buffer an accepted call writes.
+#[derive(Clone, Copy, PartialEq, Eq, Debug)]
+pub enum Extent {
+    /// As many as the length answered.
+    Length,
+    /// A fixed number: a record, a MIC.
+    Fixed(usize),
+}
+
+/// An input: its name, and whether its length is free, so that every length from 0 to 130 is to be tried.
+pub type Input = (&'static str, bool);
+
+pub struct Shape {
+    pub name: &'static str,
+    pub keyed: bool,
+    pub inputs: &'static [Input],
+    pub outputs: &'static [Extent],
+    pub refusals: &'static [u8],
+}
+
+use Extent::{Fixed, Length};
+use Operation::*;
+
+pub const OPERATIONS: [Operation; 14] = [
+    ReadHeader,
+    WriteHeader,
+    ReadAuxiliary,
+    WriteAuxiliary,
+    ReadFrame,
+    WriteFrame,
+    Seal,
+    Open,
+    ReadCommand,
+    WriteCommand,
+    TimeoutSeconds,
+    EncryptCcm,
+    DecryptCcm,
+    EncryptBlock,
+];
+
+impl Operation {
+    pub fn named(name: &str) -> Option<Operation> {
+        OPERATIONS.into_iter().find(|operation| operation.shape().name == name)
+    }
+
+    pub fn shape(self) -> &'static Shape {
+        &SHAPES[self as usize]
+    }
+}
+
+const fn shape(
+    name: &'static str,
+    keyed: bool,
+    inputs: &'static [Input],
+    outputs: &'static [Extent],
+    refusals: &'static [u8],
+) -> Shape {
+    Shape { name, keyed, inputs, outputs, refusals }
+}
+
+/// In the order of `OPERATIONS`. The refusals are those of the comments in `include/nwk.h`.
+static SHAPES: [Shape; 14] = [
+    shape("nwk_read_header", false, &[("bytes", true)], &[Fixed(HEADER_RECORD)], &[1, 2, 3, 4, 5, 6, 7, 8, 18]),
+    shape("nwk_write_header", false, &[("header", false)], &[Length], &[13, 17, 18]),
+    shape("nwk_read_auxiliary", false, &[("bytes", true)], &[Fixed(AUXILIARY_RECORD)], &[1, 9, 10, 11, 18]),
+    shape("nwk_write_auxiliary", false, &[("auxiliary", false)], &[Length], &[13, 18]),
+    shape(
+        "nwk_read_frame",
+        false,
+        &[("bytes", true)],
+        &[Fixed(HEADER_RECORD), Fixed(AUXILIARY_RECORD)],
+        &[1, 2, 3, 4, 5, 6, 7, 8, 9, 10, 11, 12, 18],
+    ),
+    shape("nwk_write_frame", false, &[("header", false), ("payload", true)], &[Length], &[13, 17, 18]),
+    shape(
+        "nwk_seal",
+        true,
+        &[("header", false), ("auxiliary", false), ("payload", true)],
+        &[Length],
+        &[13, 14, 15, 17, 18],
+    ),
+    shape(
+        "nwk_open",
+        true,
+        &[("bytes", true)],
+        &[Fixed(HEADER_RECORD), Fixed(AUXILIARY_RECORD), Length],
+        &[1, 2, 3, 4, 5, 6, 7, 8, 9, 10, 11, 12, 14, 15, 16, 18, 19],
+    ),
+    shape("nwk_read_command", false, &[("bytes", true)], &[Fixed(COMMAND_RECORD)], &[12, 18]),
+    shape("nwk_write_command", false, &[("command", false)], &[Length], &[13, 17, 18]),
+    shape("nwk_timeout_seconds", false, &[("code", false)], &[], &[13]),
+    shape(
+        "nwk_encrypt_ccm",
+        true,
+        &[("nonce", false), ("auth", true), ("payload", true)],
+        &[Length, Fixed(MIC)],
+        &[1, 13, 18],
+    ),
+    shape(
+        "nwk_decrypt_ccm",
+        true,
+        &[("nonce", false), ("auth", true), ("ciphertext", true), ("mic", false)],
+        &[Length],
+        &[1, 13, 18, 19],
+    ),
+    shape("nwk_encrypt_block", true, &[("block", true)], &[Length], &[13, 18]),
+];
