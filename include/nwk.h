@@ -84,7 +84,8 @@ extern "C" {
  * Auxiliary record, 19 bytes
  *
  *   offset  bytes  field
- *        0      1  presence of the auxiliary header itself; where it is 0 all the rest is 0
+ *        0      1  presence of the auxiliary header itself; where it is 0 all the rest is 0 on reading, and on writing the
+ *                  bytes at 1 to 4 and 9 must be such as their fields can take all the same
  *        1      1  security level, 0 to 7
  *        2      1  key identifier, 0 to 3
  *        3      1  extended nonce bit

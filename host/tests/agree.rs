@@ -1,5 +1,5 @@
 //! The same calls from C and from Rust: `tests/agree.c` prints what it called and what was answered, and each line is
-//! repeated here. The example `examples/seal_open.c` is built and run as well.
+//! repeated here.
 #[allow(dead_code)]
 mod support;
 
@@ -82,12 +82,4 @@ fn c_and_rust_get_the_same_answers() {
     assert_eq!(printed.lines().count(), ROUNDS * OPERATIONS.len());
     assert_eq!(calls, [ROUNDS; OPERATIONS.len()]);
     assert!(accepted.iter().all(|&n| n >= ROUNDS / 8), "accepted by operation {accepted:?}");
-}
-
-#[test]
-fn the_example_seals_and_opens() {
-    let run = built_and_run("examples/seal_open.c", &[]);
-    let printed = String::from_utf8_lossy(&run.stdout);
-    assert_eq!(run.status.code(), Some(0), "seal_open.c printed:\n{printed}");
-    assert!(printed.contains("opened, 12 bytes: store reader"), "seal_open.c printed:\n{printed}");
 }

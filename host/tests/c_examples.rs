@@ -61,5 +61,6 @@ fn the_headers_program() {
 #[test]
 fn the_example_that_seals_and_opens() {
     let printed = output("seal_open", &root().join("examples/seal_open.c"));
+    assert!(printed.contains("opened, 12 bytes: store reader\n"), "{printed}");
     assert!(printed.ends_with("damaged: refusal 19, length 0\n"), "{printed}");
 }

@@ -1,0 +1,198 @@
+//! The safe types and the C functions say the same of generated inputs: the same refusal, or values that are written and
+//! sealed as the C functions' own records are.
+#[allow(dead_code)]
+mod support;
+
+use store_reader::{
+    decrypt_ccm, encrypt_block, encrypt_ccm, open, read, seal, timeout_seconds, write, Key, NwkAuxHeader, NwkCommand,
+    NwkHeader, Refusal,
+};
+use support::calls::{perform, Call, Outcome};
+use support::generate;
+use support::model::{MAX_FRAME, MAX_PAYLOAD};
+use support::operations::{Operation, AUXILIARY_RECORD, COMMAND_RECORD, HEADER_RECORD, MIC};
+use support::random::Random;
+
+const SEED: u64 = 0x5AFE_7E57;
+const ROUNDS: usize = 4_000;
+const FILL: u8 = 0xA5;
+
+/// The generated inputs of an operation, as many as there are rounds, and how many of them the check says were accepted.
+fn accepted(operation: Operation, check: impl Fn(&Call) -> bool) -> usize {
+    let mut random = Random::new(SEED);
+    (0..ROUNDS).filter(|number| check(&generate::call(operation, *number, &mut random).call)).count()
+}
+
+fn raw(operation: Operation, key: [u8; 16], inputs: &[&[u8]], rooms: &[usize]) -> Outcome {
+    let inputs = inputs.iter().map(|input| input.to_vec()).collect();
+    perform(&Call { operation, key, inputs, rooms: rooms.to_vec() }, FILL, 0x3C)
+}
+
+/// Whether both accept; they must refuse by the same number.
+fn agree<T>(safe: &Result<T, Refusal>, raw: &Outcome, call: &Call) -> bool {
+    let number = safe.as_ref().err().map_or(0, |refusal| refusal.number());
+    assert_eq!(number, raw.refusal(), "{}", call.line());
+    number == 0
+}
+
+/// What a safe writer left in an output of this room is what the C function left, refused or not.
+fn same_written(
+    safe: impl Fn(&mut [u8]) -> Result<usize, Refusal>,
+    operation: Operation,
+    key: [u8; 16],
+    inputs: &[&[u8]],
+    room: usize,
+) {
+    let outcome = raw(operation, key, inputs, &[room]);
+    let mut out = vec![FILL; room];
+    let written = safe(&mut out);
+    let number = written.err().map_or(0, |refusal| refusal.number());
+    assert_eq!((number, written.unwrap_or(0)), (outcome.refusal(), outcome.length()), "{operation:?} {inputs:02X?}");
+    assert_eq!(out, outcome.outputs[0], "{operation:?} {inputs:02X?}");
+}
+
+#[test]
+fn headers() {
+    let count = accepted(Operation::ReadHeader, |call| {
+        let outcome = raw(Operation::ReadHeader, call.key, &[&call.inputs[0]], &[HEADER_RECORD]);
+        let safe = NwkHeader::read(&call.inputs[0]);
+        if !agree(&safe, &outcome, call) {
+            return false;
+        }
+        let (header, n) = safe.expect("accepted");
+        assert_eq!(n, outcome.length());
+        for room in [n, n.saturating_sub(1), MAX_FRAME] {
+            same_written(|out| header.write(out), Operation::WriteHeader, call.key, &[&outcome.outputs[0]], room);
+        }
+        true
+    });
+    assert!(count > ROUNDS / 4, "{count}");
+}
+
+#[test]
+fn auxiliary_headers() {
+    let count = accepted(Operation::ReadAuxiliary, |call| {
+        let outcome = raw(Operation::ReadAuxiliary, call.key, &[&call.inputs[0]], &[AUXILIARY_RECORD]);
+        let safe = NwkAuxHeader::read(&call.inputs[0]);
+        if !agree(&safe, &outcome, call) {
+            return false;
+        }
+        let (auxiliary, n) = safe.expect("accepted");
+        assert_eq!(n, outcome.length());
+        for room in [n, n - 1] {
+            same_written(|out| auxiliary.write(out), Operation::WriteAuxiliary, call.key, &[&outcome.outputs[0]], room);
+        }
+        true
+    });
+    assert!(count > ROUNDS / 4, "{count}");
+}
+
+#[test]
+fn frames_read_and_written() {
+    let count = accepted(Operation::ReadFrame, |call| {
+        let bytes = &call.inputs[0];
+        let outcome = raw(Operation::ReadFrame, call.key, &[bytes], &[HEADER_RECORD, AUXILIARY_RECORD]);
+        let safe = read(bytes);
+        if !agree(&safe, &outcome, call) {
+            return false;
+        }
+        let frame = safe.expect("accepted");
+        assert_eq!(frame.rest, &bytes[outcome.length()..]);
+        let [header, auxiliary] = [&outcome.outputs[0], &outcome.outputs[1]];
+        same_written(
+            |out| write(&frame.header, frame.rest, out),
+            Operation::WriteFrame,
+            call.key,
+            &[header, frame.rest],
+            118,
+        );
+        let key = Key::new(call.key);
+        same_written(
+            |out| seal(&key, &frame.header, frame.auxiliary.as_ref(), frame.rest, out),
+            Operation::Seal,
+            call.key,
+            &[header, auxiliary, frame.rest],
+            MAX_FRAME,
+        );
+        true
+    });
+    assert!(count > ROUNDS / 4, "{count}");
+}
+
+#[test]
+fn frames_opened_and_sealed() {
+    let count = accepted(Operation::Open, |call| {
+        let rooms = [HEADER_RECORD, AUXILIARY_RECORD, MAX_PAYLOAD];
+        let outcome = raw(Operation::Open, call.key, &[&call.inputs[0]], &rooms);
+        let key = Key::new(call.key);
+        let mut out = [FILL; MAX_PAYLOAD];
+        let safe = open(&key, &call.inputs[0], &mut out);
+        let accepted = agree(&safe, &outcome, call);
+        if let Ok(frame) = safe {
+            let [header, auxiliary] = [&outcome.outputs[0], &outcome.outputs[1]];
+            assert_eq!(frame.payload, &outcome.outputs[2][..outcome.length()]);
+            same_written(
+                |out| seal(&key, &frame.header, Some(&frame.auxiliary), frame.payload, out),
+                Operation::Seal,
+                call.key,
+                &[header, auxiliary, frame.payload],
+                MAX_FRAME,
+            );
+        }
+        assert_eq!(out[..], outcome.outputs[2]);
+        accepted
+    });
+    assert!(count > ROUNDS / 5, "{count}");
+}
+
+#[test]
+fn commands() {
+    let count = accepted(Operation::ReadCommand, |call| {
+        let outcome = raw(Operation::ReadCommand, call.key, &[&call.inputs[0]], &[COMMAND_RECORD]);
+        let safe = NwkCommand::read(&call.inputs[0]);
+        if !agree(&safe, &outcome, call) {
+            return false;
+        }
+        let command = safe.expect("accepted");
+        same_written(|out| command.write(out), Operation::WriteCommand, call.key, &[&outcome.outputs[0]], MAX_PAYLOAD);
+        true
+    });
+    assert!(count > ROUNDS / 4, "{count}");
+}
+
+#[test]
+fn timeout_codes() {
+    for code in 0..=255 {
+        let outcome = raw(Operation::TimeoutSeconds, [0; 16], &[&[code]], &[]);
+        match timeout_seconds(code) {
+            Ok(seconds) => assert_eq!((outcome.refusal(), outcome.length()), (0, seconds as usize)),
+            Err(refusal) => assert_eq!(outcome.refusal(), refusal.number()),
+        }
+    }
+}
+
+#[test]
+fn ccm_and_blocks() {
+    let mut random = Random::new(SEED);
+    for n in 0..=130 {
+        let (key, nonce, block) = (random.array(), random.array::<13>(), random.array::<16>());
+        let (auth, payload) = (random.bytes(n % 41), random.bytes(n));
+        let sealed = raw(Operation::EncryptCcm, key, &[&nonce, &auth, &payload], &[n, MIC]);
+        let mut out = vec![FILL; n];
+        match encrypt_ccm(&Key::new(key), &nonce, &auth, &payload, &mut out) {
+            Ok((length, mic)) => {
+                assert_eq!((sealed.refusal(), length, &mic[..]), (0, n, &sealed.outputs[1][..]));
+                let mut back = vec![FILL; n];
+                assert_eq!(decrypt_ccm(&Key::new(key), &nonce, &auth, &out, &mic, &mut back), Ok(n));
+                assert_eq!(back, payload);
+                let wrong = mic.map(|byte| !byte);
+                let refused = decrypt_ccm(&Key::new(key), &nonce, &auth, &out, &wrong, &mut back);
+                assert_eq!(refused.unwrap_err().number(), 19);
+            }
+            Err(refusal) => assert_eq!((refusal.number(), n > 127), (sealed.refusal(), true)),
+        }
+        assert_eq!(out, sealed.outputs[0]);
+        let one = raw(Operation::EncryptBlock, key, &[&block], &[16]);
+        assert_eq!(encrypt_block(&Key::new(key), &block).expect("a block")[..], one.outputs[0]);
+    }
+}
