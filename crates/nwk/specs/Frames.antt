@@ -1,5 +1,6 @@
 -- Reading, writing, sealing and opening frames by their records: the refusals in document 01's order. 18 is also for a
--- record lent with too little room, before 19.
+-- record lent with too little room, before 19. Each function's answer, and what it leaves in each lent buffer, is a
+-- definition over the inputs and what the buffers held before.
 -- Assumes nothing.
 use Prim.Native.Nat.{ℕ}
 use mathlib.Core.Bool.{not}
@@ -11,12 +12,13 @@ use Rattle.ccm.specs.Operations.{micLength}
 use Rattle.ccm.specs.Verification.{Verified}
 use Rattle.frame.specs.declared.OptionAuxHeader.{OptionAuxHeader}
 use Rattle.frame.specs.Reading.{auxIf, readFrame}
-use Rattle.frame.specs.Writing.{frameWriteRefusal}
+use Rattle.frame.specs.Writing.{frameWriteRefusal, frameBytes}
 use Rattle.frame.specs.Security as security
 use Rattle.frame.specs.Sealing.{sealRefusal, sealedBytes}
 use Rattle.frame.specs.Opening.{behind, verified, openRefusals}
-use Rattle.records.specs.HeaderRecord.{headerRecordSize, headerOf, badHeaderRecord}
+use Rattle.records.specs.HeaderRecord.{headerRecordSize, headerRecord, headerOf, badHeaderRecord}
 use Rattle.records.specs.AuxiliaryRecord.{auxRecordSize, auxRecord, auxOf, auxPresent, badAuxRecord}
+use Rattle.nwk.specs.Answer.{answerBy, given}
 
 -- the auxiliary header or none that a record says, and the record of one or none
 unfoldable pub auxGiven : List ℕ → OptionAuxHeader
@@ -31,10 +33,27 @@ unfoldable pub readFrameRefusal : List ℕ → ℕ → ℕ → ℕ
 readFrameRefusal f headerRoom auxRoom =
     firstOf (readFrame f .refusal ∷ on 18 (ltb headerRoom headerRecordSize) ∷ on 18 (ltb auxRoom auxRecordSize) ∷ [])
 
+-- of the frame f, with h and x in the two records before
+abbrev pub readFrameAnswer : List ℕ → List ℕ → List ℕ → ℕ
+readFrameAnswer f h x = answerBy (readFrameRefusal f (length h) (length x)) (readFrame f .length)
+
+abbrev pub readFrameHeader : List ℕ → List ℕ → List ℕ → List ℕ
+readFrameHeader f h x = given (readFrameRefusal f (length h) (length x)) (headerRecord (readFrame f .header)) h
+
+abbrev pub readFrameAuxiliary : List ℕ → List ℕ → List ℕ → List ℕ
+readFrameAuxiliary f h x = given (readFrameRefusal f (length h) (length x)) (optionRecord (readFrame f .aux)) x
+
 -- ---- writing without a key: 13 for the record, then the frame's own 13, 17 and 18
 
 unfoldable pub writeFrameRefusal : List ℕ → List ℕ → ℕ → ℕ
 writeFrameRefusal r p room = firstOf (on 13 (badHeaderRecord r) ∷ frameWriteRefusal (headerOf r) p room ∷ [])
+
+-- of the header record r and the payload p, with o in the output before
+abbrev pub writeFrameAnswer : List ℕ → List ℕ → List ℕ → ℕ
+writeFrameAnswer r p o = answerBy (writeFrameRefusal r p (length o)) (length (frameBytes (headerOf r) p))
+
+abbrev pub writeFrameOutput : List ℕ → List ℕ → List ℕ → List ℕ
+writeFrameOutput r p o = given (writeFrameRefusal r p (length o)) (frameBytes (headerOf r) p) o
 
 -- ---- sealing: 13 for a record, then the frame's own 13, 14, 15, 17 and 18
 
@@ -45,6 +64,13 @@ sealRecordsRefusal r x p room =
 -- the sealed frame
 unfoldable pub sealedRecords : List ℕ → List ℕ → List ℕ → List ℕ → List ℕ
 sealedRecords key r x p = sealedBytes security.networkLevel micLength key (headerOf r) (security.auxOf (auxGiven x)) p
+
+-- of the two records r and x and the payload p, with o in the output before
+abbrev pub sealAnswer : List ℕ → List ℕ → List ℕ → List ℕ → List ℕ → ℕ
+sealAnswer key r x p o = answerBy (sealRecordsRefusal r x p (length o)) (length (sealedRecords key r x p))
+
+abbrev pub sealOutput : List ℕ → List ℕ → List ℕ → List ℕ → List ℕ → List ℕ
+sealOutput key r x p o = given (sealRecordsRefusal r x p (length o)) (sealedRecords key r x p) o
 
 -- ---- opening
 
@@ -64,3 +90,19 @@ openRecordsRefusal key f headerRoom auxRoom room =
     ∷ on 18 (ltb auxRoom auxRecordSize)
     ∷ on 19 (not (verifiedFrame key f .valid))
     ∷ [])
+
+-- of the frame f, with h and x in the two records and o in the output before
+abbrev pub openAnswer : List ℕ → List ℕ → List ℕ → List ℕ → List ℕ → ℕ
+openAnswer key f h x o =
+    answerBy (openRecordsRefusal key f (length h) (length x) (length o)) (length (verifiedFrame key f .payload))
+
+abbrev pub openHeader : List ℕ → List ℕ → List ℕ → List ℕ → List ℕ → List ℕ
+openHeader key f h x o =
+    given (openRecordsRefusal key f (length h) (length x) (length o)) (headerRecord (readFrame f .header)) h
+
+abbrev pub openAuxiliary : List ℕ → List ℕ → List ℕ → List ℕ → List ℕ → List ℕ
+openAuxiliary key f h x o =
+    given (openRecordsRefusal key f (length h) (length x) (length o)) (optionRecord (readFrame f .aux)) x
+
+abbrev pub openOutput : List ℕ → List ℕ → List ℕ → List ℕ → List ℕ → List ℕ
+openOutput key f h x o = given (openRecordsRefusal key f (length h) (length x) (length o)) (verifiedFrame key f .payload) o

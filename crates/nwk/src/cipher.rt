@@ -8,11 +8,8 @@ ghost use mathlib.Core.Path.{_≡_};
 ghost use lib.ListN.{length};
 ghost use Rattle.types.specs.Keys.{keyBytes};
 ghost use Rattle.aes.specs.Cipher.{aes128};
-ghost use Rattle.ccm.specs.Generation.{generationEncryption};
-ghost use Rattle.ccm.specs.Verification.{decryptionVerification};
-ghost use Rattle.ccm.specs.Operations.{micLength};
 ghost use Rattle.nwk.specs.Answer.{answerBy, given};
-ghost use Rattle.nwk.specs.Cipher.{encryptRefusal, decryptLengths, decryptRefusal, blockRefusal};
+ghost use Rattle.nwk.specs.Cipher.{encryptRefusal, decryptLengths, blockRefusal, encryptAnswer, encryptOutput, encryptMic, decryptAnswer, decryptOutput};
 
 // The first of the refusals 1, 13 and 18 that holds when sealing, or 0.
 fn encrypt_refusal(auth: usize, payload: usize, nonce: usize, room: usize, mic_room: usize) -> u8
@@ -70,9 +67,9 @@ pub extern "C" fn nwk_encrypt_ccm(
     out: &mut [u8],
     mic: &mut [u8],
 ) -> u64
-    ensures answer { λ r. ⌜ r ≡ answerBy (encryptRefusal (length (now (auth .entry))) (length (now (payload .entry))) (length (now (nonce .entry))) (length (now (out .entry))) (length (now (mic .entry)))) (length (now (payload .entry))) ⌝ }
-    ensures out { λ _. ⌜ now (out .exit) ≡ given (encryptRefusal (length (now (auth .entry))) (length (now (payload .entry))) (length (now (nonce .entry))) (length (now (out .entry))) (length (now (mic .entry)))) (generationEncryption micLength (aes128 (keyBytes «key_first» «key_second»)) (now (nonce .entry)) (now (auth .entry)) (now (payload .entry)) .ciphertext) (now (out .entry)) ⌝ }
-    ensures mic { λ _. ⌜ now (mic .exit) ≡ given (encryptRefusal (length (now (auth .entry))) (length (now (payload .entry))) (length (now (nonce .entry))) (length (now (out .entry))) (length (now (mic .entry)))) (generationEncryption micLength (aes128 (keyBytes «key_first» «key_second»)) (now (nonce .entry)) (now (auth .entry)) (now (payload .entry)) .tag) (now (mic .entry)) ⌝ }
+    ensures answer { λ r. ⌜ r ≡ encryptAnswer (now (nonce .entry)) (now (auth .entry)) (now (payload .entry)) (now (out .entry)) (now (mic .entry)) ⌝ }
+    ensures out { λ _. ⌜ now (out .exit) ≡ encryptOutput (keyBytes «key_first» «key_second») (now (nonce .entry)) (now (auth .entry)) (now (payload .entry)) (now (out .entry)) (now (mic .entry)) ⌝ }
+    ensures mic { λ _. ⌜ now (mic .exit) ≡ encryptMic (keyBytes «key_first» «key_second») (now (nonce .entry)) (now (auth .entry)) (now (payload .entry)) (now (out .entry)) (now (mic .entry)) ⌝ }
 {
     let refusal = encrypt_refusal(auth.len(), payload.len(), nonce.len(), out.len(), mic.len());
     if refusal != 0 {
@@ -95,8 +92,8 @@ pub extern "C" fn nwk_decrypt_ccm(
     mic: &[u8],
     out: &mut [u8],
 ) -> u64
-    ensures answer { λ r. ⌜ r ≡ answerBy (decryptRefusal (length (now (auth .entry))) (length (now (ciphertext .entry))) (length (now (nonce .entry))) (length (now (mic .entry))) (length (now (out .entry))) (decryptionVerification micLength (aes128 (keyBytes «key_first» «key_second»)) (now (nonce .entry)) (now (auth .entry)) (now (ciphertext .entry)) (now (mic .entry)) .valid)) (length (now (ciphertext .entry))) ⌝ }
-    ensures out { λ _. ⌜ now (out .exit) ≡ given (decryptRefusal (length (now (auth .entry))) (length (now (ciphertext .entry))) (length (now (nonce .entry))) (length (now (mic .entry))) (length (now (out .entry))) (decryptionVerification micLength (aes128 (keyBytes «key_first» «key_second»)) (now (nonce .entry)) (now (auth .entry)) (now (ciphertext .entry)) (now (mic .entry)) .valid)) (decryptionVerification micLength (aes128 (keyBytes «key_first» «key_second»)) (now (nonce .entry)) (now (auth .entry)) (now (ciphertext .entry)) (now (mic .entry)) .payload) (now (out .entry)) ⌝ }
+    ensures answer { λ r. ⌜ r ≡ decryptAnswer (keyBytes «key_first» «key_second») (now (nonce .entry)) (now (auth .entry)) (now (ciphertext .entry)) (now (mic .entry)) (now (out .entry)) ⌝ }
+    ensures out { λ _. ⌜ now (out .exit) ≡ decryptOutput (keyBytes «key_first» «key_second») (now (nonce .entry)) (now (auth .entry)) (now (ciphertext .entry)) (now (mic .entry)) (now (out .entry)) ⌝ }
 {
     let refusal = decrypt_lengths(
         auth.len(),

@@ -12,12 +12,8 @@ ghost use lib.ListN.{length};
 ghost use Rattle.octets.specs.Strings.{over};
 ghost use Rattle.octets.specs.Refusals.{firstOf};
 ghost use Rattle.types.specs.Keys.{keyBytes};
-ghost use Rattle.frame.specs.Reading.{readFrame};
-ghost use Rattle.frame.specs.Writing.{frameBytes};
 ghost use Rattle.frame.specs.Security.{isAbsent};
-ghost use Rattle.records.specs.HeaderRecord.{headerRecord, headerOf};
-ghost use Rattle.nwk.specs.Answer.{answerBy, given};
-ghost use Rattle.nwk.specs.Frames.{auxGiven, optionRecord, readFrameRefusal, writeFrameRefusal, sealRecordsRefusal, sealedRecords, openNumber, verifiedFrame, openRecordsRefusal};
+ghost use Rattle.nwk.specs.Frames.{auxGiven, optionRecord, openNumber, readFrameAnswer, readFrameHeader, readFrameAuxiliary, writeFrameAnswer, writeFrameOutput, sealAnswer, sealOutput, openAnswer, openHeader, openAuxiliary, openOutput};
 
 // Whether there is an auxiliary header.
 fn is_present(aux: OptionAuxHeader) -> bool
@@ -51,9 +47,9 @@ fn put_option(out: &mut [u8], aux: OptionAuxHeader)
 // or ciphertext is the rest of the frame. Refusals 1 to 12 and 18.
 #[no_mangle]
 pub extern "C" fn nwk_read_frame(bytes: &[u8], header: &mut [u8], auxiliary: &mut [u8]) -> u64
-    ensures answer { λ r. ⌜ r ≡ answerBy (readFrameRefusal (now (bytes .entry)) (length (now (header .entry))) (length (now (auxiliary .entry)))) (readFrame (now (bytes .entry)) .length) ⌝ }
-    ensures header { λ _. ⌜ now (header .exit) ≡ given (readFrameRefusal (now (bytes .entry)) (length (now (header .entry))) (length (now (auxiliary .entry)))) (headerRecord (readFrame (now (bytes .entry)) .header)) (now (header .entry)) ⌝ }
-    ensures auxiliary { λ _. ⌜ now (auxiliary .exit) ≡ given (readFrameRefusal (now (bytes .entry)) (length (now (header .entry))) (length (now (auxiliary .entry)))) (optionRecord (readFrame (now (bytes .entry)) .aux)) (now (auxiliary .entry)) ⌝ }
+    ensures answer { λ r. ⌜ r ≡ readFrameAnswer (now (bytes .entry)) (now (header .entry)) (now (auxiliary .entry)) ⌝ }
+    ensures header { λ _. ⌜ now (header .exit) ≡ readFrameHeader (now (bytes .entry)) (now (header .entry)) (now (auxiliary .entry)) ⌝ }
+    ensures auxiliary { λ _. ⌜ now (auxiliary .exit) ≡ readFrameAuxiliary (now (bytes .entry)) (now (header .entry)) (now (auxiliary .entry)) ⌝ }
 {
     let read = frame::read_frame(bytes);
     if read.refusal != 0 {
@@ -76,8 +72,8 @@ pub extern "C" fn nwk_read_frame(bytes: &[u8], header: &mut [u8], auxiliary: &mu
 // and 18.
 #[no_mangle]
 pub extern "C" fn nwk_write_frame(header: &[u8], payload: &[u8], out: &mut [u8]) -> u64
-    ensures answer { λ r. ⌜ r ≡ answerBy (writeFrameRefusal (now (header .entry)) (now (payload .entry)) (length (now (out .entry)))) (length (frameBytes (headerOf (now (header .entry))) (now (payload .entry)))) ⌝ }
-    ensures out { λ _. ⌜ now (out .exit) ≡ given (writeFrameRefusal (now (header .entry)) (now (payload .entry)) (length (now (out .entry)))) (frameBytes (headerOf (now (header .entry))) (now (payload .entry))) (now (out .entry)) ⌝ }
+    ensures answer { λ r. ⌜ r ≡ writeFrameAnswer (now (header .entry)) (now (payload .entry)) (now (out .entry)) ⌝ }
+    ensures out { λ _. ⌜ now (out .exit) ≡ writeFrameOutput (now (header .entry)) (now (payload .entry)) (now (out .entry)) ⌝ }
 {
     if header_record::is_bad(header) {
         return answer(13, 0);
@@ -98,8 +94,8 @@ pub extern "C" fn nwk_seal(
     payload: &[u8],
     out: &mut [u8],
 ) -> u64
-    ensures answer { λ r. ⌜ r ≡ answerBy (sealRecordsRefusal (now (header .entry)) (now (auxiliary .entry)) (now (payload .entry)) (length (now (out .entry)))) (length (sealedRecords (keyBytes «key_first» «key_second») (now (header .entry)) (now (auxiliary .entry)) (now (payload .entry)))) ⌝ }
-    ensures out { λ _. ⌜ now (out .exit) ≡ given (sealRecordsRefusal (now (header .entry)) (now (auxiliary .entry)) (now (payload .entry)) (length (now (out .entry)))) (sealedRecords (keyBytes «key_first» «key_second») (now (header .entry)) (now (auxiliary .entry)) (now (payload .entry))) (now (out .entry)) ⌝ }
+    ensures answer { λ r. ⌜ r ≡ sealAnswer (keyBytes «key_first» «key_second») (now (header .entry)) (now (auxiliary .entry)) (now (payload .entry)) (now (out .entry)) ⌝ }
+    ensures out { λ _. ⌜ now (out .exit) ≡ sealOutput (keyBytes «key_first» «key_second») (now (header .entry)) (now (auxiliary .entry)) (now (payload .entry)) (now (out .entry)) ⌝ }
 {
     if header_record::is_bad(header) {
         return answer(13, 0);
@@ -139,10 +135,10 @@ pub extern "C" fn nwk_open(
     auxiliary: &mut [u8],
     out: &mut [u8],
 ) -> u64
-    ensures answer { λ r. ⌜ r ≡ answerBy (openRecordsRefusal (keyBytes «key_first» «key_second») (now (bytes .entry)) (length (now (header .entry))) (length (now (auxiliary .entry))) (length (now (out .entry)))) (length (verifiedFrame (keyBytes «key_first» «key_second») (now (bytes .entry)) .payload)) ⌝ }
-    ensures header { λ _. ⌜ now (header .exit) ≡ given (openRecordsRefusal (keyBytes «key_first» «key_second») (now (bytes .entry)) (length (now (header .entry))) (length (now (auxiliary .entry))) (length (now (out .entry)))) (headerRecord (readFrame (now (bytes .entry)) .header)) (now (header .entry)) ⌝ }
-    ensures auxiliary { λ _. ⌜ now (auxiliary .exit) ≡ given (openRecordsRefusal (keyBytes «key_first» «key_second») (now (bytes .entry)) (length (now (header .entry))) (length (now (auxiliary .entry))) (length (now (out .entry)))) (optionRecord (readFrame (now (bytes .entry)) .aux)) (now (auxiliary .entry)) ⌝ }
-    ensures out { λ _. ⌜ now (out .exit) ≡ given (openRecordsRefusal (keyBytes «key_first» «key_second») (now (bytes .entry)) (length (now (header .entry))) (length (now (auxiliary .entry))) (length (now (out .entry)))) (verifiedFrame (keyBytes «key_first» «key_second») (now (bytes .entry)) .payload) (now (out .entry)) ⌝ }
+    ensures answer { λ r. ⌜ r ≡ openAnswer (keyBytes «key_first» «key_second») (now (bytes .entry)) (now (header .entry)) (now (auxiliary .entry)) (now (out .entry)) ⌝ }
+    ensures header { λ _. ⌜ now (header .exit) ≡ openHeader (keyBytes «key_first» «key_second») (now (bytes .entry)) (now (header .entry)) (now (auxiliary .entry)) (now (out .entry)) ⌝ }
+    ensures auxiliary { λ _. ⌜ now (auxiliary .exit) ≡ openAuxiliary (keyBytes «key_first» «key_second») (now (bytes .entry)) (now (header .entry)) (now (auxiliary .entry)) (now (out .entry)) ⌝ }
+    ensures out { λ _. ⌜ now (out .exit) ≡ openOutput (keyBytes «key_first» «key_second») (now (bytes .entry)) (now (header .entry)) (now (auxiliary .entry)) (now (out .entry)) ⌝ }
 {
     if header.len() < header_record::HEADER_RECORD_SIZE {
         return answer(short_refusal(bytes, out.len()), 0);
