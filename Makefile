@@ -29,7 +29,7 @@ $(ARCHIVE): $(RATTLE)
 	@echo "proving and compiling the codec, some minutes the first time"
 	log=$$(mktemp)
 	trap 'rm -f "$$log"' EXIT
-	rt staticlib nwk 2>&1 | tee "$$log" | sed -n '/^rt: .* proved/p' || { cat "$$log"; exit 1; }
+	rt staticlib nwk 2>&1 | tee "$$log" | sed -un '/^rt: .* proved/p' || { cat "$$log"; exit 1; }
 	touch $@
 
 $(COMMAND): $(ARCHIVE) $(HOST)
@@ -40,7 +40,7 @@ $(COMMAND): $(ARCHIVE) $(HOST)
 test:
 	@log=$$(mktemp)
 	trap 'rm -f "$$log"' EXIT
-	rt ci | tee "$$log" | sed '$$d' || { tail -n 1 "$$log"; exit 1; }
+	rt ci | tee "$$log" | sed -u '$$d' || { tail -n 1 "$$log"; exit 1; }
 	count=$$(tail -n 1 "$$log")
 	[[ $$count =~ ^[0-9]+\ passed,\ 0\ failed$$ ]]
 	$(MAKE) --no-print-directory host-test

@@ -56,8 +56,10 @@ enum Format {
 const LINK_TYPE_WITH_FCS: u32 = 195;
 const LINK_TYPE_WITHOUT_FCS: u32 = 230;
 
-/// No radio frame of this kind is longer; a record that claims more is not one.
-const LONGEST_RECORD: u32 = 65_535;
+const RECORD_HEADER: usize = 16;
+
+/// No radio frame is nearly as long; a record that claims more is none.
+const LONGEST_RECORD: usize = 65_535;
 
 impl Source {
     /// Opens a file, or standard input where none or `-` is named.
@@ -75,14 +77,13 @@ impl Source {
     pub fn new(mut input: Box<dyn Read>) -> Result<Self, String> {
         let mut magic = Vec::new();
         input.by_ref().take(4).read_to_end(&mut magic).map_err(|e| e.to_string())?;
-        let lines = |magic, input| Self::with(Box::new(BufReader::new(Cursor::new(magic).chain(input))), Format::Lines);
         match magic[..] {
             [0xD4, 0xC3, 0xB2, 0xA1] | [0x4D, 0x3C, 0xB2, 0xA1] => Self::capture(BufReader::new(input), true),
             [0xA1, 0xB2, 0xC3, 0xD4] | [0xA1, 0xB2, 0x3C, 0x4D] => Self::capture(BufReader::new(input), false),
             [0x0A, 0x0D, 0x0D, 0x0A] => {
                 Err("a pcapng capture; only pcap is read (`editcap -F pcap IN OUT` converts it)".to_string())
             }
-            _ => Ok(lines(magic, input)),
+            _ => Ok(Self::with(Box::new(BufReader::new(Cursor::new(magic).chain(input))), Format::Lines)),
         }
     }
 
@@ -133,34 +134,54 @@ impl Source {
 
     fn next_record(&mut self, little_endian: bool, with_fcs: bool) -> Option<(Place, Content)> {
         self.count += 1;
-        let place = Place::Record(self.count);
-        let mut header = Vec::new();
-        let read = self.input.by_ref().take(16).read_to_end(&mut header);
-        if matches!(read, Ok(0)) {
-            return None;
-        }
-        let content = record_header(read, &header, little_endian)
-            .and_then(|(captured, whole)| self.record_bytes(captured, whole))
-            .map(|bytes| bytes.map_or_else(Content::Broken, |bytes| mac_content(&bytes, with_fcs)))
-            .unwrap_or_else(|why| {
+        let content = match self.record(little_endian) {
+            Ok(None) => return None,
+            Ok(Some(record)) if record.bytes.len() < record.whole => Content::Broken(format!(
+                "only {} of the frame's {} bytes were captured",
+                record.bytes.len(),
+                record.whole
+            )),
+            Ok(Some(record)) => mac_content(&record.bytes, with_fcs),
+            Err(why) => {
                 self.ended = true;
                 Content::Broken(why)
-            });
-        Some((place, content))
+            }
+        };
+        Some((Place::Record(self.count), content))
     }
 
-    /// The bytes of a record, or why they are not a whole frame; an error ends the capture.
-    fn record_bytes(&mut self, captured: u32, whole: u32) -> Result<Result<Vec<u8>, String>, String> {
-        let mut bytes = Vec::new();
-        self.input.by_ref().take(captured.into()).read_to_end(&mut bytes).map_err(|e| e.to_string())?;
-        if bytes.len() < captured as usize {
+    /// The next record, none at the capture's end. Behind an error nothing more can be read.
+    fn record(&mut self, little_endian: bool) -> Result<Option<Record>, String> {
+        let header = self.bytes(RECORD_HEADER)?;
+        if header.is_empty() {
+            return Ok(None);
+        }
+        let Ok([_, _, _, _, _, _, _, _, a, b, c, d, e, f, g, h]) = <[u8; RECORD_HEADER]>::try_from(header) else {
+            return Err("the capture ends inside this record's header".to_string());
+        };
+        let captured = number([a, b, c, d], little_endian) as usize;
+        if captured > LONGEST_RECORD {
+            return Err(format!("the record claims {captured} bytes; the rest of the capture is not read"));
+        }
+        let bytes = self.bytes(captured)?;
+        if bytes.len() < captured {
             return Err("the capture ends inside this record".to_string());
         }
-        if captured < whole {
-            return Ok(Err(format!("only {captured} of the frame's {whole} bytes were captured")));
-        }
-        Ok(Ok(bytes))
+        Ok(Some(Record { bytes, whole: number([e, f, g, h], little_endian) as usize }))
     }
+
+    /// The next n bytes, fewer at the input's end.
+    fn bytes(&mut self, n: usize) -> Result<Vec<u8>, String> {
+        let mut bytes = Vec::new();
+        self.input.by_ref().take(n as u64).read_to_end(&mut bytes).map_err(|e| e.to_string())?;
+        Ok(bytes)
+    }
+}
+
+/// A record of a capture: the bytes captured, and how many the frame had.
+struct Record {
+    bytes: Vec<u8>,
+    whole: usize,
 }
 
 impl Iterator for Source {
@@ -188,19 +209,6 @@ fn line_content(line: &str) -> Option<Content> {
             Err(e) => Content::Broken(e.to_string()),
         }),
     }
-}
-
-/// How many bytes of a record were captured, and how many the frame had.
-fn record_header(read: io::Result<usize>, header: &[u8], little_endian: bool) -> Result<(u32, u32), String> {
-    read.map_err(|e| e.to_string())?;
-    let Ok([_, _, _, _, _, _, _, _, a, b, c, d, e, f, g, h]) = <[u8; 16]>::try_from(header) else {
-        return Err("the capture ends inside this record's header".to_string());
-    };
-    let captured = number([a, b, c, d], little_endian);
-    if captured > LONGEST_RECORD {
-        return Err(format!("the record claims {captured} bytes; the rest of the capture is not read"));
-    }
-    Ok((captured, number([e, f, g, h], little_endian)))
 }
 
 /// What a MAC frame carries, its FCS taken off first where it has one.
