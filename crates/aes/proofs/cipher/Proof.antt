@@ -15,18 +15,6 @@ Inv-loop keys table s₀ n₀ s n = (0 < n) × (n ≤ 10) × (s ≡ rounds keys 
 abbrev μ-loop : tie.MeasureT-loop
 μ-loop keys table s₀ n₀ s n = 10 - n
 
-s-box-requires : tie.Need-s-box-requires Inv-loop μ-loop
-s-box-requires c κs = search needs
-
-load-requires : tie.Need-load-requires Inv-loop μ-loop
-load-requires c κs = search needs
-
-element-copy-out-add-round-key : tie.Need-element-copy-out-add-round-key Inv-loop μ-loop
-element-copy-out-add-round-key c = search needs
-
-add-round-key-requires : tie.Need-add-round-key-requires Inv-loop μ-loop
-add-round-key-requires c κs = search needs
-
 loop-holds : tie.Need-loop-holds Inv-loop μ-loop
 unfolding rounds
 loop-holds c = (search needs, search needs, refl)
@@ -36,9 +24,6 @@ mul-round c = omega arith
 
 element-copy-out-round : tie.Need-element-copy-out-round Inv-loop μ-loop
 element-copy-out-round c = omega arith
-
-round-requires : tie.Need-round-requires Inv-loop μ-loop
-round-requires c κs = search needs
 
 add-n : tie.Need-add-n Inv-loop μ-loop
 add-n c = omega arith
@@ -50,15 +35,6 @@ loop-again : tie.Need-loop-again Inv-loop μ-loop
 loop-again c =
     (search needs, search needs, rw (c .round .ensures, c .before .before .before .before .loop .inv .2) (rounds-next _ _ _ (c .before .before .before .before .loop .inv .0)))
 
-element-copy-out-last-round : tie.Need-element-copy-out-last-round Inv-loop μ-loop
-element-copy-out-last-round c = search needs
-
-last-round-requires : tie.Need-last-round-requires Inv-loop μ-loop
-last-round-requires c κs = search needs
-
-store-requires : tie.Need-store-requires Inv-loop μ-loop
-store-requires c κs = search needs
-
 returns : tie.Need-returns Inv-loop μ-loop
 unfolding lastRound cipher
 returns c =
@@ -68,21 +44,6 @@ returns c =
 pub cipher-spec : {M : Type 1} → statement M
 cipher-spec =
     tie.close
-    (tie.spec
-    Inv-loop
-    μ-loop
-    s-box-requires
-    load-requires
-    element-copy-out-add-round-key
-    add-round-key-requires
-    loop-holds
-    mul-round
-    element-copy-out-round
-    round-requires
-    add-n
-    loop-less
-    loop-again
-    element-copy-out-last-round
-    last-round-requires
-    store-requires
-    returns)
+    (tie.spec Inv-loop μ-loop (λ c κs. search needs) (λ c κs. search needs) (λ c. search needs) (λ c κs. search needs)
+    loop-holds mul-round element-copy-out-round (λ c κs. search needs) add-n loop-less loop-again (λ c. search needs)
+    (λ c κs. search needs) (λ c κs. search needs) returns)

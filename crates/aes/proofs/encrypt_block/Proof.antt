@@ -5,14 +5,8 @@ use Rattle.aes.proofs.Block.{cipher-aes128}
 use Rattle.aes.proofs.encrypt_block.Statement.{statement}
 use Rattle.aes.proofs.encrypt_block.Tie as tie
 
-key-expansion-requires : tie.Need-key-expansion-requires
-key-expansion-requires c κs = search needs
-
-cipher-requires : tie.Need-cipher-requires
-cipher-requires c κs = search needs
-
 returns : tie.Need-returns
 returns c = cipher-aes128 _ _ (c .before .before .key-expansion .ensures) (c .cipher .ensures)
 
 pub encrypt-block-spec : {M : Type 1} → statement M
-encrypt-block-spec = tie.close (tie.spec key-expansion-requires cipher-requires returns)
+encrypt-block-spec = tie.close (tie.spec (λ c κs. search needs) (λ c κs. search needs) returns)

@@ -17,18 +17,9 @@ Inv-loop table w₀ keys₀ n₀ w keys n = (n ≤ 10) × (w ≡ wordsFrom w₀ 
 abbrev μ-loop : tie.MeasureT-loop
 μ-loop table w₀ keys₀ n₀ w keys n = 10 - n
 
-s-box-requires : tie.Need-s-box-requires Inv-loop μ-loop
-s-box-requires c κs = search needs
-
-load-requires : tie.Need-load-requires Inv-loop μ-loop
-load-requires c κs = search needs
-
 loop-holds : tie.Need-loop-holds Inv-loop μ-loop
 unfolding wordsFrom roundKeys
 loop-holds c = (search needs, refl, refl)
-
-next-round-key-requires : tie.Need-next-round-key-requires Inv-loop μ-loop
-next-round-key-requires c κs = search needs
 
 add-keys : tie.Need-add-keys Inv-loop μ-loop
 add-keys c = omega arith
@@ -60,17 +51,5 @@ returns c =
 pub key-expansion-spec : {M : Type 1} → statement M
 key-expansion-spec =
     tie.close
-    (tie.spec
-    Inv-loop
-    μ-loop
-    s-box-requires
-    load-requires
-    loop-holds
-    next-round-key-requires
-    add-keys
-    mul-keys
-    array-set-from-keys
-    add-n
-    loop-less
-    loop-again
-    returns)
+    (tie.spec Inv-loop μ-loop (λ c κs. search needs) (λ c κs. search needs) loop-holds (λ c κs. search needs) add-keys
+    mul-keys array-set-from-keys add-n loop-less loop-again returns)

@@ -5,9 +5,6 @@ use Rattle.command_bodies.proofs.address_at.Statement.{statement}
 use Rattle.command_bodies.proofs.address_at.Tie as tie
 use Rattle.commands.specs.Commands.{addressOf}
 
-read-u64-requires : tie.Need-read-u64-requires
-read-u64-requires c κs = search needs
-
 returns : tie.Need-returns
 unfolding addressOf
 returns c = rw (c .read-u64 .ensures, eq-eqb _ _ (c .before .if1 .taken))
@@ -17,4 +14,4 @@ unfolding addressOf
 returns-2 c = rw (ne-eqb _ _ (c .if1 .left))
 
 pub address-at-spec : {M : Type 1} → statement M
-address-at-spec = tie.close (tie.spec read-u64-requires returns returns-2)
+address-at-spec = tie.close (tie.spec (λ c κs. search needs) returns returns-2)

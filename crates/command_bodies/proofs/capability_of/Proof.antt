@@ -6,15 +6,9 @@ use Rattle.octets.specs.Fields.{fields}
 use Rattle.commands.specs.Commands.{capabilityOf}
 use Rattle.command_bodies.specs.Capability.{capabilityByte}
 
-from-bit-requires : tie.Need-from-bit-requires
-from-bit-requires c κs = search needs
-
-from-bit-requires-2 : tie.Need-from-bit-requires-2
-from-bit-requires-2 c κs = search needs
-
 returns : tie.Need-returns
 unfolding capabilityByte capabilityOf fields
 returns c = rw (c .before .from-bit .ensures, c .from-bit2 .ensures)
 
 pub capability-of-spec : {M : Type 1} → statement M
-capability-of-spec = tie.close (tie.spec from-bit-requires from-bit-requires-2 returns)
+capability-of-spec = tie.close (tie.spec (λ c κs. search needs) (λ c κs. search needs) returns)

@@ -20,30 +20,12 @@ unfolding values bodyEnd headEnd announced summed plus readFields readField kept
 returns c =
     short NwkCommandId.NetworkCommissioningRequest (c .before .before .args .s .now) (c .if1 .taken)
 
-byte-at-requires : tie.Need-byte-at-requires
-byte-at-requires c κs = search needs
-
-try-from-requires : tie.Need-try-from-requires
-try-from-requires c κs = search needs
-
-enum-known-commissioning-type : tie.Need-enum-known-commissioning-type
-enum-known-commissioning-type c = search needs
-
-enum-told : tie.Need-enum-told
-enum-told c = search needs
-
 returns-2 : tie.Need-returns-2
 unfolding values bodyEnd headEnd announced summed plus readFields readField kept partSizes size sizes fields formatOf commandOf commissioningRequestFormat commissioningRequestOf commissioningRequestBy capabilityByte capabilityField
 returns-2 c =
     let s = c .before .before .before .before .before .before .args .s .now in
     ap (λ k. commissioningRequestBy k (values commissioningRequestFormat s)) (sym (c .enum-told .given .1) ∙ c .before .before .try-from .ensures ∙ ap (λ (x : ℕ). commissioningTypeOf (x)) (c .before .before .before .byte-at .ensures))
     ∙ whole NwkCommandId.NetworkCommissioningRequest s (c .before .before .before .before .if1 .left)
-
-byte-at-requires-2 : tie.Need-byte-at-requires-2
-byte-at-requires-2 c κs = search needs
-
-capability-of-requires : tie.Need-capability-of-requires
-capability-of-requires c κs = search needs
 
 returns-3 : tie.Need-returns-3
 unfolding values bodyEnd headEnd announced summed plus readFields readField kept partSizes size sizes fields formatOf commandOf commissioningRequestFormat commissioningRequestOf commissioningRequestBy capabilityByte capabilityField
@@ -56,13 +38,5 @@ returns-3 c =
 pub read-commissioning-request-spec : {M : Type 1} → statement M
 read-commissioning-request-spec =
     tie.close
-    (tie.spec
-    returns
-    byte-at-requires
-    try-from-requires
-    enum-known-commissioning-type
-    enum-told
-    returns-2
-    byte-at-requires-2
-    capability-of-requires
-    returns-3)
+    (tie.spec returns (λ c κs. search needs) (λ c κs. search needs) (λ c. search needs) (λ c. search needs) returns-2
+    (λ c κs. search needs) (λ c κs. search needs) returns-3)

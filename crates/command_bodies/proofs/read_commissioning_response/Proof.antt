@@ -19,27 +19,12 @@ unfolding values bodyEnd headEnd announced summed plus readFields readField kept
 returns c =
     short NwkCommandId.NetworkCommissioningResponse (c .before .before .args .s .now) (c .if1 .taken)
 
-byte-at-requires : tie.Need-byte-at-requires
-byte-at-requires c κs = search needs
-
-try-from-requires : tie.Need-try-from-requires
-try-from-requires c κs = search needs
-
-enum-known-status : tie.Need-enum-known-status
-enum-known-status c = search needs
-
-enum-told : tie.Need-enum-told
-enum-told c = search needs
-
 returns-2 : tie.Need-returns-2
 unfolding values bodyEnd headEnd announced summed plus readFields readField kept partSizes size sizes fields formatOf commandOf commissioningResponseFormat commissioningResponseOf commissioningResponseBy
 returns-2 c =
     let s = c .before .before .before .before .before .before .args .s .now in
     ap (λ k. commissioningResponseBy k (values commissioningResponseFormat s)) (sym (c .enum-told .given .1) ∙ c .before .before .try-from .ensures ∙ ap (λ (x : ℕ). associationStatusOf (x)) (c .before .before .before .byte-at .ensures))
     ∙ whole NwkCommandId.NetworkCommissioningResponse s (c .before .before .before .before .if1 .left)
-
-read-u16-requires : tie.Need-read-u16-requires
-read-u16-requires c κs = search needs
 
 returns-3 : tie.Need-returns-3
 unfolding values bodyEnd headEnd announced summed plus readFields readField kept partSizes size sizes fields formatOf commandOf commissioningResponseFormat commissioningResponseOf commissioningResponseBy
@@ -52,12 +37,5 @@ returns-3 c =
 pub read-commissioning-response-spec : {M : Type 1} → statement M
 read-commissioning-response-spec =
     tie.close
-    (tie.spec
-    returns
-    byte-at-requires
-    try-from-requires
-    enum-known-status
-    enum-told
-    returns-2
-    read-u16-requires
-    returns-3)
+    (tie.spec returns (λ c κs. search needs) (λ c κs. search needs) (λ c. search needs) (λ c. search needs) returns-2
+    (λ c κs. search needs) returns-3)

@@ -18,9 +18,6 @@ returns : tie.Need-returns
 unfolding values bodyEnd headEnd announced summed plus readFields readField kept partSizes size sizes fields formatOf commandOf leaveFormat leaveOf
 returns c = short NwkCommandId.Leave (c .before .before .args .s .now) (c .if1 .taken)
 
-byte-at-requires : tie.Need-byte-at-requires
-byte-at-requires c κs = search needs
-
 returns-2 : tie.Need-returns-2
 unfolding values bodyEnd headEnd announced summed plus readFields readField kept partSizes size sizes fields formatOf commandOf leaveFormat leaveOf
 returns-2 c =
@@ -29,4 +26,4 @@ returns-2 c =
     ∙ whole NwkCommandId.Leave s (c .before .if1 .left)
 
 pub read-leave-spec : {M : Type 1} → statement M
-read-leave-spec = tie.close (tie.spec returns byte-at-requires returns-2)
+read-leave-spec = tie.close (tie.spec returns (λ c κs. search needs) returns-2)

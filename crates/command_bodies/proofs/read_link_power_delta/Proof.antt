@@ -12,34 +12,10 @@ use Rattle.command_bodies.proofs.Whole.{short, whole}
 use Rattle.commands.specs.Codes.{powerTypeOf}
 use Rattle.commands.specs.Commands.{linkPowerDeltaFormat, linkPowerDeltaOf, linkPowerDeltaBy}
 
-byte-at-requires : tie.Need-byte-at-requires
-byte-at-requires c κs = search needs
-
-cast-if1 : tie.Need-cast-if1
-cast-if1 c = search needs
-
-mul-if1 : tie.Need-mul-if1
-mul-if1 c = search needs
-
-add-if1 : tie.Need-add-if1
-add-if1 c = search needs
-
 returns : tie.Need-returns
 unfolding values bodyEnd headEnd announced summed plus readFields readField kept partSizes size sizes fields formatOf commandOf linkPowerDeltaFormat linkPowerDeltaOf
 returns c =
     short NwkCommandId.LinkPowerDelta (c .before .before .before .args .s .now) (rw (c .before .byte-at .ensures) at (c .if1 .taken))
-
-byte-at-requires-2 : tie.Need-byte-at-requires-2
-byte-at-requires-2 c κs = search needs
-
-try-from-requires : tie.Need-try-from-requires
-try-from-requires c κs = search needs
-
-enum-known-command-type : tie.Need-enum-known-command-type
-enum-known-command-type c = search needs
-
-enum-told : tie.Need-enum-told
-enum-told c = search needs
 
 returns-2 : tie.Need-returns-2
 unfolding values bodyEnd headEnd announced summed plus readFields readField kept partSizes size sizes fields formatOf commandOf linkPowerDeltaFormat linkPowerDeltaOf linkPowerDeltaBy
@@ -58,15 +34,5 @@ returns-3 c =
 pub read-link-power-delta-spec : {M : Type 1} → statement M
 read-link-power-delta-spec =
     tie.close
-    (tie.spec
-    byte-at-requires
-    cast-if1
-    mul-if1
-    add-if1
-    returns
-    byte-at-requires-2
-    try-from-requires
-    enum-known-command-type
-    enum-told
-    returns-2
-    returns-3)
+    (tie.spec (λ c κs. search needs) (λ c. search needs) (λ c. search needs) (λ c. search needs) returns
+    (λ c κs. search needs) (λ c κs. search needs) (λ c. search needs) (λ c. search needs) returns-2 returns-3)

@@ -14,31 +14,10 @@ use Rattle.command_bodies.proofs.Whole.{short, whole}
 use Rattle.commands.specs.Codes.{reportIdentifierOf}
 use Rattle.commands.specs.Commands.{networkReportFormat, networkReportOf, networkReportBy}
 
-byte-at-requires : tie.Need-byte-at-requires
-byte-at-requires c κs = search needs
-
-cast-if1 : tie.Need-cast-if1
-cast-if1 c = search needs
-
-mul-if1 : tie.Need-mul-if1
-mul-if1 c = search needs
-
-add-if1 : tie.Need-add-if1
-add-if1 c = search needs
-
 returns : tie.Need-returns
 unfolding values bodyEnd headEnd announced summed plus readFields readField kept partSizes size sizes fields formatOf commandOf networkReportFormat networkReportOf
 returns c =
     short NwkCommandId.NetworkReport (c .before .before .before .args .s .now) (rw (c .before .byte-at .ensures) at (c .if1 .taken))
-
-try-from-requires : tie.Need-try-from-requires
-try-from-requires c κs = search needs
-
-enum-known-report-command-identifier : tie.Need-enum-known-report-command-identifier
-enum-known-report-command-identifier c = search needs
-
-enum-told : tie.Need-enum-told
-enum-told c = search needs
 
 returns-2 : tie.Need-returns-2
 unfolding values bodyEnd headEnd announced summed plus readFields readField kept partSizes size sizes fields formatOf commandOf networkReportFormat networkReportOf networkReportBy
@@ -46,9 +25,6 @@ returns-2 c =
     let s = c .before .before .before .before .before .before .args .s .now in
     ap (λ k. networkReportBy k (values networkReportFormat s)) (sym (c .enum-told .given .1) ∙ c .before .before .try-from .ensures ∙ ap (λ (x : ℕ). reportIdentifierOf (x / 32 % 8)) (c .before .before .before .before .byte-at .ensures))
     ∙ whole NwkCommandId.NetworkReport s (rw (c .before .before .before .before .byte-at .ensures) at (c .before .before .before .if1 .left))
-
-read-u64-requires : tie.Need-read-u64-requires
-read-u64-requires c κs = search needs
 
 returns-3 : tie.Need-returns-3
 unfolding values bodyEnd headEnd announced summed plus readFields readField kept partSizes size sizes fields formatOf commandOf networkReportFormat networkReportOf networkReportBy
@@ -61,15 +37,5 @@ returns-3 c =
 pub read-network-report-spec : {M : Type 1} → statement M
 read-network-report-spec =
     tie.close
-    (tie.spec
-    byte-at-requires
-    cast-if1
-    mul-if1
-    add-if1
-    returns
-    try-from-requires
-    enum-known-report-command-identifier
-    enum-told
-    returns-2
-    read-u64-requires
-    returns-3)
+    (tie.spec (λ c κs. search needs) (λ c. search needs) (λ c. search needs) (λ c. search needs) returns
+    (λ c κs. search needs) (λ c. search needs) (λ c. search needs) returns-2 (λ c κs. search needs) returns-3)

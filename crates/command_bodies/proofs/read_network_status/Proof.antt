@@ -18,27 +18,12 @@ returns : tie.Need-returns
 unfolding values bodyEnd headEnd announced summed plus readFields readField kept partSizes size sizes fields formatOf commandOf networkStatusFormat networkStatusOf
 returns c = short NwkCommandId.NetworkStatus (c .before .before .args .s .now) (c .if1 .taken)
 
-byte-at-requires : tie.Need-byte-at-requires
-byte-at-requires c κs = search needs
-
-try-from-requires : tie.Need-try-from-requires
-try-from-requires c κs = search needs
-
-enum-known-status-code : tie.Need-enum-known-status-code
-enum-known-status-code c = search needs
-
-enum-told : tie.Need-enum-told
-enum-told c = search needs
-
 returns-2 : tie.Need-returns-2
 unfolding values bodyEnd headEnd announced summed plus readFields readField kept partSizes size sizes fields formatOf commandOf networkStatusFormat networkStatusOf networkStatusBy
 returns-2 c =
     let s = c .before .before .before .before .before .before .args .s .now in
     ap (λ k. networkStatusBy k (values networkStatusFormat s)) (sym (c .enum-told .given .1) ∙ c .before .before .try-from .ensures ∙ ap (λ (x : ℕ). statusOf (x)) (c .before .before .before .byte-at .ensures))
     ∙ whole NwkCommandId.NetworkStatus s (c .before .before .before .before .if1 .left)
-
-read-u16-requires : tie.Need-read-u16-requires
-read-u16-requires c κs = search needs
 
 returns-3 : tie.Need-returns-3
 unfolding values bodyEnd headEnd announced summed plus readFields readField kept partSizes size sizes fields formatOf commandOf networkStatusFormat networkStatusOf networkStatusBy
@@ -51,12 +36,5 @@ returns-3 c =
 pub read-network-status-spec : {M : Type 1} → statement M
 read-network-status-spec =
     tie.close
-    (tie.spec
-    returns
-    byte-at-requires
-    try-from-requires
-    enum-known-status-code
-    enum-told
-    returns-2
-    read-u16-requires
-    returns-3)
+    (tie.spec returns (λ c κs. search needs) (λ c κs. search needs) (λ c. search needs) (λ c. search needs) returns-2
+    (λ c κs. search needs) returns-3)

@@ -18,33 +18,12 @@ returns : tie.Need-returns
 unfolding values bodyEnd headEnd announced summed plus readFields readField kept partSizes size sizes fields formatOf commandOf networkUpdateFormat networkUpdateOf
 returns c = short NwkCommandId.NetworkUpdate (c .before .before .args .s .now) (c .if1 .taken)
 
-byte-at-requires : tie.Need-byte-at-requires
-byte-at-requires c κs = search needs
-
-try-from-requires : tie.Need-try-from-requires
-try-from-requires c κs = search needs
-
-enum-known-update-command-identifier : tie.Need-enum-known-update-command-identifier
-enum-known-update-command-identifier c = search needs
-
-enum-told : tie.Need-enum-told
-enum-told c = search needs
-
 returns-2 : tie.Need-returns-2
 unfolding values bodyEnd headEnd announced summed plus readFields readField kept partSizes size sizes fields formatOf commandOf networkUpdateFormat networkUpdateOf networkUpdateBy
 returns-2 c =
     let s = c .before .before .before .before .before .before .args .s .now in
     ap (λ k. networkUpdateBy k (values networkUpdateFormat s)) (sym (c .enum-told .given .1) ∙ c .before .before .try-from .ensures ∙ ap (λ (x : ℕ). updateIdentifierOf (x / 32 % 8)) (c .before .before .before .byte-at .ensures))
     ∙ whole NwkCommandId.NetworkUpdate s (c .before .before .before .before .if1 .left)
-
-read-u64-requires : tie.Need-read-u64-requires
-read-u64-requires c κs = search needs
-
-byte-at-requires-2 : tie.Need-byte-at-requires-2
-byte-at-requires-2 c κs = search needs
-
-read-u16-requires : tie.Need-read-u16-requires
-read-u16-requires c κs = search needs
 
 returns-3 : tie.Need-returns-3
 unfolding values bodyEnd headEnd announced summed plus readFields readField kept partSizes size sizes fields formatOf commandOf networkUpdateFormat networkUpdateOf networkUpdateBy
@@ -57,14 +36,5 @@ returns-3 c =
 pub read-network-update-spec : {M : Type 1} → statement M
 read-network-update-spec =
     tie.close
-    (tie.spec
-    returns
-    byte-at-requires
-    try-from-requires
-    enum-known-update-command-identifier
-    enum-told
-    returns-2
-    read-u64-requires
-    byte-at-requires-2
-    read-u16-requires
-    returns-3)
+    (tie.spec returns (λ c κs. search needs) (λ c κs. search needs) (λ c. search needs) (λ c. search needs) returns-2
+    (λ c κs. search needs) (λ c κs. search needs) (λ c κs. search needs) returns-3)

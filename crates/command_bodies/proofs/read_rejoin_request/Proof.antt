@@ -17,12 +17,6 @@ returns : tie.Need-returns
 unfolding values bodyEnd headEnd announced summed plus readFields readField kept partSizes size sizes fields formatOf commandOf capabilityField rejoinRequestFormat rejoinRequestOf
 returns c = short NwkCommandId.RejoinRequest (c .before .before .args .s .now) (c .if1 .taken)
 
-byte-at-requires : tie.Need-byte-at-requires
-byte-at-requires c κs = search needs
-
-capability-of-requires : tie.Need-capability-of-requires
-capability-of-requires c κs = search needs
-
 returns-2 : tie.Need-returns-2
 unfolding values bodyEnd headEnd announced summed plus readFields readField kept partSizes size sizes fields formatOf commandOf rejoinRequestFormat rejoinRequestOf capabilityByte capabilityField
 returns-2 c =
@@ -31,5 +25,4 @@ returns-2 c =
     ∙ whole NwkCommandId.RejoinRequest s (c .before .before .if1 .left)
 
 pub read-rejoin-request-spec : {M : Type 1} → statement M
-read-rejoin-request-spec =
-    tie.close (tie.spec returns byte-at-requires capability-of-requires returns-2)
+read-rejoin-request-spec = tie.close (tie.spec returns (λ c κs. search needs) (λ c κs. search needs) returns-2)

@@ -19,49 +19,10 @@ use Rattle.command_bodies.proofs.Whole.{short, whole}
 use Rattle.commands.specs.Commands.{routeReplyFormat, routeReplyOf, addressOf}
 use Rattle.command_bodies.proofs.Entries.{first-entry, second-entry}
 
-byte-at-requires : tie.Need-byte-at-requires
-byte-at-requires c κs = search needs
-
-cast-responder-at : tie.Need-cast-responder-at
-cast-responder-at c = search needs
-
-mul-responder-at : tie.Need-mul-responder-at
-mul-responder-at c = search needs
-
-add-responder-at : tie.Need-add-responder-at
-add-responder-at c = search needs
-
-cast-if1 : tie.Need-cast-if1
-cast-if1 c = search needs
-
-mul-if1 : tie.Need-mul-if1
-mul-if1 c = search needs
-
-add-if1 : tie.Need-add-if1
-add-if1 c = search needs
-
 returns : tie.Need-returns
 unfolding values bodyEnd headEnd announced summed plus readFields readField kept partSizes size sizes fields formatOf commandOf routeReplyFormat routeReplyOf
 returns c =
     short NwkCommandId.RouteReply (c .before .before .before .args .s .now) (let h = rw (c .before .byte-at .ensures) at (c .if1 .taken) in omega arith)
-
-address-at-requires : tie.Need-address-at-requires
-address-at-requires c κs = search needs
-
-address-at-requires-2 : tie.Need-address-at-requires-2
-address-at-requires-2 c κs = search needs
-
-byte-at-requires-2 : tie.Need-byte-at-requires-2
-byte-at-requires-2 c κs = search needs
-
-read-u16-requires : tie.Need-read-u16-requires
-read-u16-requires c κs = search needs
-
-read-u16-requires-2 : tie.Need-read-u16-requires-2
-read-u16-requires-2 c κs = search needs
-
-byte-at-requires-3 : tie.Need-byte-at-requires-3
-byte-at-requires-3 c κs = search needs
 
 returns-2 : tie.Need-returns-2
 unfolding values bodyEnd headEnd announced summed plus readFields readField kept partSizes size sizes fields formatOf commandOf routeReplyFormat routeReplyOf
@@ -85,19 +46,6 @@ returns-2 c =
 pub read-route-reply-spec : {M : Type 1} → statement M
 read-route-reply-spec =
     tie.close
-    (tie.spec
-    byte-at-requires
-    cast-responder-at
-    mul-responder-at
-    add-responder-at
-    cast-if1
-    mul-if1
-    add-if1
-    returns
-    address-at-requires
-    address-at-requires-2
-    byte-at-requires-2
-    read-u16-requires
-    read-u16-requires-2
-    byte-at-requires-3
-    returns-2)
+    (tie.spec (λ c κs. search needs) (λ c. search needs) (λ c. search needs) (λ c. search needs) (λ c. search needs)
+    (λ c. search needs) (λ c. search needs) returns (λ c κs. search needs) (λ c κs. search needs)
+    (λ c κs. search needs) (λ c κs. search needs) (λ c κs. search needs) (λ c κs. search needs) returns-2)

@@ -20,31 +20,10 @@ use Rattle.commands.specs.Codes.{manyToOneOf}
 use Rattle.commands.specs.Commands.{routeRequestFormat, routeRequestOf, routeRequestBy, addressOf}
 use Rattle.command_bodies.proofs.Entries.{only-entry}
 
-byte-at-requires : tie.Need-byte-at-requires
-byte-at-requires c κs = search needs
-
-cast-if1 : tie.Need-cast-if1
-cast-if1 c = search needs
-
-mul-if1 : tie.Need-mul-if1
-mul-if1 c = search needs
-
-add-if1 : tie.Need-add-if1
-add-if1 c = search needs
-
 returns : tie.Need-returns
 unfolding values bodyEnd headEnd announced summed plus readFields readField kept partSizes size sizes fields formatOf commandOf routeRequestFormat routeRequestOf
 returns c =
     short NwkCommandId.RouteRequest (c .before .before .before .args .s .now) (rw (c .before .byte-at .ensures) at (c .if1 .taken))
-
-try-from-requires : tie.Need-try-from-requires
-try-from-requires c κs = search needs
-
-enum-known-many-to-one : tie.Need-enum-known-many-to-one
-enum-known-many-to-one c = search needs
-
-enum-told : tie.Need-enum-told
-enum-told c = search needs
 
 returns-2 : tie.Need-returns-2
 unfolding values bodyEnd headEnd announced summed plus readFields readField kept partSizes size sizes fields formatOf commandOf routeRequestFormat routeRequestOf routeRequestBy
@@ -52,18 +31,6 @@ returns-2 c =
     let s = c .before .before .before .before .before .before .args .s .now in
     ap (λ k. routeRequestBy k (values routeRequestFormat s)) (sym (c .enum-told .given .1) ∙ c .before .before .try-from .ensures ∙ ap (λ (x : ℕ). manyToOneOf (x / 8 % 4)) (c .before .before .before .before .byte-at .ensures))
     ∙ whole NwkCommandId.RouteRequest s (rw (c .before .before .before .before .byte-at .ensures) at (c .before .before .before .if1 .left))
-
-address-at-requires : tie.Need-address-at-requires
-address-at-requires c κs = search needs
-
-byte-at-requires-2 : tie.Need-byte-at-requires-2
-byte-at-requires-2 c κs = search needs
-
-read-u16-requires : tie.Need-read-u16-requires
-read-u16-requires c κs = search needs
-
-byte-at-requires-3 : tie.Need-byte-at-requires-3
-byte-at-requires-3 c κs = search needs
 
 returns-3 : tie.Need-returns-3
 unfolding values bodyEnd headEnd announced summed plus readFields readField kept partSizes size sizes fields formatOf commandOf routeRequestFormat routeRequestOf routeRequestBy
@@ -83,18 +50,6 @@ returns-3 c =
 pub read-route-request-spec : {M : Type 1} → statement M
 read-route-request-spec =
     tie.close
-    (tie.spec
-    byte-at-requires
-    cast-if1
-    mul-if1
-    add-if1
-    returns
-    try-from-requires
-    enum-known-many-to-one
-    enum-told
-    returns-2
-    address-at-requires
-    byte-at-requires-2
-    read-u16-requires
-    byte-at-requires-3
-    returns-3)
+    (tie.spec (λ c κs. search needs) (λ c. search needs) (λ c. search needs) (λ c. search needs) returns
+    (λ c κs. search needs) (λ c. search needs) (λ c. search needs) returns-2 (λ c κs. search needs)
+    (λ c κs. search needs) (λ c κs. search needs) (λ c κs. search needs) returns-3)

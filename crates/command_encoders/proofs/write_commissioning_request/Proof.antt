@@ -12,18 +12,6 @@ use Rattle.commands.specs.Reading.{formatOf}
 use Rattle.commands.specs.Writing.{wireBytes}
 use Rattle.command_fields.specs.Options.{capabilityByte}
 
-capability-byte-requires : tie.Need-capability-byte-requires
-capability-byte-requires c κs = search needs
-
-code-requires : tie.Need-code-requires
-code-requires c κs = search needs
-
-put-three-requires : tie.Need-put-three-requires
-put-three-requires c κs = search needs
-
-same-length : tie.Need-same-length
-same-length c = search needs
-
 returns : tie.Need-returns
 unfolding wireBytes bodyBytes formatOf partSizes keptCount filled width writeField writeFields le commissioningRequestFormat commissioningRequestValues capabilityField capabilityValues capabilityByte writeEntries
 returns c =
@@ -34,4 +22,4 @@ returns c =
 pub write-commissioning-request-spec : {M : Type 1} → statement M
 write-commissioning-request-spec =
     tie.close
-    (tie.spec capability-byte-requires code-requires put-three-requires same-length returns)
+    (tie.spec (λ c κs. search needs) (λ c κs. search needs) (λ c κs. search needs) (λ c. search needs) returns)

@@ -11,15 +11,6 @@ use Rattle.commands.specs.Commands.{leaveFormat, leaveValues}
 use Rattle.commands.specs.Reading.{formatOf}
 use Rattle.commands.specs.Writing.{wireBytes}
 
-leave-options-requires : tie.Need-leave-options-requires
-leave-options-requires c κs = search needs
-
-put-two-requires : tie.Need-put-two-requires
-put-two-requires c κs = search needs
-
-same-length : tie.Need-same-length
-same-length c = search needs
-
 returns : tie.Need-returns
 unfolding wireBytes bodyBytes formatOf partSizes keptCount filled width writeField writeFields le leaveFormat leaveValues writeEntries
 returns c =
@@ -28,4 +19,4 @@ returns c =
     ∙ (λ i. over (a .out .now) 0 (0x04 ∷ c .before .before .before .before .leave-options .ensures i ∷ []))
 
 pub write-leave-spec : {M : Type 1} → statement M
-write-leave-spec = tie.close (tie.spec leave-options-requires put-two-requires same-length returns)
+write-leave-spec = tie.close (tie.spec (λ c κs. search needs) (λ c κs. search needs) (λ c. search needs) returns)

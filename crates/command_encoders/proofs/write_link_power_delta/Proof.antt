@@ -17,21 +17,6 @@ use Rattle.commands.specs.Writing.{wireBytes}
 use Rattle.command_fields.proofs.Chain.{next}
 use Rattle.commands.specs.Codes.{powerTypeCode}
 
-code-requires : tie.Need-code-requires
-code-requires c κs = search needs
-
-power-options-requires : tie.Need-power-options-requires
-power-options-requires c κs = search needs
-
-put-three-requires : tie.Need-put-three-requires
-put-three-requires c κs = search needs
-
-put-powers-requires : tie.Need-put-powers-requires
-put-powers-requires c κs = search needs
-
-same-length : tie.Need-same-length
-same-length c = search needs
-
 returns : tie.Need-returns
 unfolding wireBytes bodyBytes formatOf partSizes keptCount filled width writeField writeFields le linkPowerDeltaFormat linkPowerDeltaValues
 returns c =
@@ -45,10 +30,5 @@ returns c =
 pub write-link-power-delta-spec : {M : Type 1} → statement M
 write-link-power-delta-spec =
     tie.close
-    (tie.spec
-    code-requires
-    power-options-requires
-    put-three-requires
-    put-powers-requires
-    same-length
-    returns)
+    (tie.spec (λ c κs. search needs) (λ c κs. search needs) (λ c κs. search needs) (λ c κs. search needs)
+    (λ c. search needs) returns)

@@ -15,18 +15,6 @@ use Rattle.commands.specs.Reading.{formatOf}
 use Rattle.commands.specs.Writing.{wireBytes}
 use Rattle.command_fields.proofs.Chain.{next}
 
-link-status-options-requires : tie.Need-link-status-options-requires
-link-status-options-requires c κs = search needs
-
-put-two-requires : tie.Need-put-two-requires
-put-two-requires c κs = search needs
-
-put-links-requires : tie.Need-put-links-requires
-put-links-requires c κs = search needs
-
-same-length : tie.Need-same-length
-same-length c = search needs
-
 returns : tie.Need-returns
 unfolding wireBytes bodyBytes formatOf partSizes keptCount filled width writeField writeFields le linkStatusFormat linkStatusValues
 returns c =
@@ -38,4 +26,4 @@ returns c =
 pub write-link-status-spec : {M : Type 1} → statement M
 write-link-status-spec =
     tie.close
-    (tie.spec link-status-options-requires put-two-requires put-links-requires same-length returns)
+    (tie.spec (λ c κs. search needs) (λ c κs. search needs) (λ c κs. search needs) (λ c. search needs) returns)

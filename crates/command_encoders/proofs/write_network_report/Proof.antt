@@ -18,27 +18,9 @@ use Rattle.command_fields.proofs.Chain.{next}
 use Rattle.commands.specs.Codes.{reportIdentifierCode}
 use Rattle.commands.proofs.CodeLaws.{reportIdentifier-lt}
 
-code-requires : tie.Need-code-requires
-code-requires c κs = search needs
-
 count-and-identifier-requires : tie.Need-count-and-identifier-requires
 count-and-identifier-requires c κs =
     let h = reportIdentifier-lt (c .before .before .args .c .«report_command_identifier») in (omega arith, rw (c .code .ensures) (omega arith))
-
-put-two-requires : tie.Need-put-two-requires
-put-two-requires c κs = search needs
-
-put-u64-requires : tie.Need-put-u64-requires
-put-u64-requires c κs = search needs
-
-slice-aggregate-put-numbers : tie.Need-slice-aggregate-put-numbers
-slice-aggregate-put-numbers c = search needs
-
-put-numbers-requires : tie.Need-put-numbers-requires
-put-numbers-requires c κs = search needs
-
-same-length : tie.Need-same-length
-same-length c = search needs
 
 returns : tie.Need-returns
 unfolding wireBytes bodyBytes formatOf partSizes keptCount filled width writeField writeFields le networkReportFormat networkReportValues routeRecordFormat
@@ -54,12 +36,5 @@ returns c =
 pub write-network-report-spec : {M : Type 1} → statement M
 write-network-report-spec =
     tie.close
-    (tie.spec
-    code-requires
-    count-and-identifier-requires
-    put-two-requires
-    put-u64-requires
-    slice-aggregate-put-numbers
-    put-numbers-requires
-    same-length
-    returns)
+    (tie.spec (λ c κs. search needs) count-and-identifier-requires (λ c κs. search needs) (λ c κs. search needs)
+    (λ c. search needs) (λ c κs. search needs) (λ c. search needs) returns)

@@ -13,18 +13,6 @@ use Rattle.commands.specs.Reading.{formatOf}
 use Rattle.commands.specs.Writing.{wireBytes}
 use Rattle.command_fields.proofs.Chain.{next}
 
-code-requires : tie.Need-code-requires
-code-requires c κs = search needs
-
-put-two-requires : tie.Need-put-two-requires
-put-two-requires c κs = search needs
-
-put-u16-requires : tie.Need-put-u16-requires
-put-u16-requires c κs = search needs
-
-same-length : tie.Need-same-length
-same-length c = search needs
-
 returns : tie.Need-returns
 unfolding wireBytes bodyBytes formatOf partSizes keptCount filled width writeField writeFields le networkStatusFormat networkStatusValues writeEntries
 returns c =
@@ -35,4 +23,5 @@ returns c =
 
 pub write-network-status-spec : {M : Type 1} → statement M
 write-network-status-spec =
-    tie.close (tie.spec code-requires put-two-requires put-u16-requires same-length returns)
+    tie.close
+    (tie.spec (λ c κs. search needs) (λ c κs. search needs) (λ c κs. search needs) (λ c. search needs) returns)

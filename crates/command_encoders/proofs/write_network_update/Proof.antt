@@ -16,27 +16,9 @@ use Rattle.command_fields.proofs.Chain.{next}
 use Rattle.commands.specs.Codes.{updateIdentifierCode}
 use Rattle.commands.proofs.CodeLaws.{updateIdentifier-lt}
 
-code-requires : tie.Need-code-requires
-code-requires c κs = search needs
-
 count-and-identifier-requires : tie.Need-count-and-identifier-requires
 count-and-identifier-requires c κs =
     let h = updateIdentifier-lt (c .before .before .args .c .«update_command_identifier») in (omega arith, rw (c .code .ensures) (omega arith))
-
-put-two-requires : tie.Need-put-two-requires
-put-two-requires c κs = search needs
-
-put-u64-requires : tie.Need-put-u64-requires
-put-u64-requires c κs = search needs
-
-put-byte-requires : tie.Need-put-byte-requires
-put-byte-requires c κs = search needs
-
-put-u16-requires : tie.Need-put-u16-requires
-put-u16-requires c κs = search needs
-
-same-length : tie.Need-same-length
-same-length c = search needs
 
 returns : tie.Need-returns
 unfolding wireBytes bodyBytes formatOf partSizes keptCount filled width writeField writeFields le networkUpdateFormat networkUpdateValues writeEntries
@@ -53,12 +35,5 @@ returns c =
 pub write-network-update-spec : {M : Type 1} → statement M
 write-network-update-spec =
     tie.close
-    (tie.spec
-    code-requires
-    count-and-identifier-requires
-    put-two-requires
-    put-u64-requires
-    put-byte-requires
-    put-u16-requires
-    same-length
-    returns)
+    (tie.spec (λ c κs. search needs) count-and-identifier-requires (λ c κs. search needs) (λ c κs. search needs)
+    (λ c κs. search needs) (λ c κs. search needs) (λ c. search needs) returns)

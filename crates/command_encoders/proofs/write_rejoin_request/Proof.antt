@@ -12,15 +12,6 @@ use Rattle.commands.specs.Reading.{formatOf}
 use Rattle.commands.specs.Writing.{wireBytes}
 use Rattle.command_fields.specs.Options.{capabilityByte}
 
-capability-byte-requires : tie.Need-capability-byte-requires
-capability-byte-requires c κs = search needs
-
-put-two-requires : tie.Need-put-two-requires
-put-two-requires c κs = search needs
-
-same-length : tie.Need-same-length
-same-length c = search needs
-
 returns : tie.Need-returns
 unfolding wireBytes bodyBytes formatOf partSizes keptCount filled width writeField writeFields le rejoinRequestFormat rejoinRequestValues capabilityField capabilityValues capabilityByte writeEntries
 returns c =
@@ -30,4 +21,4 @@ returns c =
 
 pub write-rejoin-request-spec : {M : Type 1} → statement M
 write-rejoin-request-spec =
-    tie.close (tie.spec capability-byte-requires put-two-requires same-length returns)
+    tie.close (tie.spec (λ c κs. search needs) (λ c κs. search needs) (λ c. search needs) returns)

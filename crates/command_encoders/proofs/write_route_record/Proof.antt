@@ -15,18 +15,6 @@ use Rattle.commands.specs.Reading.{formatOf}
 use Rattle.commands.specs.Writing.{wireBytes}
 use Rattle.command_fields.proofs.Chain.{next}
 
-put-two-requires : tie.Need-put-two-requires
-put-two-requires c κs = search needs
-
-slice-aggregate-put-numbers : tie.Need-slice-aggregate-put-numbers
-slice-aggregate-put-numbers c = search needs
-
-put-numbers-requires : tie.Need-put-numbers-requires
-put-numbers-requires c κs = search needs
-
-same-length : tie.Need-same-length
-same-length c = search needs
-
 returns : tie.Need-returns
 unfolding wireBytes bodyBytes formatOf partSizes keptCount filled width writeField writeFields le routeRecordFormat routeRecordValues
 returns c =
@@ -37,10 +25,4 @@ returns c =
 
 pub write-route-record-spec : {M : Type 1} → statement M
 write-route-record-spec =
-    tie.close
-    (tie.spec
-    put-two-requires
-    slice-aggregate-put-numbers
-    put-numbers-requires
-    same-length
-    returns)
+    tie.close (tie.spec (λ c κs. search needs) (λ c. search needs) (λ c κs. search needs) (λ c. search needs) returns)

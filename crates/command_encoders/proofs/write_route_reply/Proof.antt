@@ -11,30 +11,6 @@ use Rattle.command_fields.proofs.Chain.{next}
 use Rattle.command_encoders.specs.Reply.{replyHead}
 use Rattle.command_encoders.proofs.ReplyBytes.{addressBytes, length-head, responder-at, reply-bytes}
 
-has-address-requires : tie.Need-has-address-requires
-has-address-requires c κs = search needs
-
-cast-at : tie.Need-cast-at
-cast-at c = search needs
-
-mul-at : tie.Need-mul-at
-mul-at c = search needs
-
-add-at : tie.Need-add-at
-add-at c = search needs
-
-write-route-reply-head-requires : tie.Need-write-route-reply-head-requires
-write-route-reply-head-requires c κs = search needs
-
-put-address-requires : tie.Need-put-address-requires
-put-address-requires c κs = search needs
-
-put-address-requires-2 : tie.Need-put-address-requires-2
-put-address-requires-2 c κs = search needs
-
-same-length : tie.Need-same-length
-same-length c = search needs
-
 returns : tie.Need-returns
 returns c =
     let a = c .before .before .before .before .before .before .before .before .before .before .before .before .before .before .args in
@@ -48,13 +24,5 @@ returns c =
 pub write-route-reply-spec : {M : Type 1} → statement M
 write-route-reply-spec =
     tie.close
-    (tie.spec
-    has-address-requires
-    cast-at
-    mul-at
-    add-at
-    write-route-reply-head-requires
-    put-address-requires
-    put-address-requires-2
-    same-length
-    returns)
+    (tie.spec (λ c κs. search needs) (λ c. search needs) (λ c. search needs) (λ c. search needs)
+    (λ c κs. search needs) (λ c κs. search needs) (λ c κs. search needs) (λ c. search needs) returns)

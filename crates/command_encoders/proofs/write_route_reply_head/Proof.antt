@@ -15,30 +15,6 @@ use Rattle.commands.specs.Writing.{wireBytes}
 use Rattle.command_fields.proofs.Chain.{next}
 use Rattle.command_encoders.specs.Reply.{replyHead}
 
-has-address-requires : tie.Need-has-address-requires
-has-address-requires c κs = search needs
-
-has-address-requires-2 : tie.Need-has-address-requires-2
-has-address-requires-2 c κs = search needs
-
-route-reply-options-requires : tie.Need-route-reply-options-requires
-route-reply-options-requires c κs = search needs
-
-put-three-requires : tie.Need-put-three-requires
-put-three-requires c κs = search needs
-
-put-u16-requires : tie.Need-put-u16-requires
-put-u16-requires c κs = search needs
-
-put-u16-requires-2 : tie.Need-put-u16-requires-2
-put-u16-requires-2 c κs = search needs
-
-put-byte-requires : tie.Need-put-byte-requires
-put-byte-requires c κs = search needs
-
-same-length : tie.Need-same-length
-same-length c = search needs
-
 returns : tie.Need-returns
 unfolding wireBytes bodyBytes formatOf partSizes keptCount filled width writeField writeFields le routeReplyFormat routeReplyValues replyHead
 returns c =
@@ -54,13 +30,5 @@ returns c =
 pub write-route-reply-head-spec : {M : Type 1} → statement M
 write-route-reply-head-spec =
     tie.close
-    (tie.spec
-    has-address-requires
-    has-address-requires-2
-    route-reply-options-requires
-    put-three-requires
-    put-u16-requires
-    put-u16-requires-2
-    put-byte-requires
-    same-length
-    returns)
+    (tie.spec (λ c κs. search needs) (λ c κs. search needs) (λ c κs. search needs) (λ c κs. search needs)
+    (λ c κs. search needs) (λ c κs. search needs) (λ c κs. search needs) (λ c. search needs) returns)

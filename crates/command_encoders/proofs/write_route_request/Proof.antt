@@ -16,30 +16,9 @@ use Rattle.command_fields.proofs.Chain.{next}
 use Rattle.commands.specs.Codes.{manyToOneCode}
 use Rattle.commands.proofs.CodeLaws.{manyToOne-lt}
 
-code-requires : tie.Need-code-requires
-code-requires c κs = search needs
-
-has-address-requires : tie.Need-has-address-requires
-has-address-requires c κs = search needs
-
 route-request-options-requires : tie.Need-route-request-options-requires
 route-request-options-requires c κs =
     let h = manyToOne-lt (c .before .before .before .args .c .«many_to_one») in (rw (c .before .code .ensures) (omega arith), omega arith)
-
-put-three-requires : tie.Need-put-three-requires
-put-three-requires c κs = search needs
-
-put-u16-requires : tie.Need-put-u16-requires
-put-u16-requires c κs = search needs
-
-put-byte-requires : tie.Need-put-byte-requires
-put-byte-requires c κs = search needs
-
-put-address-requires : tie.Need-put-address-requires
-put-address-requires c κs = search needs
-
-same-length : tie.Need-same-length
-same-length c = search needs
 
 returns : tie.Need-returns
 unfolding wireBytes bodyBytes formatOf partSizes keptCount filled width writeField writeFields le routeRequestFormat routeRequestValues
@@ -56,13 +35,5 @@ returns c =
 pub write-route-request-spec : {M : Type 1} → statement M
 write-route-request-spec =
     tie.close
-    (tie.spec
-    code-requires
-    has-address-requires
-    route-request-options-requires
-    put-three-requires
-    put-u16-requires
-    put-byte-requires
-    put-address-requires
-    same-length
-    returns)
+    (tie.spec (λ c κs. search needs) (λ c κs. search needs) route-request-options-requires (λ c κs. search needs)
+    (λ c κs. search needs) (λ c κs. search needs) (λ c κs. search needs) (λ c. search needs) returns)

@@ -11,15 +11,6 @@ use Rattle.commands.specs.Commands.{timeoutRequestFormat, timeoutRequestValues}
 use Rattle.commands.specs.Reading.{formatOf}
 use Rattle.commands.specs.Writing.{wireBytes}
 
-code-requires : tie.Need-code-requires
-code-requires c κs = search needs
-
-put-three-requires : tie.Need-put-three-requires
-put-three-requires c κs = search needs
-
-same-length : tie.Need-same-length
-same-length c = search needs
-
 returns : tie.Need-returns
 unfolding wireBytes bodyBytes formatOf partSizes keptCount filled width writeField writeFields le timeoutRequestFormat timeoutRequestValues writeEntries
 returns c =
@@ -29,4 +20,4 @@ returns c =
 
 pub write-timeout-request-spec : {M : Type 1} → statement M
 write-timeout-request-spec =
-    tie.close (tie.spec code-requires put-three-requires same-length returns)
+    tie.close (tie.spec (λ c κs. search needs) (λ c κs. search needs) (λ c. search needs) returns)

@@ -11,18 +11,6 @@ use Rattle.commands.specs.Commands.{timeoutResponseFormat, timeoutResponseValue
 use Rattle.commands.specs.Reading.{formatOf}
 use Rattle.commands.specs.Writing.{wireBytes}
 
-parent-information-requires : tie.Need-parent-information-requires
-parent-information-requires c κs = search needs
-
-code-requires : tie.Need-code-requires
-code-requires c κs = search needs
-
-put-three-requires : tie.Need-put-three-requires
-put-three-requires c κs = search needs
-
-same-length : tie.Need-same-length
-same-length c = search needs
-
 returns : tie.Need-returns
 unfolding wireBytes bodyBytes formatOf partSizes keptCount filled width writeField writeFields le timeoutResponseFormat timeoutResponseValues writeEntries
 returns c =
@@ -33,4 +21,4 @@ returns c =
 pub write-timeout-response-spec : {M : Type 1} → statement M
 write-timeout-response-spec =
     tie.close
-    (tie.spec parent-information-requires code-requires put-three-requires same-length returns)
+    (tie.spec (λ c κs. search needs) (λ c κs. search needs) (λ c κs. search needs) (λ c. search needs) returns)

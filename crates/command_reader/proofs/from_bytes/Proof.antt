@@ -10,24 +10,9 @@ use Rattle.commands.specs.Reading.{readCommand, refused, accepted, unparsed, fr
 use Rattle.commands.specs.declared.TypedBody.{TypedBody}
 use Rattle.commands.proofs.RoundTrip.{read-accepts}
 
-blank-requires : tie.Need-blank-requires
-blank-requires c κs = search needs
-
 returns : tie.Need-returns
 unfolding readCommand refused unparsed
 returns c = rw (c .blank .ensures, lt-ltb _ _ (c .before .if1 .taken))
-
-try-parse-requires : tie.Need-try-parse-requires
-try-parse-requires c κs = search needs
-
-enum-known-command : tie.Need-enum-known-command
-enum-known-command c = search needs
-
-enum-told : tie.Need-enum-told
-enum-told c = search needs
-
-keep-unparsed-requires : tie.Need-keep-unparsed-requires
-keep-unparsed-requires c κs = search needs
 
 returns-2 : tie.Need-returns-2
 unfolding accepted frameOf
@@ -50,13 +35,5 @@ returns-3 c =
 pub from-bytes-spec : {M : Type 1} → statement M
 from-bytes-spec =
     tie.close
-    (tie.spec
-    blank-requires
-    returns
-    try-parse-requires
-    enum-known-command
-    enum-told
-    keep-unparsed-requires
-    returns-2
-    with-list-requires
-    returns-3)
+    (tie.spec (λ c κs. search needs) returns (λ c κs. search needs) (λ c. search needs) (λ c. search needs)
+    (λ c κs. search needs) returns-2 with-list-requires returns-3)

@@ -8,18 +8,6 @@ use Rattle.commands.specs.Reading.{listed}
 use Rattle.commands.specs.declared.NwkCommandList.{NwkCommandList}
 use Rattle.command_reader.proofs.Listed.{few-relays, few-powers}
 
-list-requires : tie.Need-list-requires
-list-requires c κs = search needs
-
-enum-told : tie.Need-enum-told
-enum-told c = search needs
-
-blank-requires : tie.Need-blank-requires
-blank-requires c κs = search needs
-
-enum-told-2 : tie.Need-enum-told-2
-enum-told-2 c = search needs
-
 with-relays-requires : tie.Need-with-relays-requires
 with-relays-requires c κs =
     let s = c .before .before .before .before .args .s .now in
@@ -27,33 +15,12 @@ with-relays-requires c κs =
     few-relays (c .before .before .before .before .args .command) s (λ i. c .before .before .before .shared-slice-known .given i .fits) (p .1) (p .0)
     (sym (c .before .before .list .ensures) ∙ c .enum-told2 .given .1)
 
-enum-told-3 : tie.Need-enum-told-3
-enum-told-3 c = search needs
-
-with-link-statuses-requires : tie.Need-with-link-statuses-requires
-with-link-statuses-requires c κs = search needs
-
-enum-told-4 : tie.Need-enum-told-4
-enum-told-4 c = search needs
-
-with-pan-ids-requires : tie.Need-with-pan-ids-requires
-with-pan-ids-requires c κs = search needs
-
-enum-told-5 : tie.Need-enum-told-5
-enum-told-5 c = search needs
-
 with-power-list-requires : tie.Need-with-power-list-requires
 with-power-list-requires c κs =
     let s = c .before .before .before .before .args .s .now in
     let p = c .before .before .before .before .pre in
     few-powers (c .before .before .before .before .args .command) s (λ i. c .before .before .before .shared-slice-known .given i .fits) (p .1) (p .0)
     (sym (c .before .before .list .ensures) ∙ c .enum-told5 .given .1)
-
-enum-told-6 : tie.Need-enum-told-6
-enum-told-6 c = search needs
-
-blank-requires-2 : tie.Need-blank-requires-2
-blank-requires-2 c κs = search needs
 
 returns : tie.Need-returns
 unfolding listed
@@ -96,23 +63,7 @@ returns-6 c =
 pub with-list-spec : {M : Type 1} → statement M
 with-list-spec =
     tie.close
-    (tie.spec
-    list-requires
-    enum-told
-    blank-requires
-    enum-told-2
-    with-relays-requires
-    enum-told-3
-    with-link-statuses-requires
-    enum-told-4
-    with-pan-ids-requires
-    enum-told-5
-    with-power-list-requires
-    enum-told-6
-    blank-requires-2
-    returns
-    returns-2
-    returns-3
-    returns-4
-    returns-5
-    returns-6)
+    (tie.spec (λ c κs. search needs) (λ c. search needs) (λ c κs. search needs) (λ c. search needs)
+    with-relays-requires (λ c. search needs) (λ c κs. search needs) (λ c. search needs) (λ c κs. search needs)
+    (λ c. search needs) with-power-list-requires (λ c. search needs) (λ c κs. search needs) returns returns-2
+    returns-3 returns-4 returns-5 returns-6)

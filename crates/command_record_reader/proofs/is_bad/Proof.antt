@@ -12,29 +12,14 @@ use Rattle.command_record_reader.proofs.Refused.{wrong-length, wrong-id
 returns : tie.Need-returns
 returns c = wrong-length (c .before .before .args .bytes .now) (c .if1 .taken)
 
-byte-at-requires : tie.Need-byte-at-requires
-byte-at-requires c κs = search needs
-
 returns-2 : tie.Need-returns-2
 returns-2 c =
     wrong-id (c .before .before .before .before .args .bytes .now) (c .before .before .if1 .left) (rw (c .before .byte-at .ensures) at (c .if2 .taken))
-
-cast-limits : tie.Need-cast-limits
-cast-limits c = search needs
-
-mul-limits : tie.Need-mul-limits
-mul-limits c = search needs
-
-array-copy-out-limits : tie.Need-array-copy-out-limits
-array-copy-out-limits c = search needs
 
 slice-aggregate-exceeds : tie.Need-slice-aggregate-exceeds
 unfolding commandLimits
 slice-aggregate-exceeds c =
     sym (row-length (c .before .before .before .byte-at .result) (c .before .before .if2 .left))
-
-exceeds-requires : tie.Need-exceeds-requires
-exceeds-requires c κs = search needs
 
 returns-3 : tie.Need-returns-3
 unfolding commandLimits
@@ -47,13 +32,5 @@ returns-3 c =
 pub is-bad-spec : {M : Type 1} → statement M
 is-bad-spec =
     tie.close
-    (tie.spec
-    returns
-    byte-at-requires
-    returns-2
-    cast-limits
-    mul-limits
-    array-copy-out-limits
-    slice-aggregate-exceeds
-    exceeds-requires
-    returns-3)
+    (tie.spec returns (λ c κs. search needs) returns-2 (λ c. search needs) (λ c. search needs) (λ c. search needs)
+    slice-aggregate-exceeds (λ c κs. search needs) returns-3)

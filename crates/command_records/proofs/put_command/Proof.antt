@@ -9,21 +9,6 @@ use Rattle.command_records.specs.CommandRecord.{routingRecord, networkRe
 use Rattle.records.proofs.Writes.{over-four}
 use Rattle.command_records.proofs.Lengths.{length-fieldsRecord, length-routing, length-network}
 
-put-fields-requires : tie.Need-put-fields-requires
-put-fields-requires c κs = search needs
-
-put-routing-requires : tie.Need-put-routing-requires
-put-routing-requires c κs = search needs
-
-put-network-requires : tie.Need-put-network-requires
-put-network-requires c κs = search needs
-
-put-unparsed-requires : tie.Need-put-unparsed-requires
-put-unparsed-requires c κs = search needs
-
-same-length : tie.Need-same-length
-same-length c = search needs
-
 returns : tie.Need-returns
 unfolding commandRecord routingRecord networkRecord
 returns c =
@@ -38,10 +23,5 @@ returns c =
 pub put-command-spec : {M : Type 1} → statement M
 put-command-spec =
     tie.close
-    (tie.spec
-    put-fields-requires
-    put-routing-requires
-    put-network-requires
-    put-unparsed-requires
-    same-length
-    returns)
+    (tie.spec (λ c κs. search needs) (λ c κs. search needs) (λ c κs. search needs) (λ c κs. search needs)
+    (λ c. search needs) returns)

@@ -9,9 +9,6 @@ use Rattle.command_writer.proofs.serialize.Tie as tie
 use Rattle.commands.specs.Writing.{commandBytes, writeRefusal, written, outputBy, writeAnswer, writeBuffer}
 use Rattle.command_writer.proofs.Tests.{written-not, output-not}
 
-refusal-requires : tie.Need-refusal-requires
-refusal-requires c κs = search needs
-
 returns : tie.Need-returns
 unfolding writeAnswer writeBuffer
 returns c =
@@ -26,12 +23,6 @@ returns c =
 write-command-requires : tie.Need-write-command-requires
 write-command-requires c κs = sym (c .before .before .refusal .ensures) ∙ c .before .if1 .left
 
-length-of-requires : tie.Need-length-of-requires
-length-of-requires c κs = search needs
-
-same-length : tie.Need-same-length
-same-length c = search needs
-
 returns-2 : tie.Need-returns-2
 unfolding writeAnswer writeBuffer written outputBy
 returns-2 c =
@@ -45,10 +36,5 @@ returns-2 c =
 pub serialize-spec : {M : Type 1} → statement M
 serialize-spec =
     tie.close
-    (tie.spec
-    refusal-requires
-    returns
-    write-command-requires
-    length-of-requires
-    same-length
+    (tie.spec (λ c κs. search needs) returns write-command-requires (λ c κs. search needs) (λ c. search needs)
     returns-2)

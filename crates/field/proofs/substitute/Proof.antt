@@ -6,12 +6,9 @@ use Rattle.field.proofs.Computed.{getD-values}
 use Rattle.field.proofs.substitute.Statement.{statement}
 use Rattle.field.proofs.substitute.Tie as tie
 
-element-copy-out-result : tie.Need-element-copy-out-result
-element-copy-out-result c = search needs
-
 returns : tie.Need-returns
 unfolding sBox
 returns c = rw (c .before .pre) (getD-values sbox 256 _ (search needs))
 
 pub substitute-spec : {M : Type 1} → statement M
-substitute-spec = tie.close (tie.spec element-copy-out-result returns)
+substitute-spec = tie.close (tie.spec (λ c. search needs) returns)

@@ -5,11 +5,8 @@ use Rattle.field.proofs.Bytes.{triple-by-double}
 use Rattle.field.proofs.triple.Statement.{statement}
 use Rattle.field.proofs.triple.Tie as tie
 
-double-requires : tie.Need-double-requires
-double-requires c κs = search needs
-
 returns : tie.Need-returns
 returns c = rw (c .double .ensures) (triple-by-double _ (search needs))
 
 pub triple-spec : {M : Type 1} → statement M
-triple-spec = tie.close (tie.spec double-requires returns)
+triple-spec = tie.close (tie.spec (λ c κs. search needs) returns)

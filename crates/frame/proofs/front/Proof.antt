@@ -7,9 +7,6 @@ use native.Mathlib.Nat.{add-zero}
 use Rattle.frame.proofs.front.Statement.{statement}
 use Rattle.frame.proofs.front.Tie as tie
 
-add-result : tie.Need-add-result
-add-result c = search needs
-
 returns : tie.Need-returns
 returns c =
     sym (ap (λ (b : Bool). c .before .args .header + cond b (c .before .args .aux) 0) (c .if1 .taken))
@@ -19,4 +16,4 @@ returns-2 c =
     sym (ap (λ (b : Bool). c .before .args .header + cond b (c .before .args .aux) 0) (c .if1 .left) ∙ add-zero (c .before .args .header))
 
 pub front-spec : {M : Type 1} → statement M
-front-spec = tie.close (tie.spec add-result returns returns-2)
+front-spec = tie.close (tie.spec (λ c. search needs) returns returns-2)

@@ -11,21 +11,6 @@ use Rattle.header.specs.declared.auxiliary.AuxRead.{AuxRead}
 use Rattle.frame.specs.Reading.{frameAnswer}
 use Rattle.frame.proofs.Returns.{frame-refused, frame-done}
 
-deserialize-requires : tie.Need-deserialize-requires
-deserialize-requires c κs = search needs
-
-behind-requires : tie.Need-behind-requires
-behind-requires c κs = search needs
-
-deserialize-requires-2 : tie.Need-deserialize-requires-2
-deserialize-requires-2 c κs = search needs
-
-frame-refusal-requires : tie.Need-frame-refusal-requires
-frame-refusal-requires c κs = search needs
-
-refused-requires : tie.Need-refused-requires
-refused-requires c κs = search needs
-
 returns : tie.Need-returns
 returns c =
     let h = c .before .before .before .before .before .deserialize .result in
@@ -40,9 +25,6 @@ front-requires c κs =
     let a = ap (λ (r : AuxRead). r .length) (c .before .before .before .before .deserialize2 .ensures) in
     omega (arith, header-short f (λ i. c .before .before .before .before .before .before .before .shared-slice-known .given i .fits), aux-short (c .before .before .before .before .before .behind .result .now))
 
-when-requires : tie.Need-when-requires
-when-requires c κs = search needs
-
 returns-2 : tie.Need-returns-2
 unfolding frameAnswer
 returns-2 c =
@@ -55,13 +37,5 @@ returns-2 c =
 pub read-frame-spec : {M : Type 1} → statement M
 read-frame-spec =
     tie.close
-    (tie.spec
-    deserialize-requires
-    behind-requires
-    deserialize-requires-2
-    frame-refusal-requires
-    refused-requires
-    returns
-    front-requires
-    when-requires
-    returns-2)
+    (tie.spec (λ c κs. search needs) (λ c κs. search needs) (λ c κs. search needs) (λ c κs. search needs)
+    (λ c κs. search needs) returns front-requires (λ c κs. search needs) returns-2)

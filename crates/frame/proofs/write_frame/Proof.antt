@@ -13,9 +13,6 @@ use Rattle.header.proofs.Answers.{write-refused}
 use Rattle.frame.specs.Writing.{frameBytes, writeFrame}
 use Rattle.frame.proofs.Accepted.{clear-writable}
 
-write-refusal-requires : tie.Need-write-refusal-requires
-write-refusal-requires c κs = search needs
-
 returns : tie.Need-returns
 unfolding writeFrame
 returns c =
@@ -23,9 +20,6 @@ returns c =
     let bs = frameBytes (a .h) (a .payload .now) in
     let w = write-refused (c .before .write-refusal .result) bs (a .out .now) (c .if1 .taken) in
     (w .0 ∙ ap (λ (n : ℕ). written n bs (a .out .now) .answer) (c .before .write-refusal .ensures), w .1 ∙ ap (λ (n : ℕ). written n bs (a .out .now) .out) (c .before .write-refusal .ensures))
-
-size-requires : tie.Need-size-requires
-size-requires c κs = search needs
 
 put-requires : tie.Need-put-requires
 unfolding frameBytes
@@ -45,9 +39,6 @@ add-t13 c =
     let w = clear-writable (c .before .before .before .before .before .before .before .before .before .before .before .before .before .args .h) (c .before .before .before .before .before .before .before .before .before .before .before .before .before .args .payload .now) (length (c .before .before .before .before .before .before .before .before .before .before .before .before .before .args .out .now)) (sym (c .before .before .before .before .before .before .before .before .before .before .write-refusal .ensures) ∙ c .before .before .before .before .before .before .before .before .before .if1 .left) in
     omega (arith, w .whole, length-append (headerBytes (c .before .before .before .before .before .before .before .before .before .before .before .before .before .args .h)) (c .before .before .before .before .before .before .before .before .before .before .before .before .before .args .payload .now), c .before .before .before .before .before .before .before .before .size .ensures .0)
 
-same-length : tie.Need-same-length
-same-length c = search needs
-
 returns-2 : tie.Need-returns-2
 unfolding writeFrame written frameBytes
 returns-2 c =
@@ -63,12 +54,5 @@ returns-2 c =
 pub write-frame-spec : {M : Type 1} → statement M
 write-frame-spec =
     tie.close
-    (tie.spec
-    write-refusal-requires
-    returns
-    size-requires
-    put-requires
-    copy-at-requires
-    add-t13
-    same-length
-    returns-2)
+    (tie.spec (λ c κs. search needs) returns (λ c κs. search needs) put-requires copy-at-requires add-t13
+    (λ c. search needs) returns-2)

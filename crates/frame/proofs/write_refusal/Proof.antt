@@ -11,9 +11,6 @@ use Rattle.header.specs.Writing.{headerBytes}
 use Rattle.frame.specs.Writing.{frameBytes, frameWriteRefusal}
 use Rattle.frame.proofs.Returns.{long-payload, long-whole, not-long}
 
-is-bad-requires : tie.Need-is-bad-requires
-is-bad-requires c κs = search needs
-
 returns : tie.Need-returns
 unfolding frameWriteRefusal frameBytes
 returns c = sym (stop 12 _ _ (sym (c .before .is-bad .ensures) ∙ c .if1 .taken))
@@ -23,12 +20,6 @@ unfolding frameWriteRefusal frameBytes
 returns-2 c =
     sym (skip 13 _ _ (sym (c .before .before .is-bad .ensures) ∙ c .before .if1 .left)
     ∙ stop 16 _ _ (long-payload (length (c .before .before .before .before .args .payload .now)) (length (frameBytes (c .before .before .before .before .args .h) (c .before .before .before .before .args .payload .now))) (c .if2 .taken)))
-
-size-requires : tie.Need-size-requires
-size-requires c κs = search needs
-
-add-whole : tie.Need-add-whole
-add-whole c = search needs
 
 returns-3 : tie.Need-returns-3
 unfolding frameWriteRefusal frameBytes
@@ -56,12 +47,5 @@ returns-5 c =
 pub write-refusal-spec : {M : Type 1} → statement M
 write-refusal-spec =
     tie.close
-    (tie.spec
-    is-bad-requires
-    returns
-    returns-2
-    size-requires
-    add-whole
-    returns-3
-    returns-4
+    (tie.spec (λ c κs. search needs) returns returns-2 (λ c κs. search needs) (λ c. search needs) returns-3 returns-4
     returns-5)

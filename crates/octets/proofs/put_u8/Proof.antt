@@ -11,12 +11,6 @@ use Rattle.octets.specs.Strings.{over}
 use Rattle.octets.specs.Numbers.{le}
 use Rattle.octets.proofs.Strings.{set-over}
 
-slice-write-out : tie.Need-slice-write-out
-slice-write-out c = search needs
-
-same-length : tie.Need-same-length
-same-length c = search needs
-
 returns : tie.Need-returns
 unfolding le
 returns c =
@@ -25,4 +19,4 @@ returns c =
     ∙ ap (λ (x : ℕ). over o (c .args .i) (x ∷ [])) (sym (mod-eq-of-lt (c .fits .x .fits)))
 
 pub put-u8-spec : {M : Type 1} → statement M
-put-u8-spec = tie.close (tie.spec slice-write-out same-length returns)
+put-u8-spec = tie.close (tie.spec (λ c. search needs) (λ c. search needs) returns)

@@ -5,15 +5,9 @@ use Rattle.command_fields.proofs.options.count_and_identifier.Statement
 use Rattle.command_fields.proofs.options.count_and_identifier.Tie as tie
 use Rattle.octets.specs.Fields.{packed}
 
-mul-result : tie.Need-mul-result
-mul-result c = search needs
-
-add-result : tie.Need-add-result
-add-result c = search needs
-
 returns : tie.Need-returns
 unfolding packed
 returns c = omega arith
 
 pub count-and-identifier-spec : {M : Type 1} → statement M
-count-and-identifier-spec = tie.close (tie.spec mul-result add-result returns)
+count-and-identifier-spec = tie.close (tie.spec (λ c. search needs) (λ c. search needs) returns)

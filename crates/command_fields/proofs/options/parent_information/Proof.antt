@@ -5,27 +5,6 @@ use Rattle.command_fields.proofs.options.parent_information.Statement.{
 use Rattle.command_fields.proofs.options.parent_information.Tie as tie
 use Rattle.octets.specs.Fields.{packed}
 
-bit-of-requires : tie.Need-bit-of-requires
-bit-of-requires c κs = search needs
-
-bit-of-requires-2 : tie.Need-bit-of-requires-2
-bit-of-requires-2 c κs = search needs
-
-mul-result : tie.Need-mul-result
-mul-result c = search needs
-
-add-result : tie.Need-add-result
-add-result c = search needs
-
-bit-of-requires-3 : tie.Need-bit-of-requires-3
-bit-of-requires-3 c κs = search needs
-
-mul-result-2 : tie.Need-mul-result-2
-mul-result-2 c = search needs
-
-add-result-2 : tie.Need-add-result-2
-add-result-2 c = search needs
-
 returns : tie.Need-returns
 unfolding packed
 returns c = omega arith
@@ -33,12 +12,5 @@ returns c = omega arith
 pub parent-information-spec : {M : Type 1} → statement M
 parent-information-spec =
     tie.close
-    (tie.spec
-    bit-of-requires
-    bit-of-requires-2
-    mul-result
-    add-result
-    bit-of-requires-3
-    mul-result-2
-    add-result-2
-    returns)
+    (tie.spec (λ c κs. search needs) (λ c κs. search needs) (λ c. search needs) (λ c. search needs)
+    (λ c κs. search needs) (λ c. search needs) (λ c. search needs) returns)

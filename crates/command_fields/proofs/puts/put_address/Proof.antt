@@ -12,12 +12,6 @@ use Rattle.commands.specs.Format.{width, writeField, writeFields, writeEntries}
 use Rattle.commands.specs.Commands.{routeRequestFormat, has, addressEntry}
 use Rattle.commands.specs.declared.MaybeEui64.{MaybeEui64}
 
-enum-told : tie.Need-enum-told
-enum-told c = search needs
-
-enum-known-address : tie.Need-enum-known-address
-enum-known-address c = search needs
-
 put-u64-requires : tie.Need-put-u64-requires
 put-u64-requires c κs =
     let a = c .before .before .before .before .before .args in
@@ -29,9 +23,6 @@ returns c =
     let a = c .before .before .before .args in
     sym (over-nil (a .out .now) (a .i)) ∙ ap (λ (m : MaybeEui64). over (a .out .now) (a .i) (writeEntries (routeRequestFormat .entry) (addressEntry m))) (sym (c .enum-told .given .1))
 
-same-length : tie.Need-same-length
-same-length c = search needs
-
 returns-2 : tie.Need-returns-2
 unfolding le routeRequestFormat width writeField writeFields writeEntries
 returns-2 c =
@@ -41,5 +32,4 @@ returns-2 c =
 
 pub put-address-spec : {M : Type 1} → statement M
 put-address-spec =
-    tie.close
-    (tie.spec enum-told enum-known-address put-u64-requires returns same-length returns-2)
+    tie.close (tie.spec (λ c. search needs) (λ c. search needs) put-u64-requires returns (λ c. search needs) returns-2)

@@ -12,21 +12,6 @@ use Rattle.commands.specs.Format.{partSizes, filled, keptCount, width, writeFie
 use Rattle.commands.specs.Commands.{linkStatusFormat, linkEntry}
 use Rattle.command_fields.proofs.Chain.{next}
 
-costs-byte-requires : tie.Need-costs-byte-requires
-costs-byte-requires c κs = search needs
-
-put-u16-requires : tie.Need-put-u16-requires
-put-u16-requires c κs = search needs
-
-add-put-byte : tie.Need-add-put-byte
-add-put-byte c = search needs
-
-put-byte-requires : tie.Need-put-byte-requires
-put-byte-requires c κs = search needs
-
-same-length : tie.Need-same-length
-same-length c = search needs
-
 returns : tie.Need-returns
 unfolding le partSizes filled keptCount width writeField writeFields linkStatusFormat linkEntry
 returns c =
@@ -37,10 +22,5 @@ returns c =
 pub put-link-spec : {M : Type 1} → statement M
 put-link-spec =
     tie.close
-    (tie.spec
-    costs-byte-requires
-    put-u16-requires
-    add-put-byte
-    put-byte-requires
-    same-length
-    returns)
+    (tie.spec (λ c κs. search needs) (λ c κs. search needs) (λ c. search needs) (λ c κs. search needs)
+    (λ c. search needs) returns)

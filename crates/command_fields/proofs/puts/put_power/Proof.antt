@@ -10,18 +10,6 @@ use Rattle.commands.specs.Format.{width, writeField, writeFields}
 use Rattle.commands.specs.Commands.{linkPowerDeltaFormat, powerEntry}
 use Rattle.command_fields.proofs.Chain.{next}
 
-put-u16-requires : tie.Need-put-u16-requires
-put-u16-requires c κs = search needs
-
-add-put-byte : tie.Need-add-put-byte
-add-put-byte c = search needs
-
-put-byte-requires : tie.Need-put-byte-requires
-put-byte-requires c κs = search needs
-
-same-length : tie.Need-same-length
-same-length c = search needs
-
 returns : tie.Need-returns
 unfolding le width writeField writeFields linkPowerDeltaFormat powerEntry
 returns c =
@@ -30,4 +18,4 @@ returns c =
 
 pub put-power-spec : {M : Type 1} → statement M
 put-power-spec =
-    tie.close (tie.spec put-u16-requires add-put-byte put-byte-requires same-length returns)
+    tie.close (tie.spec (λ c κs. search needs) (λ c. search needs) (λ c κs. search needs) (λ c. search needs) returns)

@@ -6,19 +6,10 @@ use Rattle.command_reader.proofs.lists.keep_unparsed.Statement.{stateme
 use Rattle.command_reader.proofs.lists.keep_unparsed.Tie as tie
 use Rattle.command_reader.proofs.Listed.{unparsed-kept}
 
-blank-requires : tie.Need-blank-requires
-blank-requires c κs = search needs
-
-read-bytes-requires : tie.Need-read-bytes-requires
-read-bytes-requires c κs = search needs
-
-cast-kept : tie.Need-cast-kept
-cast-kept c = search needs
-
 returns : tie.Need-returns
 returns c =
     let s = c .before .before .before .args .s .now in
     unparsed-kept s (c .before .blank .result) (c .before .blank .ensures) (length s) (c .read-bytes .result) refl (c .read-bytes .ensures)
 
 pub keep-unparsed-spec : {M : Type 1} → statement M
-keep-unparsed-spec = tie.close (tie.spec blank-requires read-bytes-requires cast-kept returns)
+keep-unparsed-spec = tie.close (tie.spec (λ c κs. search needs) (λ c κs. search needs) (λ c. search needs) returns)

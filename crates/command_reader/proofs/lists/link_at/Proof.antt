@@ -8,19 +8,10 @@ use Rattle.commands.specs.Format.{readFields, readField, kept, partSizes, size}
 use Rattle.commands.specs.Commands.{linkStatusFormat, linkOf}
 use Rattle.command_reader.specs.Entries.{linkAt}
 
-add-byte-at : tie.Need-add-byte-at
-add-byte-at c = search needs
-
-byte-at-requires : tie.Need-byte-at-requires
-byte-at-requires c κs = search needs
-
-read-u16-requires : tie.Need-read-u16-requires
-read-u16-requires c κs = search needs
-
 returns : tie.Need-returns
 unfolding linkAt linkOf linkStatusFormat readFields readField kept partSizes size fields
 returns c =
     λ i. record { address = c .read-u16 .ensures i; «incoming_cost» = c .before .byte-at .ensures i % 8; «outgoing_cost» = c .before .byte-at .ensures i / 8 / 2 % 8 }
 
 pub link-at-spec : {M : Type 1} → statement M
-link-at-spec = tie.close (tie.spec add-byte-at byte-at-requires read-u16-requires returns)
+link-at-spec = tie.close (tie.spec (λ c. search needs) (λ c κs. search needs) (λ c κs. search needs) returns)

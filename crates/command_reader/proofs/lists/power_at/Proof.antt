@@ -6,19 +6,10 @@ use Rattle.commands.specs.Format.{readFields, readField, size}
 use Rattle.commands.specs.Commands.{linkPowerDeltaFormat, powerOf}
 use Rattle.command_reader.specs.Entries.{powerAt}
 
-read-u16-requires : tie.Need-read-u16-requires
-read-u16-requires c κs = search needs
-
-add-byte-at : tie.Need-add-byte-at
-add-byte-at c = search needs
-
-byte-at-requires : tie.Need-byte-at-requires
-byte-at-requires c κs = search needs
-
 returns : tie.Need-returns
 unfolding powerAt powerOf linkPowerDeltaFormat readFields readField size
 returns c =
     λ i. record { «device_address» = c .before .read-u16 .ensures i; «power_delta» = c .byte-at .ensures i }
 
 pub power-at-spec : {M : Type 1} → statement M
-power-at-spec = tie.close (tie.spec read-u16-requires add-byte-at byte-at-requires returns)
+power-at-spec = tie.close (tie.spec (λ c κs. search needs) (λ c. search needs) (λ c κs. search needs) returns)

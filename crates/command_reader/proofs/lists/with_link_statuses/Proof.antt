@@ -7,18 +7,6 @@ use Rattle.command_reader.proofs.lists.with_link_statuses.Statement.{st
 use Rattle.command_reader.proofs.lists.with_link_statuses.Tie as tie
 use Rattle.command_reader.proofs.Listed.{links-listed}
 
-blank-requires : tie.Need-blank-requires
-blank-requires c κs = search needs
-
-byte-at-requires : tie.Need-byte-at-requires
-byte-at-requires c κs = search needs
-
-cast-read-link-statuses : tie.Need-cast-read-link-statuses
-cast-read-link-statuses c = search needs
-
-read-link-statuses-requires : tie.Need-read-link-statuses-requires
-read-link-statuses-requires c κs = search needs
-
 returns : tie.Need-returns
 returns c =
     let a = c .before .before .before .before .args in
@@ -28,9 +16,4 @@ returns c =
 pub with-link-statuses-spec : {M : Type 1} → statement M
 with-link-statuses-spec =
     tie.close
-    (tie.spec
-    blank-requires
-    byte-at-requires
-    cast-read-link-statuses
-    read-link-statuses-requires
-    returns)
+    (tie.spec (λ c κs. search needs) (λ c κs. search needs) (λ c. search needs) (λ c κs. search needs) returns)

@@ -7,18 +7,6 @@ use Rattle.command_reader.proofs.lists.with_pan_ids.Statement.{statemen
 use Rattle.command_reader.proofs.lists.with_pan_ids.Tie as tie
 use Rattle.command_reader.proofs.Listed.{panIds-listed}
 
-blank-requires : tie.Need-blank-requires
-blank-requires c κs = search needs
-
-byte-at-requires : tie.Need-byte-at-requires
-byte-at-requires c κs = search needs
-
-cast-read-pan-ids : tie.Need-cast-read-pan-ids
-cast-read-pan-ids c = search needs
-
-read-pan-ids-requires : tie.Need-read-pan-ids-requires
-read-pan-ids-requires c κs = search needs
-
 returns : tie.Need-returns
 returns c =
     let a = c .before .before .before .before .args in
@@ -28,4 +16,4 @@ returns c =
 pub with-pan-ids-spec : {M : Type 1} → statement M
 with-pan-ids-spec =
     tie.close
-    (tie.spec blank-requires byte-at-requires cast-read-pan-ids read-pan-ids-requires returns)
+    (tie.spec (λ c κs. search needs) (λ c κs. search needs) (λ c. search needs) (λ c κs. search needs) returns)

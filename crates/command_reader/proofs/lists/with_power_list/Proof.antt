@@ -5,18 +5,6 @@ use Rattle.command_reader.proofs.lists.with_power_list.Statement.{state
 use Rattle.command_reader.proofs.lists.with_power_list.Tie as tie
 use Rattle.command_reader.proofs.Listed.{powers-listed}
 
-blank-requires : tie.Need-blank-requires
-blank-requires c κs = search needs
-
-byte-at-requires : tie.Need-byte-at-requires
-byte-at-requires c κs = search needs
-
-cast-read-power-list : tie.Need-cast-read-power-list
-cast-read-power-list c = search needs
-
-read-power-list-requires : tie.Need-read-power-list-requires
-read-power-list-requires c κs = search needs
-
 returns : tie.Need-returns
 returns c =
     let a = c .before .before .before .before .args in
@@ -26,9 +14,4 @@ returns c =
 pub with-power-list-spec : {M : Type 1} → statement M
 with-power-list-spec =
     tie.close
-    (tie.spec
-    blank-requires
-    byte-at-requires
-    cast-read-power-list
-    read-power-list-requires
-    returns)
+    (tie.spec (λ c κs. search needs) (λ c κs. search needs) (λ c. search needs) (λ c κs. search needs) returns)

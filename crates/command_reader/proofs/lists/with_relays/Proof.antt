@@ -5,18 +5,6 @@ use Rattle.command_reader.proofs.lists.with_relays.Statement.{statement
 use Rattle.command_reader.proofs.lists.with_relays.Tie as tie
 use Rattle.command_reader.proofs.Listed.{relays-listed}
 
-blank-requires : tie.Need-blank-requires
-blank-requires c κs = search needs
-
-byte-at-requires : tie.Need-byte-at-requires
-byte-at-requires c κs = search needs
-
-cast-read-relays : tie.Need-cast-read-relays
-cast-read-relays c = search needs
-
-read-relays-requires : tie.Need-read-relays-requires
-read-relays-requires c κs = search needs
-
 returns : tie.Need-returns
 returns c =
     let a = c .before .before .before .before .args in
@@ -26,4 +14,4 @@ returns c =
 pub with-relays-spec : {M : Type 1} → statement M
 with-relays-spec =
     tie.close
-    (tie.spec blank-requires byte-at-requires cast-read-relays read-relays-requires returns)
+    (tie.spec (λ c κs. search needs) (λ c κs. search needs) (λ c. search needs) (λ c κs. search needs) returns)

@@ -11,15 +11,6 @@ use Rattle.commands.specs.declared.MaybeEui64.{MaybeEui64}
 use Rattle.commands.specs.Commands.{addressOf}
 use Rattle.octets.specs.Numbers.{leAt}
 
-byte-at-requires : tie.Need-byte-at-requires
-byte-at-requires c κs = search needs
-
-add-read-u64 : tie.Need-add-read-u64
-add-read-u64 c = search needs
-
-read-u64-requires : tie.Need-read-u64-requires
-read-u64-requires c κs = search needs
-
 returns : tie.Need-returns
 unfolding addressOf
 returns c =
@@ -35,4 +26,4 @@ returns-2 c =
 
 pub address-at-spec : {M : Type 1} → statement M
 address-at-spec =
-    tie.close (tie.spec byte-at-requires add-read-u64 read-u64-requires returns returns-2)
+    tie.close (tie.spec (λ c κs. search needs) (λ c. search needs) (λ c κs. search needs) returns returns-2)

@@ -8,93 +8,6 @@ use Rattle.commands.specs.Commands.{routeRecordOf}
 use Rattle.commands.specs.Reading.{commandOf}
 use Rattle.command_records.specs.Fields.{recordValues}
 
-enum-told : tie.Need-enum-told
-enum-told c = search needs
-
-route-request-at-requires : tie.Need-route-request-at-requires
-route-request-at-requires c κs = search needs
-
-enum-told-2 : tie.Need-enum-told-2
-enum-told-2 c = search needs
-
-route-reply-at-requires : tie.Need-route-reply-at-requires
-route-reply-at-requires c κs = search needs
-
-enum-told-3 : tie.Need-enum-told-3
-enum-told-3 c = search needs
-
-network-status-at-requires : tie.Need-network-status-at-requires
-network-status-at-requires c κs = search needs
-
-enum-told-4 : tie.Need-enum-told-4
-enum-told-4 c = search needs
-
-leave-at-requires : tie.Need-leave-at-requires
-leave-at-requires c κs = search needs
-
-enum-told-5 : tie.Need-enum-told-5
-enum-told-5 c = search needs
-
-enum-told-6 : tie.Need-enum-told-6
-enum-told-6 c = search needs
-
-rejoin-request-at-requires : tie.Need-rejoin-request-at-requires
-rejoin-request-at-requires c κs = search needs
-
-enum-told-7 : tie.Need-enum-told-7
-enum-told-7 c = search needs
-
-rejoin-response-at-requires : tie.Need-rejoin-response-at-requires
-rejoin-response-at-requires c κs = search needs
-
-enum-told-8 : tie.Need-enum-told-8
-enum-told-8 c = search needs
-
-link-status-at-requires : tie.Need-link-status-at-requires
-link-status-at-requires c κs = search needs
-
-enum-told-9 : tie.Need-enum-told-9
-enum-told-9 c = search needs
-
-network-report-at-requires : tie.Need-network-report-at-requires
-network-report-at-requires c κs = search needs
-
-enum-told-10 : tie.Need-enum-told-10
-enum-told-10 c = search needs
-
-network-update-at-requires : tie.Need-network-update-at-requires
-network-update-at-requires c κs = search needs
-
-enum-told-11 : tie.Need-enum-told-11
-enum-told-11 c = search needs
-
-timeout-request-at-requires : tie.Need-timeout-request-at-requires
-timeout-request-at-requires c κs = search needs
-
-enum-told-12 : tie.Need-enum-told-12
-enum-told-12 c = search needs
-
-timeout-response-at-requires : tie.Need-timeout-response-at-requires
-timeout-response-at-requires c κs = search needs
-
-enum-told-13 : tie.Need-enum-told-13
-enum-told-13 c = search needs
-
-link-power-delta-at-requires : tie.Need-link-power-delta-at-requires
-link-power-delta-at-requires c κs = search needs
-
-enum-told-14 : tie.Need-enum-told-14
-enum-told-14 c = search needs
-
-commissioning-request-at-requires : tie.Need-commissioning-request-at-requires
-commissioning-request-at-requires c κs = search needs
-
-enum-told-15 : tie.Need-enum-told-15
-enum-told-15 c = search needs
-
-commissioning-response-at-requires : tie.Need-commissioning-response-at-requires
-commissioning-response-at-requires c κs = search needs
-
 returns : tie.Need-returns
 returns c =
     c .route-request-at .ensures ∙ ap (λ (k : NwkCommandId). commandOf k (recordValues k (c .before .before .before .before .args .bytes .now))) (sym (c .before .enum-told .given .1))
@@ -159,48 +72,11 @@ returns-15 c =
 pub body-at-spec : {M : Type 1} → statement M
 body-at-spec =
     tie.close
-    (tie.spec
-    enum-told
-    route-request-at-requires
-    enum-told-2
-    route-reply-at-requires
-    enum-told-3
-    network-status-at-requires
-    enum-told-4
-    leave-at-requires
-    enum-told-5
-    enum-told-6
-    rejoin-request-at-requires
-    enum-told-7
-    rejoin-response-at-requires
-    enum-told-8
-    link-status-at-requires
-    enum-told-9
-    network-report-at-requires
-    enum-told-10
-    network-update-at-requires
-    enum-told-11
-    timeout-request-at-requires
-    enum-told-12
-    timeout-response-at-requires
-    enum-told-13
-    link-power-delta-at-requires
-    enum-told-14
-    commissioning-request-at-requires
-    enum-told-15
-    commissioning-response-at-requires
-    returns
-    returns-2
-    returns-3
-    returns-4
-    returns-5
-    returns-6
-    returns-7
-    returns-8
-    returns-9
-    returns-10
-    returns-11
-    returns-12
-    returns-13
-    returns-14
-    returns-15)
+    (tie.spec (λ c. search needs) (λ c κs. search needs) (λ c. search needs) (λ c κs. search needs)
+    (λ c. search needs) (λ c κs. search needs) (λ c. search needs) (λ c κs. search needs) (λ c. search needs)
+    (λ c. search needs) (λ c κs. search needs) (λ c. search needs) (λ c κs. search needs) (λ c. search needs)
+    (λ c κs. search needs) (λ c. search needs) (λ c κs. search needs) (λ c. search needs) (λ c κs. search needs)
+    (λ c. search needs) (λ c κs. search needs) (λ c. search needs) (λ c κs. search needs) (λ c. search needs)
+    (λ c κs. search needs) (λ c. search needs) (λ c κs. search needs) (λ c. search needs) (λ c κs. search needs)
+    returns returns-2 returns-3 returns-4 returns-5 returns-6 returns-7 returns-8 returns-9 returns-10 returns-11
+    returns-12 returns-13 returns-14 returns-15)

@@ -11,57 +11,6 @@ use Rattle.command_record_reader.proofs.fields.capability_at.Tie as tie
 use Rattle.commands.specs.Codes.{deviceTypeOf, powerSourceOf}
 use Rattle.commands.specs.Commands.{capabilityOf}
 
-byte-at-requires : tie.Need-byte-at-requires
-byte-at-requires c κs = search needs
-
-add-byte-at : tie.Need-add-byte-at
-add-byte-at c = search needs
-
-byte-at-requires-2 : tie.Need-byte-at-requires-2
-byte-at-requires-2 c κs = search needs
-
-from-bit-requires : tie.Need-from-bit-requires
-from-bit-requires c κs = search needs
-
-add-byte-at-2 : tie.Need-add-byte-at-2
-add-byte-at-2 c = search needs
-
-byte-at-requires-3 : tie.Need-byte-at-requires-3
-byte-at-requires-3 c κs = search needs
-
-from-bit-requires-2 : tie.Need-from-bit-requires-2
-from-bit-requires-2 c κs = search needs
-
-add-byte-at-3 : tie.Need-add-byte-at-3
-add-byte-at-3 c = search needs
-
-byte-at-requires-4 : tie.Need-byte-at-requires-4
-byte-at-requires-4 c κs = search needs
-
-add-byte-at-4 : tie.Need-add-byte-at-4
-add-byte-at-4 c = search needs
-
-byte-at-requires-5 : tie.Need-byte-at-requires-5
-byte-at-requires-5 c κs = search needs
-
-add-byte-at-5 : tie.Need-add-byte-at-5
-add-byte-at-5 c = search needs
-
-byte-at-requires-6 : tie.Need-byte-at-requires-6
-byte-at-requires-6 c κs = search needs
-
-add-byte-at-6 : tie.Need-add-byte-at-6
-add-byte-at-6 c = search needs
-
-byte-at-requires-7 : tie.Need-byte-at-requires-7
-byte-at-requires-7 c κs = search needs
-
-add-byte-at-7 : tie.Need-add-byte-at-7
-add-byte-at-7 c = search needs
-
-byte-at-requires-8 : tie.Need-byte-at-requires-8
-byte-at-requires-8 c κs = search needs
-
 returns : tie.Need-returns
 unfolding capabilityOf
 returns c =
@@ -81,22 +30,7 @@ returns c =
 pub capability-at-spec : {M : Type 1} → statement M
 capability-at-spec =
     tie.close
-    (tie.spec
-    byte-at-requires
-    add-byte-at
-    byte-at-requires-2
-    from-bit-requires
-    add-byte-at-2
-    byte-at-requires-3
-    from-bit-requires-2
-    add-byte-at-3
-    byte-at-requires-4
-    add-byte-at-4
-    byte-at-requires-5
-    add-byte-at-5
-    byte-at-requires-6
-    add-byte-at-6
-    byte-at-requires-7
-    add-byte-at-7
-    byte-at-requires-8
-    returns)
+    (tie.spec (λ c κs. search needs) (λ c. search needs) (λ c κs. search needs) (λ c κs. search needs)
+    (λ c. search needs) (λ c κs. search needs) (λ c κs. search needs) (λ c. search needs) (λ c κs. search needs)
+    (λ c. search needs) (λ c κs. search needs) (λ c. search needs) (λ c κs. search needs) (λ c. search needs)
+    (λ c κs. search needs) (λ c. search needs) (λ c κs. search needs) returns)

@@ -11,23 +11,11 @@ use Rattle.commands.specs.declared.TypedBody.{TypedBody}
 use Rattle.commands.specs.Codes.{commandIdOf}
 use Rattle.command_records.specs.Fields.{recordedBy, recorded}
 
-byte-at-requires : tie.Need-byte-at-requires
-byte-at-requires c κs = search needs
-
 returns : tie.Need-returns
 unfolding recorded recordedBy
 returns c =
     let r = c .before .before .before .args .bytes .now in
     sym (ap (λ (b : Bool). cond b (TypedBody.Typed NwkCommand.Unparsed) (recordedBy (commandIdOf (getD r 0 0)) r)) (eq-eqb (getD r 0 0) 0 (sym (c .before .byte-at .ensures) ∙ c .if1 .taken)))
-
-try-from-requires : tie.Need-try-from-requires
-try-from-requires c κs = search needs
-
-enum-known-id : tie.Need-enum-known-id
-enum-known-id c = search needs
-
-enum-told : tie.Need-enum-told
-enum-told c = search needs
 
 returns-2 : tie.Need-returns-2
 unfolding recorded recordedBy
@@ -35,9 +23,6 @@ returns-2 c =
     let r = c .before .before .before .before .before .before .args .bytes .now in
     ap (λ k. recordedBy k r) (sym (c .enum-told .given .1) ∙ c .before .before .try-from .ensures ∙ ap commandIdOf (c .before .before .before .before .byte-at .ensures))
     ∙ sym (ap (λ (b : Bool). cond b (TypedBody.Typed NwkCommand.Unparsed) (recordedBy (commandIdOf (getD r 0 0)) r)) (ne-eqb (getD r 0 0) 0 (λ e. c .before .before .before .if1 .left (c .before .before .before .before .byte-at .ensures ∙ e))))
-
-body-at-requires : tie.Need-body-at-requires
-body-at-requires c κs = search needs
 
 returns-3 : tie.Need-returns-3
 unfolding recorded recordedBy
@@ -50,12 +35,5 @@ returns-3 c =
 pub command-at-spec : {M : Type 1} → statement M
 command-at-spec =
     tie.close
-    (tie.spec
-    byte-at-requires
-    returns
-    try-from-requires
-    enum-known-id
-    enum-told
-    returns-2
-    body-at-requires
-    returns-3)
+    (tie.spec (λ c κs. search needs) returns (λ c κs. search needs) (λ c. search needs) (λ c. search needs) returns-2
+    (λ c κs. search needs) returns-3)

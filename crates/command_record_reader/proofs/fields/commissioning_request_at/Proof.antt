@@ -11,26 +11,11 @@ use Rattle.command_records.specs.Fields.{recordValues}
 use Rattle.commands.specs.Codes.{commissioningTypeOf}
 use Rattle.commands.specs.Commands.{commissioningRequestOf, commissioningRequestBy}
 
-byte-at-requires : tie.Need-byte-at-requires
-byte-at-requires c κs = search needs
-
-try-from-requires : tie.Need-try-from-requires
-try-from-requires c κs = search needs
-
-enum-known-commissioning-type : tie.Need-enum-known-commissioning-type
-enum-known-commissioning-type c = search needs
-
-enum-told : tie.Need-enum-told
-enum-told c = search needs
-
 returns : tie.Need-returns
 unfolding commandOf recordValues commissioningRequestOf commissioningRequestBy
 returns c =
     let r = c .before .before .before .before .before .args .bytes .now in
     ap (λ k. commissioningRequestBy k (recordValues NwkCommandId.NetworkCommissioningRequest r)) (sym (c .enum-told .given .1) ∙ c .before .before .try-from .ensures ∙ ap commissioningTypeOf (c .before .before .before .byte-at .ensures))
-
-capability-at-requires : tie.Need-capability-at-requires
-capability-at-requires c κs = search needs
 
 returns-2 : tie.Need-returns-2
 unfolding commandOf recordValues commissioningRequestOf commissioningRequestBy
@@ -42,11 +27,5 @@ returns-2 c =
 pub commissioning-request-at-spec : {M : Type 1} → statement M
 commissioning-request-at-spec =
     tie.close
-    (tie.spec
-    byte-at-requires
-    try-from-requires
-    enum-known-commissioning-type
-    enum-told
-    returns
-    capability-at-requires
-    returns-2)
+    (tie.spec (λ c κs. search needs) (λ c κs. search needs) (λ c. search needs) (λ c. search needs) returns
+    (λ c κs. search needs) returns-2)

@@ -9,19 +9,10 @@ use Rattle.commands.specs.Reading.{commandOf}
 use Rattle.command_records.specs.Fields.{recordValues}
 use Rattle.commands.specs.Commands.{leaveOf}
 
-byte-at-requires : tie.Need-byte-at-requires
-byte-at-requires c κs = search needs
-
-byte-at-requires-2 : tie.Need-byte-at-requires-2
-byte-at-requires-2 c κs = search needs
-
-byte-at-requires-3 : tie.Need-byte-at-requires-3
-byte-at-requires-3 c κs = search needs
-
 returns : tie.Need-returns
 unfolding commandOf recordValues leaveOf
 returns c =
     λ i. TypedBody.Typed (NwkCommand.Leave (record { rejoin = eqb (c .before .before .byte-at .ensures i) 1; request = eqb (c .before .byte-at2 .ensures i) 1; «remove_children» = eqb (c .byte-at3 .ensures i) 1 }))
 
 pub leave-at-spec : {M : Type 1} → statement M
-leave-at-spec = tie.close (tie.spec byte-at-requires byte-at-requires-2 byte-at-requires-3 returns)
+leave-at-spec = tie.close (tie.spec (λ c κs. search needs) (λ c κs. search needs) (λ c κs. search needs) returns)

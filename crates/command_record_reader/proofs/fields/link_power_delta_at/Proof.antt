@@ -11,18 +11,6 @@ use Rattle.command_records.specs.Fields.{recordValues}
 use Rattle.commands.specs.Codes.{powerTypeOf}
 use Rattle.commands.specs.Commands.{linkPowerDeltaOf, linkPowerDeltaBy}
 
-byte-at-requires : tie.Need-byte-at-requires
-byte-at-requires c κs = search needs
-
-try-from-requires : tie.Need-try-from-requires
-try-from-requires c κs = search needs
-
-enum-known-command-type : tie.Need-enum-known-command-type
-enum-known-command-type c = search needs
-
-enum-told : tie.Need-enum-told
-enum-told c = search needs
-
 returns : tie.Need-returns
 unfolding commandOf recordValues linkPowerDeltaOf linkPowerDeltaBy
 returns c =
@@ -39,10 +27,4 @@ returns-2 c =
 pub link-power-delta-at-spec : {M : Type 1} → statement M
 link-power-delta-at-spec =
     tie.close
-    (tie.spec
-    byte-at-requires
-    try-from-requires
-    enum-known-command-type
-    enum-told
-    returns
-    returns-2)
+    (tie.spec (λ c κs. search needs) (λ c κs. search needs) (λ c. search needs) (λ c. search needs) returns returns-2)

@@ -9,16 +9,10 @@ use Rattle.commands.specs.Reading.{commandOf}
 use Rattle.command_records.specs.Fields.{recordValues}
 use Rattle.commands.specs.Commands.{linkStatusOf}
 
-byte-at-requires : tie.Need-byte-at-requires
-byte-at-requires c κs = search needs
-
-byte-at-requires-2 : tie.Need-byte-at-requires-2
-byte-at-requires-2 c κs = search needs
-
 returns : tie.Need-returns
 unfolding commandOf recordValues linkStatusOf
 returns c =
     λ i. TypedBody.Typed (NwkCommand.LinkStatus (record { «is_first_frame» = eqb (c .before .byte-at .ensures i) 1; «is_last_frame» = eqb (c .byte-at2 .ensures i) 1 }))
 
 pub link-status-at-spec : {M : Type 1} → statement M
-link-status-at-spec = tie.close (tie.spec byte-at-requires byte-at-requires-2 returns)
+link-status-at-spec = tie.close (tie.spec (λ c κs. search needs) (λ c κs. search needs) returns)

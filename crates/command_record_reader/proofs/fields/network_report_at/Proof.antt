@@ -11,26 +11,11 @@ use Rattle.command_records.specs.Fields.{recordValues}
 use Rattle.commands.specs.Codes.{reportIdentifierOf}
 use Rattle.commands.specs.Commands.{networkReportOf, networkReportBy}
 
-byte-at-requires : tie.Need-byte-at-requires
-byte-at-requires c κs = search needs
-
-try-from-requires : tie.Need-try-from-requires
-try-from-requires c κs = search needs
-
-enum-known-report-command-identifier : tie.Need-enum-known-report-command-identifier
-enum-known-report-command-identifier c = search needs
-
-enum-told : tie.Need-enum-told
-enum-told c = search needs
-
 returns : tie.Need-returns
 unfolding commandOf recordValues networkReportOf networkReportBy
 returns c =
     let r = c .before .before .before .before .before .args .bytes .now in
     ap (λ k. networkReportBy k (recordValues NwkCommandId.NetworkReport r)) (sym (c .enum-told .given .1) ∙ c .before .before .try-from .ensures ∙ ap reportIdentifierOf (c .before .before .before .byte-at .ensures))
-
-read-u64-requires : tie.Need-read-u64-requires
-read-u64-requires c κs = search needs
 
 returns-2 : tie.Need-returns-2
 unfolding commandOf recordValues networkReportOf networkReportBy
@@ -42,11 +27,5 @@ returns-2 c =
 pub network-report-at-spec : {M : Type 1} → statement M
 network-report-at-spec =
     tie.close
-    (tie.spec
-    byte-at-requires
-    try-from-requires
-    enum-known-report-command-identifier
-    enum-told
-    returns
-    read-u64-requires
-    returns-2)
+    (tie.spec (λ c κs. search needs) (λ c κs. search needs) (λ c. search needs) (λ c. search needs) returns
+    (λ c κs. search needs) returns-2)

@@ -11,35 +11,11 @@ use Rattle.command_records.specs.Fields.{recordValues}
 use Rattle.commands.specs.Codes.{updateIdentifierOf}
 use Rattle.commands.specs.Commands.{networkUpdateOf, networkUpdateBy}
 
-byte-at-requires : tie.Need-byte-at-requires
-byte-at-requires c κs = search needs
-
-try-from-requires : tie.Need-try-from-requires
-try-from-requires c κs = search needs
-
-enum-known-update-command-identifier : tie.Need-enum-known-update-command-identifier
-enum-known-update-command-identifier c = search needs
-
-enum-told : tie.Need-enum-told
-enum-told c = search needs
-
 returns : tie.Need-returns
 unfolding commandOf recordValues networkUpdateOf networkUpdateBy
 returns c =
     let r = c .before .before .before .before .before .args .bytes .now in
     ap (λ k. networkUpdateBy k (recordValues NwkCommandId.NetworkUpdate r)) (sym (c .enum-told .given .1) ∙ c .before .before .try-from .ensures ∙ ap updateIdentifierOf (c .before .before .before .byte-at .ensures))
-
-byte-at-requires-2 : tie.Need-byte-at-requires-2
-byte-at-requires-2 c κs = search needs
-
-read-u64-requires : tie.Need-read-u64-requires
-read-u64-requires c κs = search needs
-
-byte-at-requires-3 : tie.Need-byte-at-requires-3
-byte-at-requires-3 c κs = search needs
-
-read-u16-requires : tie.Need-read-u16-requires
-read-u16-requires c κs = search needs
 
 returns-2 : tie.Need-returns-2
 unfolding commandOf recordValues networkUpdateOf networkUpdateBy
@@ -51,14 +27,5 @@ returns-2 c =
 pub network-update-at-spec : {M : Type 1} → statement M
 network-update-at-spec =
     tie.close
-    (tie.spec
-    byte-at-requires
-    try-from-requires
-    enum-known-update-command-identifier
-    enum-told
-    returns
-    byte-at-requires-2
-    read-u64-requires
-    byte-at-requires-3
-    read-u16-requires
-    returns-2)
+    (tie.spec (λ c κs. search needs) (λ c κs. search needs) (λ c. search needs) (λ c. search needs) returns
+    (λ c κs. search needs) (λ c κs. search needs) (λ c κs. search needs) (λ c κs. search needs) returns-2)

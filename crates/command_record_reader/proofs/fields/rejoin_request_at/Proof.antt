@@ -8,13 +8,10 @@ use Rattle.commands.specs.Reading.{commandOf}
 use Rattle.command_records.specs.Fields.{recordValues}
 use Rattle.commands.specs.Commands.{rejoinRequestOf}
 
-capability-at-requires : tie.Need-capability-at-requires
-capability-at-requires c κs = search needs
-
 returns : tie.Need-returns
 unfolding commandOf recordValues rejoinRequestOf
 returns c =
     λ i. TypedBody.Typed (NwkCommand.RejoinRequest (record { «capability_information» = c .capability-at .ensures i }))
 
 pub rejoin-request-at-spec : {M : Type 1} → statement M
-rejoin-request-at-spec = tie.close (tie.spec capability-at-requires returns)
+rejoin-request-at-spec = tie.close (tie.spec (λ c κs. search needs) returns)

@@ -11,26 +11,11 @@ use Rattle.command_records.specs.Fields.{recordValues}
 use Rattle.commands.specs.Codes.{associationStatusOf}
 use Rattle.commands.specs.Commands.{rejoinResponseOf, rejoinResponseBy}
 
-byte-at-requires : tie.Need-byte-at-requires
-byte-at-requires c κs = search needs
-
-try-from-requires : tie.Need-try-from-requires
-try-from-requires c κs = search needs
-
-enum-known-rejoin-status : tie.Need-enum-known-rejoin-status
-enum-known-rejoin-status c = search needs
-
-enum-told : tie.Need-enum-told
-enum-told c = search needs
-
 returns : tie.Need-returns
 unfolding commandOf recordValues rejoinResponseOf rejoinResponseBy
 returns c =
     let r = c .before .before .before .before .before .args .bytes .now in
     ap (λ k. rejoinResponseBy k (recordValues NwkCommandId.RejoinResponse r)) (sym (c .enum-told .given .1) ∙ c .before .before .try-from .ensures ∙ ap associationStatusOf (c .before .before .before .byte-at .ensures))
-
-read-u16-requires : tie.Need-read-u16-requires
-read-u16-requires c κs = search needs
 
 returns-2 : tie.Need-returns-2
 unfolding commandOf recordValues rejoinResponseOf rejoinResponseBy
@@ -42,11 +27,5 @@ returns-2 c =
 pub rejoin-response-at-spec : {M : Type 1} → statement M
 rejoin-response-at-spec =
     tie.close
-    (tie.spec
-    byte-at-requires
-    try-from-requires
-    enum-known-rejoin-status
-    enum-told
-    returns
-    read-u16-requires
-    returns-2)
+    (tie.spec (λ c κs. search needs) (λ c κs. search needs) (λ c. search needs) (λ c. search needs) returns
+    (λ c κs. search needs) returns-2)

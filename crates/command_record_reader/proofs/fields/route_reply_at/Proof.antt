@@ -32,24 +32,6 @@ responder : (b : Bool) (p id o s c x y : ℕ) → addressOf p y ≡ addressOf p 
 responder true p id o s c x y = refl
 responder false p id o s c x y = refl
 
-address-at-requires : tie.Need-address-at-requires
-address-at-requires c κs = search needs
-
-address-at-requires-2 : tie.Need-address-at-requires-2
-address-at-requires-2 c κs = search needs
-
-byte-at-requires : tie.Need-byte-at-requires
-byte-at-requires c κs = search needs
-
-read-u16-requires : tie.Need-read-u16-requires
-read-u16-requires c κs = search needs
-
-read-u16-requires-2 : tie.Need-read-u16-requires-2
-read-u16-requires-2 c κs = search needs
-
-byte-at-requires-2 : tie.Need-byte-at-requires-2
-byte-at-requires-2 c κs = search needs
-
 returns : tie.Need-returns
 unfolding commandOf recordValues routeReplyOf addressOf
 returns c =
@@ -67,11 +49,5 @@ returns c =
 pub route-reply-at-spec : {M : Type 1} → statement M
 route-reply-at-spec =
     tie.close
-    (tie.spec
-    address-at-requires
-    address-at-requires-2
-    byte-at-requires
-    read-u16-requires
-    read-u16-requires-2
-    byte-at-requires-2
-    returns)
+    (tie.spec (λ c κs. search needs) (λ c κs. search needs) (λ c κs. search needs) (λ c κs. search needs)
+    (λ c κs. search needs) (λ c κs. search needs) returns)

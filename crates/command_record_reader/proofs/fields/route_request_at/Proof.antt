@@ -11,35 +11,11 @@ use Rattle.command_records.specs.Fields.{recordValues}
 use Rattle.commands.specs.Codes.{manyToOneOf}
 use Rattle.commands.specs.Commands.{routeRequestOf, routeRequestBy}
 
-byte-at-requires : tie.Need-byte-at-requires
-byte-at-requires c κs = search needs
-
-try-from-requires : tie.Need-try-from-requires
-try-from-requires c κs = search needs
-
-enum-known-many-to-one : tie.Need-enum-known-many-to-one
-enum-known-many-to-one c = search needs
-
-enum-told : tie.Need-enum-told
-enum-told c = search needs
-
 returns : tie.Need-returns
 unfolding commandOf recordValues routeRequestOf routeRequestBy
 returns c =
     let r = c .before .before .before .before .before .args .bytes .now in
     ap (λ k. routeRequestBy k (recordValues NwkCommandId.RouteRequest r)) (sym (c .enum-told .given .1) ∙ c .before .before .try-from .ensures ∙ ap manyToOneOf (c .before .before .before .byte-at .ensures))
-
-address-at-requires : tie.Need-address-at-requires
-address-at-requires c κs = search needs
-
-byte-at-requires-2 : tie.Need-byte-at-requires-2
-byte-at-requires-2 c κs = search needs
-
-read-u16-requires : tie.Need-read-u16-requires
-read-u16-requires c κs = search needs
-
-byte-at-requires-3 : tie.Need-byte-at-requires-3
-byte-at-requires-3 c κs = search needs
 
 returns-2 : tie.Need-returns-2
 unfolding commandOf recordValues routeRequestOf routeRequestBy
@@ -51,14 +27,5 @@ returns-2 c =
 pub route-request-at-spec : {M : Type 1} → statement M
 route-request-at-spec =
     tie.close
-    (tie.spec
-    byte-at-requires
-    try-from-requires
-    enum-known-many-to-one
-    enum-told
-    returns
-    address-at-requires
-    byte-at-requires-2
-    read-u16-requires
-    byte-at-requires-3
-    returns-2)
+    (tie.spec (λ c κs. search needs) (λ c κs. search needs) (λ c. search needs) (λ c. search needs) returns
+    (λ c κs. search needs) (λ c κs. search needs) (λ c κs. search needs) (λ c κs. search needs) returns-2)

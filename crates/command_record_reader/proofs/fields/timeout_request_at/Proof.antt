@@ -11,26 +11,11 @@ use Rattle.command_records.specs.Fields.{recordValues}
 use Rattle.commands.specs.Codes.{timeoutOf}
 use Rattle.commands.specs.Commands.{timeoutRequestOf, timeoutRequestBy}
 
-byte-at-requires : tie.Need-byte-at-requires
-byte-at-requires c κs = search needs
-
-try-from-requires : tie.Need-try-from-requires
-try-from-requires c κs = search needs
-
-enum-known-request-timeout-enum : tie.Need-enum-known-request-timeout-enum
-enum-known-request-timeout-enum c = search needs
-
-enum-told : tie.Need-enum-told
-enum-told c = search needs
-
 returns : tie.Need-returns
 unfolding commandOf recordValues timeoutRequestOf timeoutRequestBy
 returns c =
     let r = c .before .before .before .before .before .args .bytes .now in
     ap (λ k. timeoutRequestBy k (recordValues NwkCommandId.EndDeviceTimeoutRequest r)) (sym (c .enum-told .given .1) ∙ c .before .before .try-from .ensures ∙ ap timeoutOf (c .before .before .before .byte-at .ensures))
-
-byte-at-requires-2 : tie.Need-byte-at-requires-2
-byte-at-requires-2 c κs = search needs
 
 returns-2 : tie.Need-returns-2
 unfolding commandOf recordValues timeoutRequestOf timeoutRequestBy
@@ -42,11 +27,5 @@ returns-2 c =
 pub timeout-request-at-spec : {M : Type 1} → statement M
 timeout-request-at-spec =
     tie.close
-    (tie.spec
-    byte-at-requires
-    try-from-requires
-    enum-known-request-timeout-enum
-    enum-told
-    returns
-    byte-at-requires-2
-    returns-2)
+    (tie.spec (λ c κs. search needs) (λ c κs. search needs) (λ c. search needs) (λ c. search needs) returns
+    (λ c κs. search needs) returns-2)

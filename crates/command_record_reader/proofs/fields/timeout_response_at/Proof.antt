@@ -12,32 +12,11 @@ use Rattle.command_records.specs.Fields.{recordValues}
 use Rattle.commands.specs.Codes.{timeoutStatusOf}
 use Rattle.commands.specs.Commands.{timeoutResponseOf, timeoutResponseBy}
 
-byte-at-requires : tie.Need-byte-at-requires
-byte-at-requires c κs = search needs
-
-try-from-requires : tie.Need-try-from-requires
-try-from-requires c κs = search needs
-
-enum-known-status : tie.Need-enum-known-status
-enum-known-status c = search needs
-
-enum-told : tie.Need-enum-told
-enum-told c = search needs
-
 returns : tie.Need-returns
 unfolding commandOf recordValues timeoutResponseOf timeoutResponseBy
 returns c =
     let r = c .before .before .before .before .before .args .bytes .now in
     ap (λ k. timeoutResponseBy k (recordValues NwkCommandId.EndDeviceTimeoutResponse r)) (sym (c .enum-told .given .1) ∙ c .before .before .try-from .ensures ∙ ap timeoutStatusOf (c .before .before .before .byte-at .ensures))
-
-byte-at-requires-2 : tie.Need-byte-at-requires-2
-byte-at-requires-2 c κs = search needs
-
-byte-at-requires-3 : tie.Need-byte-at-requires-3
-byte-at-requires-3 c κs = search needs
-
-byte-at-requires-4 : tie.Need-byte-at-requires-4
-byte-at-requires-4 c κs = search needs
 
 returns-2 : tie.Need-returns-2
 unfolding commandOf recordValues timeoutResponseOf timeoutResponseBy
@@ -49,13 +28,5 @@ returns-2 c =
 pub timeout-response-at-spec : {M : Type 1} → statement M
 timeout-response-at-spec =
     tie.close
-    (tie.spec
-    byte-at-requires
-    try-from-requires
-    enum-known-status
-    enum-told
-    returns
-    byte-at-requires-2
-    byte-at-requires-3
-    byte-at-requires-4
-    returns-2)
+    (tie.spec (λ c κs. search needs) (λ c κs. search needs) (λ c. search needs) (λ c. search needs) returns
+    (λ c κs. search needs) (λ c κs. search needs) (λ c κs. search needs) returns-2)

@@ -4,36 +4,6 @@ use Rattle.command_record_reader.proofs.lists.frame_at.Statement.{state
 use Rattle.command_record_reader.proofs.lists.frame_at.Tie as tie
 use Rattle.command_records.specs.Lists.{frameAt}
 
-byte-at-requires : tie.Need-byte-at-requires
-byte-at-requires c κs = search needs
-
-relays-at-requires : tie.Need-relays-at-requires
-relays-at-requires c κs = search needs
-
-byte-at-requires-2 : tie.Need-byte-at-requires-2
-byte-at-requires-2 c κs = search needs
-
-links-at-requires : tie.Need-links-at-requires
-links-at-requires c κs = search needs
-
-byte-at-requires-3 : tie.Need-byte-at-requires-3
-byte-at-requires-3 c κs = search needs
-
-pan-ids-at-requires : tie.Need-pan-ids-at-requires
-pan-ids-at-requires c κs = search needs
-
-byte-at-requires-4 : tie.Need-byte-at-requires-4
-byte-at-requires-4 c κs = search needs
-
-powers-at-requires : tie.Need-powers-at-requires
-powers-at-requires c κs = search needs
-
-byte-at-requires-5 : tie.Need-byte-at-requires-5
-byte-at-requires-5 c κs = search needs
-
-unparsed-at-requires : tie.Need-unparsed-at-requires
-unparsed-at-requires c κs = search needs
-
 returns : tie.Need-returns
 unfolding frameAt
 returns c =
@@ -54,15 +24,6 @@ returns c =
 pub frame-at-spec : {M : Type 1} → statement M
 frame-at-spec =
     tie.close
-    (tie.spec
-    byte-at-requires
-    relays-at-requires
-    byte-at-requires-2
-    links-at-requires
-    byte-at-requires-3
-    pan-ids-at-requires
-    byte-at-requires-4
-    powers-at-requires
-    byte-at-requires-5
-    unparsed-at-requires
-    returns)
+    (tie.spec (λ c κs. search needs) (λ c κs. search needs) (λ c κs. search needs) (λ c κs. search needs)
+    (λ c κs. search needs) (λ c κs. search needs) (λ c κs. search needs) (λ c κs. search needs) (λ c κs. search needs)
+    (λ c κs. search needs) returns)

@@ -4,21 +4,6 @@ use Rattle.command_record_reader.proofs.lists.link_at.Statement.{statem
 use Rattle.command_record_reader.proofs.lists.link_at.Tie as tie
 use Rattle.command_records.specs.Lists.{linkAt}
 
-read-u16-requires : tie.Need-read-u16-requires
-read-u16-requires c κs = search needs
-
-add-byte-at : tie.Need-add-byte-at
-add-byte-at c = search needs
-
-byte-at-requires : tie.Need-byte-at-requires
-byte-at-requires c κs = search needs
-
-add-byte-at-2 : tie.Need-add-byte-at-2
-add-byte-at-2 c = search needs
-
-byte-at-requires-2 : tie.Need-byte-at-requires-2
-byte-at-requires-2 c κs = search needs
-
 returns : tie.Need-returns
 unfolding linkAt
 returns c =
@@ -27,10 +12,5 @@ returns c =
 pub link-at-spec : {M : Type 1} → statement M
 link-at-spec =
     tie.close
-    (tie.spec
-    read-u16-requires
-    add-byte-at
-    byte-at-requires
-    add-byte-at-2
-    byte-at-requires-2
-    returns)
+    (tie.spec (λ c κs. search needs) (λ c. search needs) (λ c κs. search needs) (λ c. search needs)
+    (λ c κs. search needs) returns)

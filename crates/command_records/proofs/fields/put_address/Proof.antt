@@ -11,24 +11,6 @@ use Rattle.octets.proofs.Strings.{over-then}
 use Rattle.octets.proofs.Numbers.{length-le}
 use Rattle.command_records.specs.Fields.{addressRecord}
 
-presence-requires : tie.Need-presence-requires
-presence-requires c κs = search needs
-
-put-u8-requires : tie.Need-put-u8-requires
-put-u8-requires c κs = search needs
-
-add-put-u64 : tie.Need-add-put-u64
-add-put-u64 c = search needs
-
-address-value-requires : tie.Need-address-value-requires
-address-value-requires c κs = search needs
-
-put-u64-requires : tie.Need-put-u64-requires
-put-u64-requires c κs = search needs
-
-same-length : tie.Need-same-length
-same-length c = search needs
-
 returns : tie.Need-returns
 unfolding addressRecord
 returns c =
@@ -40,11 +22,5 @@ returns c =
 pub put-address-spec : {M : Type 1} → statement M
 put-address-spec =
     tie.close
-    (tie.spec
-    presence-requires
-    put-u8-requires
-    add-put-u64
-    address-value-requires
-    put-u64-requires
-    same-length
-    returns)
+    (tie.spec (λ c κs. search needs) (λ c κs. search needs) (λ c. search needs) (λ c κs. search needs)
+    (λ c κs. search needs) (λ c. search needs) returns)

@@ -8,45 +8,6 @@ use Rattle.octets.specs.Strings.{over}
 use Rattle.commands.specs.Codes.{bit}
 use Rattle.commands.specs.Commands.{capabilityValues}
 
-bit-byte-requires : tie.Need-bit-byte-requires
-bit-byte-requires c κs = search needs
-
-bit-requires : tie.Need-bit-requires
-bit-requires c κs = search needs
-
-bit-byte-requires-2 : tie.Need-bit-byte-requires-2
-bit-byte-requires-2 c κs = search needs
-
-bit-requires-2 : tie.Need-bit-requires-2
-bit-requires-2 c κs = search needs
-
-bit-byte-requires-3 : tie.Need-bit-byte-requires-3
-bit-byte-requires-3 c κs = search needs
-
-bit-byte-requires-4 : tie.Need-bit-byte-requires-4
-bit-byte-requires-4 c κs = search needs
-
-bit-byte-requires-5 : tie.Need-bit-byte-requires-5
-bit-byte-requires-5 c κs = search needs
-
-bit-byte-requires-6 : tie.Need-bit-byte-requires-6
-bit-byte-requires-6 c κs = search needs
-
-bit-byte-requires-7 : tie.Need-bit-byte-requires-7
-bit-byte-requires-7 c κs = search needs
-
-bit-byte-requires-8 : tie.Need-bit-byte-requires-8
-bit-byte-requires-8 c κs = search needs
-
-slice-aggregate-copy-at : tie.Need-slice-aggregate-copy-at
-slice-aggregate-copy-at c = search needs
-
-copy-at-requires : tie.Need-copy-at-requires
-copy-at-requires c κs = search needs
-
-same-length : tie.Need-same-length
-same-length c = search needs
-
 returns : tie.Need-returns
 unfolding capabilityValues
 returns c =
@@ -59,18 +20,6 @@ returns c =
 pub put-capability-spec : {M : Type 1} → statement M
 put-capability-spec =
     tie.close
-    (tie.spec
-    bit-byte-requires
-    bit-requires
-    bit-byte-requires-2
-    bit-requires-2
-    bit-byte-requires-3
-    bit-byte-requires-4
-    bit-byte-requires-5
-    bit-byte-requires-6
-    bit-byte-requires-7
-    bit-byte-requires-8
-    slice-aggregate-copy-at
-    copy-at-requires
-    same-length
-    returns)
+    (tie.spec (λ c κs. search needs) (λ c κs. search needs) (λ c κs. search needs) (λ c κs. search needs)
+    (λ c κs. search needs) (λ c κs. search needs) (λ c κs. search needs) (λ c κs. search needs) (λ c κs. search needs)
+    (λ c κs. search needs) (λ c. search needs) (λ c κs. search needs) (λ c. search needs) returns)

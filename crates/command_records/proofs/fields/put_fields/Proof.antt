@@ -7,18 +7,6 @@ use Rattle.octets.specs.Strings.{over}
 use Rattle.command_records.specs.Fields.{fieldBytes, fieldsRecord}
 use Rattle.command_records.proofs.Lengths.{length-fields, over-places}
 
-slice-aggregate-copy-at : tie.Need-slice-aggregate-copy-at
-slice-aggregate-copy-at c = search needs
-
-copy-at-requires : tie.Need-copy-at-requires
-copy-at-requires c κs = search needs
-
-put-own-fields-requires : tie.Need-put-own-fields-requires
-put-own-fields-requires c κs = search needs
-
-same-length : tie.Need-same-length
-same-length c = search needs
-
 returns : tie.Need-returns
 unfolding fieldsRecord
 returns c =
@@ -28,5 +16,4 @@ returns c =
 
 pub put-fields-spec : {M : Type 1} → statement M
 put-fields-spec =
-    tie.close
-    (tie.spec slice-aggregate-copy-at copy-at-requires put-own-fields-requires same-length returns)
+    tie.close (tie.spec (λ c. search needs) (λ c κs. search needs) (λ c κs. search needs) (λ c. search needs) returns)

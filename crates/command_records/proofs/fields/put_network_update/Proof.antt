@@ -12,27 +12,6 @@ use Rattle.commands.specs.Codes.{updateIdentifierCode}
 use Rattle.command_records.specs.Fields.{fieldBytes}
 use Rattle.records.proofs.Writes.{over-four}
 
-code-requires : tie.Need-code-requires
-code-requires c κs = search needs
-
-slice-aggregate-copy-at : tie.Need-slice-aggregate-copy-at
-slice-aggregate-copy-at c = search needs
-
-copy-at-requires : tie.Need-copy-at-requires
-copy-at-requires c κs = search needs
-
-put-u64-requires : tie.Need-put-u64-requires
-put-u64-requires c κs = search needs
-
-put-u8-requires : tie.Need-put-u8-requires
-put-u8-requires c κs = search needs
-
-put-u16-requires : tie.Need-put-u16-requires
-put-u16-requires c κs = search needs
-
-same-length : tie.Need-same-length
-same-length c = search needs
-
 returns : tie.Need-returns
 unfolding fieldBytes
 returns c =
@@ -47,12 +26,5 @@ returns c =
 pub put-network-update-spec : {M : Type 1} → statement M
 put-network-update-spec =
     tie.close
-    (tie.spec
-    code-requires
-    slice-aggregate-copy-at
-    copy-at-requires
-    put-u64-requires
-    put-u8-requires
-    put-u16-requires
-    same-length
-    returns)
+    (tie.spec (λ c κs. search needs) (λ c. search needs) (λ c κs. search needs) (λ c κs. search needs)
+    (λ c κs. search needs) (λ c κs. search needs) (λ c. search needs) returns)

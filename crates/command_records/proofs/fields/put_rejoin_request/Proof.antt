@@ -9,15 +9,6 @@ use Rattle.octets.proofs.Strings.{over-then}
 use Rattle.command_records.specs.Fields.{fieldBytes}
 use Rattle.octets.proofs.Numbers.{length-le}
 
-put-u8-requires : tie.Need-put-u8-requires
-put-u8-requires c κs = search needs
-
-put-capability-requires : tie.Need-put-capability-requires
-put-capability-requires c κs = search needs
-
-same-length : tie.Need-same-length
-same-length c = search needs
-
 returns : tie.Need-returns
 unfolding fieldBytes
 returns c =
@@ -27,5 +18,4 @@ returns c =
     (c .before .before .put-capability .ensures)
 
 pub put-rejoin-request-spec : {M : Type 1} → statement M
-put-rejoin-request-spec =
-    tie.close (tie.spec put-u8-requires put-capability-requires same-length returns)
+put-rejoin-request-spec = tie.close (tie.spec (λ c κs. search needs) (λ c κs. search needs) (λ c. search needs) returns)

@@ -12,18 +12,6 @@ use Rattle.octets.proofs.Strings.{over-three}
 use Rattle.command_records.specs.Fields.{addressRecord, fieldBytes}
 use Rattle.command_records.proofs.Lengths.{length-address}
 
-put-route-reply-front-requires : tie.Need-put-route-reply-front-requires
-put-route-reply-front-requires c κs = search needs
-
-put-address-requires : tie.Need-put-address-requires
-put-address-requires c κs = search needs
-
-put-address-requires-2 : tie.Need-put-address-requires-2
-put-address-requires-2 c κs = search needs
-
-same-length : tie.Need-same-length
-same-length c = search needs
-
 returns : tie.Need-returns
 unfolding fieldBytes
 returns c =
@@ -37,9 +25,4 @@ returns c =
 pub put-route-reply-spec : {M : Type 1} → statement M
 put-route-reply-spec =
     tie.close
-    (tie.spec
-    put-route-reply-front-requires
-    put-address-requires
-    put-address-requires-2
-    same-length
-    returns)
+    (tie.spec (λ c κs. search needs) (λ c κs. search needs) (λ c κs. search needs) (λ c. search needs) returns)

@@ -9,24 +9,6 @@ use Rattle.octets.specs.Numbers.{le}
 use Rattle.octets.proofs.Numbers.{length-le}
 use Rattle.records.proofs.Writes.{over-four}
 
-slice-aggregate-copy-at : tie.Need-slice-aggregate-copy-at
-slice-aggregate-copy-at c = search needs
-
-copy-at-requires : tie.Need-copy-at-requires
-copy-at-requires c κs = search needs
-
-put-u16-requires : tie.Need-put-u16-requires
-put-u16-requires c κs = search needs
-
-put-u16-requires-2 : tie.Need-put-u16-requires-2
-put-u16-requires-2 c κs = search needs
-
-put-u8-requires : tie.Need-put-u8-requires
-put-u8-requires c κs = search needs
-
-same-length : tie.Need-same-length
-same-length c = search needs
-
 returns : tie.Need-returns
 returns c =
     let a = c .before .before .before .before .before .before .before .before .before .before .before .before .before .before .before .before .before .before .args in
@@ -39,11 +21,5 @@ returns c =
 pub put-route-reply-front-spec : {M : Type 1} → statement M
 put-route-reply-front-spec =
     tie.close
-    (tie.spec
-    slice-aggregate-copy-at
-    copy-at-requires
-    put-u16-requires
-    put-u16-requires-2
-    put-u8-requires
-    same-length
-    returns)
+    (tie.spec (λ c. search needs) (λ c κs. search needs) (λ c κs. search needs) (λ c κs. search needs)
+    (λ c κs. search needs) (λ c. search needs) returns)

@@ -11,24 +11,6 @@ use Rattle.octets.proofs.Numbers.{length-le}
 use Rattle.octets.proofs.Strings.{over-three}
 use Rattle.command_records.specs.Lists.{linkRecord}
 
-put-u16-requires : tie.Need-put-u16-requires
-put-u16-requires c κs = search needs
-
-add-put-u8 : tie.Need-add-put-u8
-add-put-u8 c = search needs
-
-put-u8-requires : tie.Need-put-u8-requires
-put-u8-requires c κs = search needs
-
-add-put-u8-2 : tie.Need-add-put-u8-2
-add-put-u8-2 c = search needs
-
-put-u8-requires-2 : tie.Need-put-u8-requires-2
-put-u8-requires-2 c κs = search needs
-
-same-length : tie.Need-same-length
-same-length c = search needs
-
 returns : tie.Need-returns
 unfolding linkRecord
 returns c =
@@ -42,11 +24,5 @@ returns c =
 pub put-link-spec : {M : Type 1} → statement M
 put-link-spec =
     tie.close
-    (tie.spec
-    put-u16-requires
-    add-put-u8
-    put-u8-requires
-    add-put-u8-2
-    put-u8-requires-2
-    same-length
-    returns)
+    (tie.spec (λ c κs. search needs) (λ c. search needs) (λ c κs. search needs) (λ c. search needs)
+    (λ c κs. search needs) (λ c. search needs) returns)

@@ -10,18 +10,6 @@ use Rattle.octets.proofs.Numbers.{length-le}
 use Rattle.octets.proofs.Strings.{over-then}
 use Rattle.command_records.specs.Lists.{powerRecord}
 
-put-u16-requires : tie.Need-put-u16-requires
-put-u16-requires c κs = search needs
-
-add-put-u8 : tie.Need-add-put-u8
-add-put-u8 c = search needs
-
-put-u8-requires : tie.Need-put-u8-requires
-put-u8-requires c κs = search needs
-
-same-length : tie.Need-same-length
-same-length c = search needs
-
 returns : tie.Need-returns
 unfolding powerRecord
 returns c =
@@ -32,4 +20,4 @@ returns c =
 
 pub put-power-spec : {M : Type 1} → statement M
 put-power-spec =
-    tie.close (tie.spec put-u16-requires add-put-u8 put-u8-requires same-length returns)
+    tie.close (tie.spec (λ c κs. search needs) (λ c. search needs) (λ c κs. search needs) (λ c. search needs) returns)

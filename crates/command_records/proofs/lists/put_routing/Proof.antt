@@ -12,18 +12,6 @@ use Rattle.octets.proofs.Strings.{over-then}
 use Rattle.command_records.specs.Lists.{entries, numberEntry}
 use Rattle.command_records.proofs.Lengths.{length-counted, length-number}
 
-slice-aggregate-put-counted : tie.Need-slice-aggregate-put-counted
-slice-aggregate-put-counted c = search needs
-
-put-counted-requires : tie.Need-put-counted-requires
-put-counted-requires c κs = search needs
-
-put-counted-links-requires : tie.Need-put-counted-links-requires
-put-counted-links-requires c κs = search needs
-
-same-length : tie.Need-same-length
-same-length c = search needs
-
 returns : tie.Need-returns
 returns c =
     let a = c .before .before .before .before .before .before .before .before .before .before .args in
@@ -34,10 +22,4 @@ returns c =
 
 pub put-routing-spec : {M : Type 1} → statement M
 put-routing-spec =
-    tie.close
-    (tie.spec
-    slice-aggregate-put-counted
-    put-counted-requires
-    put-counted-links-requires
-    same-length
-    returns)
+    tie.close (tie.spec (λ c. search needs) (λ c κs. search needs) (λ c κs. search needs) (λ c. search needs) returns)

@@ -8,18 +8,6 @@ use Rattle.octets.specs.Numbers.{le}
 use Rattle.octets.proofs.Numbers.{length-le}
 use Rattle.octets.proofs.Strings.{over-then}
 
-put-u8-requires : tie.Need-put-u8-requires
-put-u8-requires c κs = search needs
-
-slice-aggregate-copy-at : tie.Need-slice-aggregate-copy-at
-slice-aggregate-copy-at c = search needs
-
-copy-at-requires : tie.Need-copy-at-requires
-copy-at-requires c κs = search needs
-
-same-length : tie.Need-same-length
-same-length c = search needs
-
 returns : tie.Need-returns
 returns c =
     let a = c .before .before .before .before .before .before .before .before .before .before .args in
@@ -29,5 +17,4 @@ returns c =
 
 pub put-unparsed-spec : {M : Type 1} → statement M
 put-unparsed-spec =
-    tie.close
-    (tie.spec put-u8-requires slice-aggregate-copy-at copy-at-requires same-length returns)
+    tie.close (tie.spec (λ c κs. search needs) (λ c. search needs) (λ c κs. search needs) (λ c. search needs) returns)

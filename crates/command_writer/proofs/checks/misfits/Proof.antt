@@ -21,33 +21,6 @@ test : (f : NwkCommandFrame) {vs : List Val} → shadow (nwk-command-frame.the-r
     → tooBig k (f .command) f ≡ misfits (listOf (f .command)) (wire f)
 test f {vs} g k e = ap (λ (j : NwkCommandList). tooBig j (f .command) f) e ∙ sym (misfits-test f (in-range f vs g))
 
-list-requires : tie.Need-list-requires
-list-requires c κs = search needs
-
-enum-told : tie.Need-enum-told
-enum-told c = search needs
-
-update-count-requires : tie.Need-update-count-requires
-update-count-requires c κs = search needs
-
-enum-told-2 : tie.Need-enum-told-2
-enum-told-2 c = search needs
-
-enum-told-3 : tie.Need-enum-told-3
-enum-told-3 c = search needs
-
-link-status-misfits-requires : tie.Need-link-status-misfits-requires
-link-status-misfits-requires c κs = search needs
-
-enum-told-4 : tie.Need-enum-told-4
-enum-told-4 c = search needs
-
-enum-told-5 : tie.Need-enum-told-5
-enum-told-5 c = search needs
-
-enum-told-6 : tie.Need-enum-told-6
-enum-told-6 c = search needs
-
 returns : tie.Need-returns
 unfolding tooBig
 returns c =
@@ -87,19 +60,6 @@ returns-6 c =
 pub misfits-spec : {M : Type 1} → statement M
 misfits-spec =
     tie.close
-    (tie.spec
-    list-requires
-    enum-told
-    update-count-requires
-    enum-told-2
-    enum-told-3
-    link-status-misfits-requires
-    enum-told-4
-    enum-told-5
-    enum-told-6
-    returns
-    returns-2
-    returns-3
-    returns-4
-    returns-5
-    returns-6)
+    (tie.spec (λ c κs. search needs) (λ c. search needs) (λ c κs. search needs) (λ c. search needs)
+    (λ c. search needs) (λ c κs. search needs) (λ c. search needs) (λ c. search needs) (λ c. search needs) returns
+    returns-2 returns-3 returns-4 returns-5 returns-6)

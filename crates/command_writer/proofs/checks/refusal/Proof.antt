@@ -6,15 +6,9 @@ use Rattle.command_writer.proofs.checks.refusal.Statement.{statement}
 use Rattle.command_writer.proofs.checks.refusal.Tie as tie
 use Rattle.command_writer.proofs.Tests.{refuse-13, refuse-17, refuse-18, accept}
 
-misfits-requires : tie.Need-misfits-requires
-misfits-requires c κs = search needs
-
 returns : tie.Need-returns
 returns c =
     refuse-13 (c .before .before .args .frame) (c .before .before .args .room) (sym (c .before .misfits .ensures) ∙ c .if1 .taken)
-
-length-of-requires : tie.Need-length-of-requires
-length-of-requires c κs = search needs
 
 returns-2 : tie.Need-returns-2
 returns-2 c =
@@ -32,5 +26,4 @@ returns-4 c =
     accept (c .before .before .before .before .before .args .frame) (c .before .before .before .before .before .args .room) (sym (c .before .before .before .before .misfits .ensures) ∙ c .before .before .before .if1 .left) (subst (λ (n : ℕ). n ≤ 108) (l .ensures) (c .before .if2 .left)) (subst (λ (n : ℕ). n ≤ c .before .before .before .before .before .args .room) (l .ensures) (c .if3 .left))
 
 pub refusal-spec : {M : Type 1} → statement M
-refusal-spec =
-    tie.close (tie.spec misfits-requires returns length-of-requires returns-2 returns-3 returns-4)
+refusal-spec = tie.close (tie.spec (λ c κs. search needs) returns (λ c κs. search needs) returns-2 returns-3 returns-4)

@@ -4,93 +4,6 @@ use Rattle.commands.proofs.EndDeviceTimeout.duration.Statement.{stateme
 use Rattle.commands.proofs.EndDeviceTimeout.duration.Tie as tie
 use Rattle.commands.specs.Writing.{seconds}
 
-enum-told : tie.Need-enum-told
-enum-told c = search needs
-
-enum-told-2 : tie.Need-enum-told-2
-enum-told-2 c = search needs
-
-mul-result : tie.Need-mul-result
-mul-result c = search needs
-
-enum-told-3 : tie.Need-enum-told-3
-enum-told-3 c = search needs
-
-mul-result-2 : tie.Need-mul-result-2
-mul-result-2 c = search needs
-
-enum-told-4 : tie.Need-enum-told-4
-enum-told-4 c = search needs
-
-mul-result-3 : tie.Need-mul-result-3
-mul-result-3 c = search needs
-
-enum-told-5 : tie.Need-enum-told-5
-enum-told-5 c = search needs
-
-mul-result-4 : tie.Need-mul-result-4
-mul-result-4 c = search needs
-
-enum-told-6 : tie.Need-enum-told-6
-enum-told-6 c = search needs
-
-mul-result-5 : tie.Need-mul-result-5
-mul-result-5 c = search needs
-
-enum-told-7 : tie.Need-enum-told-7
-enum-told-7 c = search needs
-
-mul-result-6 : tie.Need-mul-result-6
-mul-result-6 c = search needs
-
-enum-told-8 : tie.Need-enum-told-8
-enum-told-8 c = search needs
-
-mul-result-7 : tie.Need-mul-result-7
-mul-result-7 c = search needs
-
-enum-told-9 : tie.Need-enum-told-9
-enum-told-9 c = search needs
-
-mul-result-8 : tie.Need-mul-result-8
-mul-result-8 c = search needs
-
-enum-told-10 : tie.Need-enum-told-10
-enum-told-10 c = search needs
-
-mul-result-9 : tie.Need-mul-result-9
-mul-result-9 c = search needs
-
-enum-told-11 : tie.Need-enum-told-11
-enum-told-11 c = search needs
-
-mul-result-10 : tie.Need-mul-result-10
-mul-result-10 c = search needs
-
-enum-told-12 : tie.Need-enum-told-12
-enum-told-12 c = search needs
-
-mul-result-11 : tie.Need-mul-result-11
-mul-result-11 c = search needs
-
-enum-told-13 : tie.Need-enum-told-13
-enum-told-13 c = search needs
-
-mul-result-12 : tie.Need-mul-result-12
-mul-result-12 c = search needs
-
-enum-told-14 : tie.Need-enum-told-14
-enum-told-14 c = search needs
-
-mul-result-13 : tie.Need-mul-result-13
-mul-result-13 c = search needs
-
-enum-told-15 : tie.Need-enum-told-15
-enum-told-15 c = search needs
-
-mul-result-14 : tie.Need-mul-result-14
-mul-result-14 c = search needs
-
 returns : tie.Need-returns
 unfolding seconds
 returns c = rw (c .enum-told .given .1)
@@ -154,48 +67,11 @@ returns-15 c = rw (c .enum-told15 .given .1)
 pub duration-spec : {M : Type 1} → statement M
 duration-spec =
     tie.close
-    (tie.spec
-    enum-told
-    enum-told-2
-    mul-result
-    enum-told-3
-    mul-result-2
-    enum-told-4
-    mul-result-3
-    enum-told-5
-    mul-result-4
-    enum-told-6
-    mul-result-5
-    enum-told-7
-    mul-result-6
-    enum-told-8
-    mul-result-7
-    enum-told-9
-    mul-result-8
-    enum-told-10
-    mul-result-9
-    enum-told-11
-    mul-result-10
-    enum-told-12
-    mul-result-11
-    enum-told-13
-    mul-result-12
-    enum-told-14
-    mul-result-13
-    enum-told-15
-    mul-result-14
-    returns
-    returns-2
-    returns-3
-    returns-4
-    returns-5
-    returns-6
-    returns-7
-    returns-8
-    returns-9
-    returns-10
-    returns-11
-    returns-12
-    returns-13
-    returns-14
+    (tie.spec (λ c. search needs) (λ c. search needs) (λ c. search needs) (λ c. search needs) (λ c. search needs)
+    (λ c. search needs) (λ c. search needs) (λ c. search needs) (λ c. search needs) (λ c. search needs)
+    (λ c. search needs) (λ c. search needs) (λ c. search needs) (λ c. search needs) (λ c. search needs)
+    (λ c. search needs) (λ c. search needs) (λ c. search needs) (λ c. search needs) (λ c. search needs)
+    (λ c. search needs) (λ c. search needs) (λ c. search needs) (λ c. search needs) (λ c. search needs)
+    (λ c. search needs) (λ c. search needs) (λ c. search needs) (λ c. search needs) returns returns-2 returns-3
+    returns-4 returns-5 returns-6 returns-7 returns-8 returns-9 returns-10 returns-11 returns-12 returns-13 returns-14
     returns-15)

@@ -5,9 +5,6 @@ use Rattle.commands.proofs.Nwk802154AssociationStatus.try_from.Statemen
 use Rattle.commands.proofs.Nwk802154AssociationStatus.try_from.Tie as tie
 use Rattle.commands.specs.Codes.{associationStatusOf, associationStatuses}
 
-array-copy-out-t11 : tie.Need-array-copy-out-t11
-array-copy-out-t11 c = search needs
-
 returns : tie.Need-returns
 unfolding associationStatusOf associationStatuses
 returns c = rw (lt-ltb _ _ (c .before .if1 .taken))
@@ -27,4 +24,4 @@ returns-4 c =
     rw (le-ltb _ _ (c .before .before .if1 .left), ne-eqb _ _ (c .before .if2 .left), ne-eqb _ _ (c .if3 .left))
 
 pub try-from-spec : {M : Type 1} → statement M
-try-from-spec = tie.close (tie.spec array-copy-out-t11 returns returns-2 returns-3 returns-4)
+try-from-spec = tie.close (tie.spec (λ c. search needs) returns returns-2 returns-3 returns-4)

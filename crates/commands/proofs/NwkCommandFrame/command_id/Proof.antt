@@ -58,25 +58,10 @@ unparsed-id f e z =
     positive zero z = absurd (z refl)
     positive (suc n) z = omega arith
 
-typed-id-requires : tie.Need-typed-id-requires
-typed-id-requires c κs = search needs
-
-enum-known-id : tie.Need-enum-known-id
-enum-known-id c = search needs
-
-enum-told : tie.Need-enum-told
-enum-told c = search needs
-
 returns : tie.Need-returns
 returns c =
     let f = c .before .before .before .before .args .t1 in
     sym (none f (sym (c .before .before .before .typed-id .ensures) ∙ c .before .enum-told .given .1) (c .if1 .taken))
-
-element-copy-out-try-from : tie.Need-element-copy-out-try-from
-element-copy-out-try-from c = search needs
-
-try-from-requires : tie.Need-try-from-requires
-try-from-requires c κs = search needs
 
 returns-2 : tie.Need-returns-2
 returns-2 c =
@@ -94,12 +79,5 @@ returns-3 c =
 pub command-id-spec : {M : Type 1} → statement M
 command-id-spec =
     tie.close
-    (tie.spec
-    typed-id-requires
-    enum-known-id
-    enum-told
-    returns
-    element-copy-out-try-from
-    try-from-requires
-    returns-2
-    returns-3)
+    (tie.spec (λ c κs. search needs) (λ c. search needs) (λ c. search needs) returns (λ c. search needs)
+    (λ c κs. search needs) returns-2 returns-3)

@@ -5,22 +5,10 @@ use Rattle.commands.proofs.codes.timeout_seconds.Statement.{statement}
 use Rattle.commands.proofs.codes.timeout_seconds.Tie as tie
 use Rattle.commands.proofs.CodeLaws.{secondsBy, seconds-by}
 
-try-from-requires : tie.Need-try-from-requires
-try-from-requires c κs = search needs
-
-enum-known-timeout : tie.Need-enum-known-timeout
-enum-known-timeout c = search needs
-
-enum-told : tie.Need-enum-told
-enum-told c = search needs
-
 returns : tie.Need-returns
 returns c =
     let n = c .before .before .before .args .code in
     ap secondsBy (sym (c .enum-told .given .1) ∙ c .before .before .try-from .ensures) ∙ seconds-by n
-
-duration-requires : tie.Need-duration-requires
-duration-requires c κs = search needs
 
 returns-2 : tie.Need-returns-2
 returns-2 c =
@@ -31,4 +19,4 @@ returns-2 c =
 pub timeout-seconds-spec : {M : Type 1} → statement M
 timeout-seconds-spec =
     tie.close
-    (tie.spec try-from-requires enum-known-timeout enum-told returns duration-requires returns-2)
+    (tie.spec (λ c κs. search needs) (λ c. search needs) (λ c. search needs) returns (λ c κs. search needs) returns-2)

@@ -9,15 +9,6 @@ use Rattle.frame.proofs.law.seal_then_open.Tie as tie
 use Rattle.header.specs.declared.nwk.Written.{Written}
 use Rattle.frame.proofs.SealingLaw.{seal-within, first-half, first-half-run}
 
-header-fits-requires : tie.Need-header-fits-requires
-header-fits-requires c κs = search needs
-
-aux-option-fits-requires : tie.Need-aux-option-fits-requires
-aux-option-fits-requires c κs = search needs
-
-seal-requires : tie.Need-seal-requires
-seal-requires c κs = search needs
-
 slice-reshare-prefix-open : tie.Need-slice-reshare-prefix-open
 slice-reshare-prefix-open c =
     let w = seal-within (c .before .before .before .before .before .before .before .before .before .args .key .0) (c .before .before .before .before .before .before .before .before .before .args .h) (c .before .before .before .before .before .before .before .before .before .args .aux) (c .before .before .before .before .before .before .before .before .before .args .payload .now) (c .before .before .before .before .before .before .before .before .before .args .frame .now) in
@@ -30,15 +21,6 @@ slice-aggregate-open c =
     let e = ap (λ (r : Written). r .length) (c .before .before .before .seal .ensures .0) in
     sym (length-take-le _ _ (omega (arith, w, e, c .before .before .before .seal .kept .1 .1 .1 .1 .0)))
 
-open-requires : tie.Need-open-requires
-open-requires c κs = search needs
-
-same-length : tie.Need-same-length
-same-length c = search needs
-
-same-length-2 : tie.Need-same-length-2
-same-length-2 c = search needs
-
 returns : tie.Need-returns
 returns c =
     let a = c .before .before .before .before .before .before .before .before .before .before .before .before .before .before .args in
@@ -50,13 +32,5 @@ returns c =
 pub seal-then-open-spec : {M : Type 1} → statement M
 seal-then-open-spec =
     tie.close
-    (tie.spec
-    header-fits-requires
-    aux-option-fits-requires
-    seal-requires
-    slice-reshare-prefix-open
-    slice-aggregate-open
-    open-requires
-    same-length
-    same-length-2
-    returns)
+    (tie.spec (λ c κs. search needs) (λ c κs. search needs) (λ c κs. search needs) slice-reshare-prefix-open
+    slice-aggregate-open (λ c κs. search needs) (λ c. search needs) (λ c. search needs) returns)

@@ -14,25 +14,10 @@ use Rattle.ccm.specs.Operations.{givenIf}
 use Rattle.frame.specs.Opening as opening
 use Rattle.frame.proofs.Returns.{open-stopped, open-invalid, open-valid, ready, ready-facts, number-is, verified-is, payload-size, given-valid, given-invalid}
 
-read-frame-requires : tie.Need-read-frame-requires
-read-frame-requires c κs = search needs
-
-behind-requires : tie.Need-behind-requires
-behind-requires c κs = search needs
-
-open-refusal-requires : tie.Need-open-refusal-requires
-open-refusal-requires c κs = search needs
-
-refused-requires : tie.Need-refused-requires
-refused-requires c κs = search needs
-
 returns : tie.Need-returns
 returns c =
     let run = open-stopped (c .before .before .before .before .before .before .before .before .args .key .0) (c .before .before .before .before .before .before .before .before .args .frame .now) (c .before .before .before .before .before .before .before .before .args .out .now) (c .before .before .before .before .before .read-frame .result) (c .before .before .before .before .before .read-frame .ensures) (c .before .before .open-refusal .result) (number-is (c .before .before .before .before .before .before .before .before .args .frame .now) (c .before .before .before .behind .result .now) (c .before .before .before .before .before .read-frame .result) (c .before .before .open-refusal .result) (length (c .before .before .before .before .before .before .before .before .args .out .now)) (c .before .before .before .behind .ensures) (c .before .before .open-refusal .ensures)) (c .before .if1 .taken) in
     (c .refused .ensures ∙ sym (ap (λ (r : opening.Run). r .answer) run), sym (ap (λ (r : opening.Run). r .out) run))
-
-or-blank-requires : tie.Need-or-blank-requires
-or-blank-requires c κs = search needs
 
 open-frame-requires : tie.Need-open-frame-requires
 open-frame-requires c κs =
@@ -46,9 +31,6 @@ sub-t18 : tie.Need-sub-t18
 sub-t18 c =
     let s = ready (c .before .before .before .before .before .before .before .before .before .before .before .read-frame .result .refusal) (c .before .before .before .before .before .before .before .before .before .before .before .read-frame .result .header) (c .before .before .before .before .before .before .before .before .before .before .before .read-frame .result .aux) (length (c .before .before .before .before .before .before .before .before .before .behind .result .now)) (length (c .before .before .before .before .before .before .before .before .before .before .before .before .before .before .args .out .now)) (sym (c .before .before .before .before .before .before .before .before .open-refusal .ensures) ∙ c .before .before .before .before .before .before .before .if1 .left) in
     omega (arith, s .tagged)
-
-same-length : tie.Need-same-length
-same-length c = search needs
 
 returns-2 : tie.Need-returns-2
 returns-2 c =
@@ -65,12 +47,6 @@ returns-2 c =
           ∙ given-valid (c .before .before .before .open-frame .result) _ (c .before .before .before .before .before .before .before .before .before .before .before .before .before .before .args .out .now) (c .if2 .taken) ∙ sym (ap (λ (r : opening.Run). r .out) run),
     )
 
-refused-requires-2 : tie.Need-refused-requires-2
-refused-requires-2 c κs = search needs
-
-same-length-2 : tie.Need-same-length-2
-same-length-2 c = search needs
-
 returns-3 : tie.Need-returns-3
 returns-3 c =
     let v = verified-is (c .before .before .before .before .before .before .before .before .before .before .before .before .before .before .before .args .key .0) (c .before .before .before .before .before .before .before .before .before .before .before .before .before .before .before .args .frame .now) (c .before .before .before .before .before .before .before .before .before .before .behind .result .now) (c .before .before .before .before .before .before .before .before .before .before .before .before .read-frame .result) (c .before .before .before .before .before .before .or-blank .result) (c .before .before .before .before .before .before .or-blank .ensures) (c .before .before .before .before .before .before .before .before .before .before .behind .ensures) in
@@ -83,17 +59,6 @@ returns-3 c =
 pub open-spec : {M : Type 1} → statement M
 open-spec =
     tie.close
-    (tie.spec
-    read-frame-requires
-    behind-requires
-    open-refusal-requires
-    refused-requires
-    returns
-    or-blank-requires
-    open-frame-requires
-    sub-t18
-    same-length
-    returns-2
-    refused-requires-2
-    same-length-2
-    returns-3)
+    (tie.spec (λ c κs. search needs) (λ c κs. search needs) (λ c κs. search needs) (λ c κs. search needs) returns
+    (λ c κs. search needs) open-frame-requires sub-t18 (λ c. search needs) returns-2 (λ c κs. search needs)
+    (λ c. search needs) returns-3)

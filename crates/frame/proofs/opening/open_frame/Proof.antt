@@ -14,28 +14,10 @@ use Rattle.frame.specs.Security.{networkLevel}
 use Rattle.frame.specs.Opening.{ciphertextOf, micOf}
 use Rattle.frame.proofs.Returns.{auth-length, auth-taken}
 
-nonce-of-requires : tie.Need-nonce-of-requires
-nonce-of-requires c κs = search needs
-
-at-level-requires : tie.Need-at-level-requires
-at-level-requires c κs = search needs
-
 both-headers-requires : tie.Need-both-headers-requires
 both-headers-requires c κs =
     let e = ap (λ (z : NwkAuxHeader). length (auxBytes z)) (c .at-level .ensures) ∙ level-length networkLevel networkLevel (c .before .before .before .before .args .aux) in
     (c .before .before .before .before .pre .0, omega (arith, e, c .before .before .before .before .pre .1))
-
-size-requires : tie.Need-size-requires
-size-requires c κs = search needs
-
-size-requires-2 : tie.Need-size-requires-2
-size-requires-2 c κs = search needs
-
-add-start : tie.Need-add-start
-add-start c = search needs
-
-array-share-prefix-auth : tie.Need-array-share-prefix-auth
-array-share-prefix-auth c = search needs
 
 slice-aggregate-open-part : tie.Need-slice-aggregate-open-part
 slice-aggregate-open-part c =
@@ -47,9 +29,6 @@ open-part-requires c κs =
     let e = ap length (auth-taken networkLevel (c .before .before .before .before .before .before .before .before .before .args .h) (c .before .before .before .before .before .before .before .before .before .args .aux) (c .before .before .before .before .before .at-level .result) (c .before .before .before .before .both-headers .result) (c .before .before .before .size .result + c .before .before .size2 .result) (c .before .before .before .before .before .at-level .ensures) (c .before .before .before .before .both-headers .ensures) (λ i. c .before .before .before .size .ensures .0 i + c .before .before .size2 .ensures .0 i)) ∙ auth-length networkLevel (c .before .before .before .before .before .before .before .before .before .args .h) (c .before .before .before .before .before .before .before .before .before .args .aux) in
     let p = c .before .before .before .before .before .before .before .before .before .pre in
     (omega (arith, e, p .1), p .2, p .3, p .4)
-
-same-length : tie.Need-same-length
-same-length c = search needs
 
 returns : tie.Need-returns
 returns c =
@@ -63,15 +42,6 @@ returns c =
 pub open-frame-spec : {M : Type 1} → statement M
 open-frame-spec =
     tie.close
-    (tie.spec
-    nonce-of-requires
-    at-level-requires
-    both-headers-requires
-    size-requires
-    size-requires-2
-    add-start
-    array-share-prefix-auth
-    slice-aggregate-open-part
-    open-part-requires
-    same-length
-    returns)
+    (tie.spec (λ c κs. search needs) (λ c κs. search needs) both-headers-requires (λ c κs. search needs)
+    (λ c κs. search needs) (λ c. search needs) (λ c. search needs) slice-aggregate-open-part open-part-requires
+    (λ c. search needs) returns)

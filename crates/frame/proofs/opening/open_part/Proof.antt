@@ -12,12 +12,6 @@ use Rattle.ccm.specs.Operations.{openedBy, givenIf}
 use Rattle.frame.specs.Opening.{ciphertextOf}
 use Rattle.frame.proofs.Returns.{mic-split}
 
-split-mic-requires : tie.Need-split-mic-requires
-split-mic-requires c κs = search needs
-
-sub-n : tie.Need-sub-n
-sub-n c = search needs
-
 slice-aggregate-open : tie.Need-slice-aggregate-open
 slice-aggregate-open c =
     sym (length-take-le _ (c .before .before .before .before .before .before .args .part .now) (omega arith))
@@ -27,9 +21,6 @@ open-requires c κs =
     let l = length-take-le (length (c .before .before .before .before .before .before .before .args .part .now) - 4) (c .before .before .before .before .before .before .before .args .part .now) (omega arith) in
     let p = c .before .before .before .before .before .before .before .pre in
     (p .0, omega (arith, l, p .1), omega (arith, l, p .3))
-
-same-length : tie.Need-same-length
-same-length c = search needs
 
 returns : tie.Need-returns
 unfolding ciphertextOf
@@ -43,4 +34,5 @@ returns c =
 pub open-part-spec : {M : Type 1} → statement M
 open-part-spec =
     tie.close
-    (tie.spec split-mic-requires sub-n slice-aggregate-open open-requires same-length returns)
+    (tie.spec (λ c κs. search needs) (λ c. search needs) slice-aggregate-open open-requires (λ c. search needs)
+    returns)

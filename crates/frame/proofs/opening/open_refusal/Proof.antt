@@ -14,20 +14,11 @@ returns : tie.Need-returns
 unfolding openRefusals
 returns c = sym (first-number _ _ (c .if1 .taken))
 
-is-absent-requires : tie.Need-is-absent-requires
-is-absent-requires c κs = search needs
-
 returns-2 : tie.Need-returns-2
 unfolding openRefusals
 returns-2 c =
     sym (no-number _ _ (c .before .before .if1 .left)
     ∙ stop 13 _ _ (sym (c .before .is-absent .ensures) ∙ c .if2 .taken))
-
-or-blank-requires : tie.Need-or-blank-requires
-or-blank-requires c κs = search needs
-
-no-ieee-requires : tie.Need-no-ieee-requires
-no-ieee-requires c κs = search needs
 
 returns-3 : tie.Need-returns-3
 unfolding openRefusals
@@ -61,13 +52,5 @@ returns-6 c =
 pub open-refusal-spec : {M : Type 1} → statement M
 open-refusal-spec =
     tie.close
-    (tie.spec
-    returns
-    is-absent-requires
-    returns-2
-    or-blank-requires
-    no-ieee-requires
-    returns-3
-    returns-4
-    returns-5
-    returns-6)
+    (tie.spec returns (λ c κs. search needs) returns-2 (λ c κs. search needs) (λ c κs. search needs) returns-3
+    returns-4 returns-5 returns-6)

@@ -3,11 +3,8 @@ use borrow.Author.Needs.{needs}
 use Rattle.frame.proofs.ranges.bytes_fit.Statement.{statement}
 use Rattle.frame.proofs.ranges.bytes_fit.Tie as tie
 
-count8-requires : tie.Need-count8-requires
-count8-requires c κs = search needs
-
 returns : tie.Need-returns
 returns c = λ i. c .before .shared-slice-known .given i .fits
 
 pub bytes-fit-spec : {M : Type 1} → statement M
-bytes-fit-spec = tie.close (tie.spec count8-requires returns)
+bytes-fit-spec = tie.close (tie.spec (λ c κs. search needs) returns)

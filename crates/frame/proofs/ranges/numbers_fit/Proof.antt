@@ -3,11 +3,8 @@ use borrow.Author.Needs.{needs}
 use Rattle.frame.proofs.ranges.numbers_fit.Statement.{statement}
 use Rattle.frame.proofs.ranges.numbers_fit.Tie as tie
 
-count16-requires : tie.Need-count16-requires
-count16-requires c κs = search needs
-
 returns : tie.Need-returns
 returns c = λ i. c .before .shared-slice-known .given i .fits
 
 pub numbers-fit-spec : {M : Type 1} → statement M
-numbers-fit-spec = tie.close (tie.spec count16-requires returns)
+numbers-fit-spec = tie.close (tie.spec (λ c κs. search needs) returns)

@@ -15,9 +15,6 @@ unfolding lengthRefusals
 returns c =
     sym (stop 16 _ _ (long-payload (length (c .before .before .args .payload .now)) (sealedLength 4 (c .before .before .args .h) (c .before .before .args .aux) (c .before .before .args .payload .now)) (c .if1 .taken)))
 
-sealed-length-requires : tie.Need-sealed-length-requires
-sealed-length-requires c κs = search needs
-
 returns-2 : tie.Need-returns-2
 unfolding lengthRefusals
 returns-2 c =
@@ -36,5 +33,4 @@ returns-4 c =
     ∙ skip 18 _ _ (le-ltb (c .before .before .before .before .before .args .room) (sealedLength 4 (c .before .before .before .before .before .args .h) (c .before .before .before .before .before .args .aux) (c .before .before .before .before .before .args .payload .now)) (omega arith)) ∙ empty)
 
 pub length-refusal-spec : {M : Type 1} → statement M
-length-refusal-spec =
-    tie.close (tie.spec returns sealed-length-requires returns-2 returns-3 returns-4)
+length-refusal-spec = tie.close (tie.spec returns (λ c κs. search needs) returns-2 returns-3 returns-4)

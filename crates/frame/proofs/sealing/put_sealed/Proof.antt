@@ -12,30 +12,6 @@ use Rattle.ccm.specs.Operations.{sealedBy}
 use Rattle.ccm.proofs.Opening.{length-ciphertext}
 use Rattle.frame.proofs.Returns.{part-over}
 
-sub-seal : tie.Need-sub-seal
-sub-seal c = search needs
-
-part-seal-start : tie.Need-part-seal-start
-part-seal-start c = search needs
-
-part-seal-end : tie.Need-part-seal-end
-part-seal-end c = search needs
-
-seal-requires : tie.Need-seal-requires
-seal-requires c κs = search needs
-
-add-copy-at : tie.Need-add-copy-at
-add-copy-at c = search needs
-
-slice-aggregate-copy-at : tie.Need-slice-aggregate-copy-at
-slice-aggregate-copy-at c = search needs
-
-copy-at-requires : tie.Need-copy-at-requires
-copy-at-requires c κs = search needs
-
-same-length : tie.Need-same-length
-same-length c = search needs
-
 returns : tie.Need-returns
 returns c =
     let a = c .before .before .before .before .before .before .before .before .before .before .before .before .args in
@@ -48,13 +24,5 @@ returns c =
 pub put-sealed-spec : {M : Type 1} → statement M
 put-sealed-spec =
     tie.close
-    (tie.spec
-    sub-seal
-    part-seal-start
-    part-seal-end
-    seal-requires
-    add-copy-at
-    slice-aggregate-copy-at
-    copy-at-requires
-    same-length
-    returns)
+    (tie.spec (λ c. search needs) (λ c. search needs) (λ c. search needs) (λ c κs. search needs) (λ c. search needs)
+    (λ c. search needs) (λ c κs. search needs) (λ c. search needs) returns)

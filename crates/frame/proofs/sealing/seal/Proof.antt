@@ -15,9 +15,6 @@ use Rattle.frame.specs.Sealing.{sealedLength, sealedBytes, sealFrame}
 use Rattle.frame.proofs.Accepted.{sealable}
 use Rattle.frame.proofs.FirstHalf.{sealed-length}
 
-seal-refusal-requires : tie.Need-seal-refusal-requires
-seal-refusal-requires c κs = search needs
-
 returns : tie.Need-returns
 unfolding sealFrame
 returns c =
@@ -25,9 +22,6 @@ returns c =
     let bs = sealedBytes networkLevel 4 (a .key .0) (a .h) (auxOf (a .aux)) (a .payload .now) in
     let w = write-refused (c .before .seal-refusal .result) bs (a .out .now) (c .if1 .taken) in
     (w .0 ∙ ap (λ (n : ℕ). written n bs (a .out .now) .answer) (c .before .seal-refusal .ensures), w .1 ∙ ap (λ (n : ℕ). written n bs (a .out .now) .out) (c .before .seal-refusal .ensures))
-
-or-blank-requires : tie.Need-or-blank-requires
-or-blank-requires c κs = search needs
 
 sealed-length-requires : tie.Need-sealed-length-requires
 sealed-length-requires c κs =
@@ -39,9 +33,6 @@ seal-frame-requires c κs =
     let s = sealable 4 (c .before .before .before .before .before .before .before .before .args .h) (c .before .before .before .before .before .before .before .before .args .aux) (c .before .before .before .before .before .before .before .before .args .payload .now) (length (c .before .before .before .before .before .before .before .before .args .out .now)) (sym (c .before .before .before .before .before .seal-refusal .ensures) ∙ c .before .before .before .before .if1 .left) in
     let e = ap (λ (x : NwkAuxHeader). sealedLength 4 (c .before .before .before .before .before .before .before .before .args .h) x (c .before .before .before .before .before .before .before .before .args .payload .now)) (c .before .before .before .or-blank .ensures) in
     (s .good, s .payload, omega (arith, e, s .whole), omega (arith, e, s .fits))
-
-same-length : tie.Need-same-length
-same-length c = search needs
 
 returns-2 : tie.Need-returns-2
 unfolding sealFrame written
@@ -59,11 +50,5 @@ returns-2 c =
 pub seal-spec : {M : Type 1} → statement M
 seal-spec =
     tie.close
-    (tie.spec
-    seal-refusal-requires
-    returns
-    or-blank-requires
-    sealed-length-requires
-    seal-frame-requires
-    same-length
-    returns-2)
+    (tie.spec (λ c κs. search needs) returns (λ c κs. search needs) sealed-length-requires seal-frame-requires
+    (λ c. search needs) returns-2)

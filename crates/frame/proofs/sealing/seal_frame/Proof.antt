@@ -14,29 +14,11 @@ use Rattle.frame.specs.Security.{networkLevel, sentLevel}
 use Rattle.frame.specs.Sealing.{sealedLength}
 use Rattle.frame.proofs.Returns.{auth-length, auth-taken, sealed-done}
 
-nonce-of-requires : tie.Need-nonce-of-requires
-nonce-of-requires c κs = search needs
-
-at-level-requires : tie.Need-at-level-requires
-at-level-requires c κs = search needs
-
 both-headers-requires : tie.Need-both-headers-requires
 unfolding sealedLength
 both-headers-requires c κs =
     let e = ap (λ (z : NwkAuxHeader). length (auxBytes z)) (c .at-level .ensures) ∙ level-length networkLevel networkLevel (c .before .before .before .before .args .aux) in
     (c .before .before .before .before .pre .0, omega (arith, e, c .before .before .before .before .pre .2))
-
-size-requires : tie.Need-size-requires
-size-requires c κs = search needs
-
-size-requires-2 : tie.Need-size-requires-2
-size-requires-2 c κs = search needs
-
-add-start : tie.Need-add-start
-add-start c = search needs
-
-at-level-requires-2 : tie.Need-at-level-requires-2
-at-level-requires-2 c κs = search needs
 
 put-headers-requires : tie.Need-put-headers-requires
 unfolding sealedLength
@@ -61,9 +43,6 @@ put-sealed-requires c κs =
     let p = c .before .before .before .before .before .before .before .before .before .before .before .before .before .before .pre in
     (omega (arith, e, p .2), omega (arith, p .1), omega (arith, c .before .before .before .before .before .before .before .before .size .ensures .0, c .before .before .before .before .before .before .before .size2 .ensures .0, c .before .before .before .before .put-headers .kept .1 .1 .0, p .3))
 
-same-length : tie.Need-same-length
-same-length c = search needs
-
 returns : tie.Need-returns
 returns c =
     let a = c .before .before .before .before .before .before .before .before .before .before .before .before .before .before .before .before .before .args in
@@ -75,17 +54,6 @@ returns c =
 pub seal-frame-spec : {M : Type 1} → statement M
 seal-frame-spec =
     tie.close
-    (tie.spec
-    nonce-of-requires
-    at-level-requires
-    both-headers-requires
-    size-requires
-    size-requires-2
-    add-start
-    at-level-requires-2
-    put-headers-requires
-    array-share-prefix-auth
-    slice-aggregate-put-sealed
-    put-sealed-requires
-    same-length
-    returns)
+    (tie.spec (λ c κs. search needs) (λ c κs. search needs) both-headers-requires (λ c κs. search needs)
+    (λ c κs. search needs) (λ c. search needs) (λ c κs. search needs) put-headers-requires array-share-prefix-auth
+    slice-aggregate-put-sealed put-sealed-requires (λ c. search needs) returns)

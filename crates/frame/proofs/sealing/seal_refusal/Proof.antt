@@ -9,15 +9,9 @@ use Rattle.octets.proofs.Refusals.{stop, skip}
 use Rattle.frame.specs.Security.{noIeee}
 use Rattle.frame.specs.Sealing.{lengthRefusals, sealRefusal}
 
-is-bad-requires : tie.Need-is-bad-requires
-is-bad-requires c κs = search needs
-
 returns : tie.Need-returns
 unfolding sealRefusal
 returns c = sym (stop 12 _ _ (sym (c .before .is-bad .ensures) ∙ c .if1 .taken))
-
-is-absent-requires : tie.Need-is-absent-requires
-is-absent-requires c κs = search needs
 
 returns-2 : tie.Need-returns-2
 unfolding sealRefusal
@@ -25,21 +19,12 @@ returns-2 c =
     sym (skip 13 _ _ (sym (c .before .before .before .is-bad .ensures) ∙ c .before .before .if1 .left)
     ∙ stop 13 _ _ (sym (c .before .is-absent .ensures) ∙ c .if2 .taken))
 
-or-blank-requires : tie.Need-or-blank-requires
-or-blank-requires c κs = search needs
-
-no-ieee-requires : tie.Need-no-ieee-requires
-no-ieee-requires c κs = search needs
-
 returns-3 : tie.Need-returns-3
 unfolding sealRefusal
 returns-3 c =
     sym (skip 13 _ _ (sym (c .before .before .before .before .before .before .is-bad .ensures) ∙ c .before .before .before .before .before .if1 .left)
     ∙ skip 14 _ _ (sym (c .before .before .before .before .is-absent .ensures) ∙ c .before .before .before .if2 .left)
     ∙ stop 14 _ _ (ap (noIeee (c .before .before .before .before .before .before .before .before .args .h)) (sym (c .before .before .or-blank .ensures)) ∙ sym (c .before .no-ieee .ensures) ∙ c .if3 .taken))
-
-length-refusal-requires : tie.Need-length-refusal-requires
-length-refusal-requires c κs = search needs
 
 returns-4 : tie.Need-returns-4
 unfolding sealRefusal
@@ -53,13 +38,5 @@ returns-4 c =
 pub seal-refusal-spec : {M : Type 1} → statement M
 seal-refusal-spec =
     tie.close
-    (tie.spec
-    is-bad-requires
-    returns
-    is-absent-requires
-    returns-2
-    or-blank-requires
-    no-ieee-requires
-    returns-3
-    length-refusal-requires
-    returns-4)
+    (tie.spec (λ c κs. search needs) returns (λ c κs. search needs) returns-2 (λ c κs. search needs)
+    (λ c κs. search needs) returns-3 (λ c κs. search needs) returns-4)

@@ -4,9 +4,6 @@ use Rattle.frame.proofs.security.at_level.Statement.{statement}
 use Rattle.frame.proofs.security.at_level.Tie as tie
 use Rattle.frame.specs.Security.{atLevel}
 
-with-level-requires : tie.Need-with-level-requires
-with-level-requires c κs = search needs
-
 returns : tie.Need-returns
 unfolding atLevel
 returns c =
@@ -14,4 +11,4 @@ returns c =
     λ i. record { «security_control» = c .with-level .ensures i; «frame_counter» = a .«frame_counter»; «extended_source» = a .«extended_source»; «key_sequence_number» = a .«key_sequence_number» }
 
 pub at-level-spec : {M : Type 1} → statement M
-at-level-spec = tie.close (tie.spec with-level-requires returns)
+at-level-spec = tie.close (tie.spec (λ c κs. search needs) returns)

@@ -9,12 +9,6 @@ use Rattle.octets.proofs.Strings.{take-over}
 use Rattle.header.specs.Writing.{headerBytes}
 use Rattle.header.specs.Auxiliary.{auxBytes}
 
-slice-aggregate-put-headers : tie.Need-slice-aggregate-put-headers
-slice-aggregate-put-headers c = search needs
-
-put-headers-requires : tie.Need-put-headers-requires
-put-headers-requires c κs = search needs
-
 returns : tie.Need-returns
 returns c =
     let a = c .before .before .before .args in
@@ -22,4 +16,4 @@ returns c =
     ∙ take-over _ (headerBytes (a .h) ++ auxBytes (a .aux))
 
 pub both-headers-spec : {M : Type 1} → statement M
-both-headers-spec = tie.close (tie.spec slice-aggregate-put-headers put-headers-requires returns)
+both-headers-spec = tie.close (tie.spec (λ c. search needs) (λ c κs. search needs) returns)

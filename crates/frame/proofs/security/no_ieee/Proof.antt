@@ -6,19 +6,13 @@ use Rattle.frame.proofs.security.no_ieee.Statement.{statement}
 use Rattle.frame.proofs.security.no_ieee.Tie as tie
 use Rattle.header.specs.Optional.{hasIeee}
 
-has-ieee-requires : tie.Need-has-ieee-requires
-has-ieee-requires c κs = search needs
-
 returns : tie.Need-returns
 returns c =
     sym (ap (λ (b : Bool). not (b || hasIeee (c .before .before .args .h .«source_ieee»))) (sym (c .before .has-ieee .ensures) ∙ c .if1 .taken))
-
-has-ieee-requires-2 : tie.Need-has-ieee-requires-2
-has-ieee-requires-2 c κs = search needs
 
 returns-2 : tie.Need-returns-2
 returns-2 c =
     (ap not (c .has-ieee2 .ensures)) ∙ sym (ap (λ (b : Bool). not (b || hasIeee (c .before .before .before .args .h .«source_ieee»))) (sym (c .before .before .has-ieee .ensures) ∙ c .before .if1 .left))
 
 pub no-ieee-spec : {M : Type 1} → statement M
-no-ieee-spec = tie.close (tie.spec has-ieee-requires returns has-ieee-requires-2 returns-2)
+no-ieee-spec = tie.close (tie.spec (λ c κs. search needs) returns (λ c κs. search needs) returns-2)

@@ -9,24 +9,6 @@ use Rattle.octets.specs.Numbers.{le}
 use Rattle.octets.proofs.Strings.{over-three, over-all}
 use Rattle.octets.proofs.Numbers.{length-le}
 
-slice-aggregate-put-u64 : tie.Need-slice-aggregate-put-u64
-slice-aggregate-put-u64 c = search needs
-
-put-u64-requires : tie.Need-put-u64-requires
-put-u64-requires c κs = search needs
-
-slice-aggregate-put-u32 : tie.Need-slice-aggregate-put-u32
-slice-aggregate-put-u32 c = search needs
-
-put-u32-requires : tie.Need-put-u32-requires
-put-u32-requires c κs = search needs
-
-slice-aggregate-put-u8 : tie.Need-slice-aggregate-put-u8
-slice-aggregate-put-u8 c = search needs
-
-put-u8-requires : tie.Need-put-u8-requires
-put-u8-requires c κs = search needs
-
 returns : tie.Need-returns
 returns c =
     let a = c .before .before .before .before .before .before .before .before .before .args in
@@ -37,11 +19,5 @@ returns c =
 pub nonce-bytes-spec : {M : Type 1} → statement M
 nonce-bytes-spec =
     tie.close
-    (tie.spec
-    slice-aggregate-put-u64
-    put-u64-requires
-    slice-aggregate-put-u32
-    put-u32-requires
-    slice-aggregate-put-u8
-    put-u8-requires
-    returns)
+    (tie.spec (λ c. search needs) (λ c κs. search needs) (λ c. search needs) (λ c κs. search needs)
+    (λ c. search needs) (λ c κs. search needs) returns)

@@ -8,18 +8,6 @@ use Rattle.octets.specs.Numbers.{le}
 use Rattle.header.specs.AuxiliaryControl.{securityByte}
 use Rattle.frame.specs.Security.{nonce}
 
-source-ieee-requires : tie.Need-source-ieee-requires
-source-ieee-requires c κs = search needs
-
-with-level-requires : tie.Need-with-level-requires
-with-level-requires c κs = search needs
-
-to-byte-requires : tie.Need-to-byte-requires
-to-byte-requires c κs = search needs
-
-nonce-bytes-requires : tie.Need-nonce-bytes-requires
-nonce-bytes-requires c κs = search needs
-
 returns : tie.Need-returns
 unfolding nonce
 returns c =
@@ -30,9 +18,4 @@ returns c =
 pub nonce-of-spec : {M : Type 1} → statement M
 nonce-of-spec =
     tie.close
-    (tie.spec
-    source-ieee-requires
-    with-level-requires
-    to-byte-requires
-    nonce-bytes-requires
-    returns)
+    (tie.spec (λ c κs. search needs) (λ c κs. search needs) (λ c κs. search needs) (λ c κs. search needs) returns)

@@ -10,18 +10,6 @@ use Rattle.octets.proofs.Strings.{over-then}
 use Rattle.header.specs.Writing.{headerBytes}
 use Rattle.header.specs.Auxiliary.{auxBytes}
 
-size-requires : tie.Need-size-requires
-size-requires c κs = search needs
-
-put-requires : tie.Need-put-requires
-put-requires c κs = search needs
-
-put-requires-2 : tie.Need-put-requires-2
-put-requires-2 c κs = search needs
-
-same-length : tie.Need-same-length
-same-length c = search needs
-
 returns : tie.Need-returns
 returns c =
     let a = c .before .before .before .before .before .before .before .before .before .before .args in
@@ -30,4 +18,5 @@ returns c =
 
 pub put-headers-spec : {M : Type 1} → statement M
 put-headers-spec =
-    tie.close (tie.spec size-requires put-requires put-requires-2 same-length returns)
+    tie.close
+    (tie.spec (λ c κs. search needs) (λ c κs. search needs) (λ c κs. search needs) (λ c. search needs) returns)

@@ -24,15 +24,6 @@ returns-2 c =
     sym (skip 1 _ _ (le-ltb 118 (length (a .f .now)) (omega arith))
     ∙ stop 8 _ _ (lt-ltb (length (a .f .now)) 6 (omega arith)))
 
-byte-at-requires : tie.Need-byte-at-requires
-byte-at-requires c κs = search needs
-
-from-byte-requires : tie.Need-from-byte-requires
-from-byte-requires c κs = search needs
-
-key-sequence-at-requires : tie.Need-key-sequence-at-requires
-key-sequence-at-requires c κs = search needs
-
 returns-3 : tie.Need-returns-3
 unfolding auxRefusal
 returns-3 c =
@@ -41,9 +32,6 @@ returns-3 c =
     sym (skip 1 _ _ (le-ltb 118 (length (a .f .now)) (omega arith))
     ∙ skip 9 _ _ (le-ltb (length (a .f .now)) 6 (omega arith))
     ∙ stop 9 _ _ (lt-ltb (length (a .f .now)) (keySequenceAt (security (a .f .now))) (omega arith)))
-
-add-if4 : tie.Need-add-if4
-add-if4 c = search needs
 
 returns-4 : tie.Need-returns-4
 unfolding auxRefusal
@@ -68,13 +56,5 @@ returns-5 c =
 pub aux-refusal-spec : {M : Type 1} → statement M
 aux-refusal-spec =
     tie.close
-    (tie.spec
-    returns
-    returns-2
-    byte-at-requires
-    from-byte-requires
-    key-sequence-at-requires
-    returns-3
-    add-if4
-    returns-4
-    returns-5)
+    (tie.spec returns returns-2 (λ c κs. search needs) (λ c κs. search needs) (λ c κs. search needs) returns-3
+    (λ c. search needs) returns-4 returns-5)

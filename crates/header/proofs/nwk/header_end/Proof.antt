@@ -8,24 +8,6 @@ use Rattle.header.proofs.nwk.header_end.Statement.{statement}
 use Rattle.header.proofs.nwk.header_end.Tie as tie
 use Rattle.header.specs.Reading.{routeAt, relaysAt, headerEnd}
 
-route-at-requires : tie.Need-route-at-requires
-route-at-requires c κs = search needs
-
-relays-at-requires : tie.Need-relays-at-requires
-relays-at-requires c κs = search needs
-
-mul-result : tie.Need-mul-result
-mul-result c = search needs
-
-add-result : tie.Need-add-result
-add-result c = search needs
-
-add-result-2 : tie.Need-add-result-2
-add-result-2 c = search needs
-
-route-at-requires-2 : tie.Need-route-at-requires-2
-route-at-requires-2 c κs = search needs
-
 returns : tie.Need-returns
 unfolding headerEnd
 returns c =
@@ -43,12 +25,5 @@ returns-2 c =
 pub header-end-spec : {M : Type 1} → statement M
 header-end-spec =
     tie.close
-    (tie.spec
-    route-at-requires
-    relays-at-requires
-    mul-result
-    add-result
-    add-result-2
-    route-at-requires-2
-    returns
-    returns-2)
+    (tie.spec (λ c κs. search needs) (λ c κs. search needs) (λ c. search needs) (λ c. search needs)
+    (λ c. search needs) (λ c κs. search needs) returns returns-2)

@@ -27,9 +27,6 @@ returns-2 c =
     sym (skip 1 _ _ (le-ltb 118 (length (a .f .now)) (omega arith))
     ∙ stop 1 _ _ (lt-ltb (length (a .f .now)) 8 (omega arith)))
 
-read-u16-requires : tie.Need-read-u16-requires
-read-u16-requires c κs = search needs
-
 returns-3 : tie.Need-returns-3
 unfolding headerRefusal
 returns-3 c =
@@ -49,12 +46,6 @@ returns-4 c =
     ∙ skip 3 _ _ (ne-eqb (leAt 2 (a .f .now) 0 % 4) 2 (λ e. c .before .if3 .left (ap (λ (n : ℕ). n % 4) w ∙ e)))
     ∙ stop 3 _ _ (eq-eqb (leAt 2 (a .f .now) 0 / 64 % 4) 3 (ap (λ (n : ℕ). n / 64 % 4) (sym w) ∙ c .if4 .taken)))
 
-from-word-requires : tie.Need-from-word-requires
-from-word-requires c κs = search needs
-
-optional-refusal-requires : tie.Need-optional-refusal-requires
-optional-refusal-requires c κs = search needs
-
 returns-5 : tie.Need-returns-5
 unfolding headerRefusal
 returns-5 c =
@@ -70,12 +61,5 @@ returns-5 c =
 pub header-refusal-spec : {M : Type 1} → statement M
 header-refusal-spec =
     tie.close
-    (tie.spec
-    returns
-    returns-2
-    read-u16-requires
-    returns-3
-    returns-4
-    from-word-requires
-    optional-refusal-requires
-    returns-5)
+    (tie.spec returns returns-2 (λ c κs. search needs) returns-3 returns-4 (λ c κs. search needs)
+    (λ c κs. search needs) returns-5)

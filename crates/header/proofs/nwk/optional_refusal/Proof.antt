@@ -9,17 +9,11 @@ use Rattle.header.proofs.nwk.optional_refusal.Tie as tie
 use Rattle.octets.proofs.Refusals.{stop, skip, empty}
 use Rattle.header.specs.Reading.{sourceAt, multicastAt, routeAt, headerEnd, optionalRefusals}
 
-source-at-requires : tie.Need-source-at-requires
-source-at-requires c κs = search needs
-
 returns : tie.Need-returns
 unfolding optionalRefusals
 returns c =
     let a = c .before .before .before .args in
     sym (stop 4 _ _ (lt-ltb (length (a .f .now)) (sourceAt (a .c)) (omega arith)))
-
-multicast-at-requires : tie.Need-multicast-at-requires
-multicast-at-requires c κs = search needs
 
 returns-2 : tie.Need-returns-2
 unfolding optionalRefusals
@@ -28,18 +22,12 @@ returns-2 c =
     sym (skip 5 _ _ (le-ltb (length (a .f .now)) (sourceAt (a .c)) (omega arith))
     ∙ stop 5 _ _ (lt-ltb (length (a .f .now)) (multicastAt (a .c)) (omega arith)))
 
-route-at-requires : tie.Need-route-at-requires
-route-at-requires c κs = search needs
-
 returns-3 : tie.Need-returns-3
 unfolding optionalRefusals
 returns-3 c =
     let a = c .before .before .before .before .before .before .before .args in
     sym (skip 5 _ _ (le-ltb (length (a .f .now)) (sourceAt (a .c)) (omega arith)) ∙ skip 6 _ _ (le-ltb (length (a .f .now)) (multicastAt (a .c)) (omega arith))
     ∙ stop 6 _ _ (lt-ltb (length (a .f .now)) (routeAt (a .c)) (omega arith)))
-
-header-end-requires : tie.Need-header-end-requires
-header-end-requires c κs = search needs
 
 returns-4 : tie.Need-returns-4
 unfolding optionalRefusals
@@ -60,13 +48,5 @@ returns-5 c =
 pub optional-refusal-spec : {M : Type 1} → statement M
 optional-refusal-spec =
     tie.close
-    (tie.spec
-    source-at-requires
-    returns
-    multicast-at-requires
-    returns-2
-    route-at-requires
-    returns-3
-    header-end-requires
-    returns-4
-    returns-5)
+    (tie.spec (λ c κs. search needs) returns (λ c κs. search needs) returns-2 (λ c κs. search needs) returns-3
+    (λ c κs. search needs) returns-4 returns-5)

@@ -11,18 +11,6 @@ use Rattle.octets.specs.Numbers.{le}
 use Rattle.octets.proofs.Strings.{over-three}
 use Rattle.octets.proofs.Numbers.{length-le}
 
-put-addresses-requires : tie.Need-put-addresses-requires
-put-addresses-requires c κs = search needs
-
-put-u8-requires : tie.Need-put-u8-requires
-put-u8-requires c κs = search needs
-
-put-u8-requires-2 : tie.Need-put-u8-requires-2
-put-u8-requires-2 c κs = search needs
-
-same-length : tie.Need-same-length
-same-length c = search needs
-
 returns : tie.Need-returns
 returns c =
     let a = c .before .before .before .before .before .before .before .before .before .before .before .before .before .args in
@@ -33,4 +21,4 @@ returns c =
 pub put-fixed-spec : {M : Type 1} → statement M
 put-fixed-spec =
     tie.close
-    (tie.spec put-addresses-requires put-u8-requires put-u8-requires-2 same-length returns)
+    (tie.spec (λ c κs. search needs) (λ c κs. search needs) (λ c κs. search needs) (λ c. search needs) returns)

@@ -26,9 +26,6 @@ put-requires-4 : tie.Need-put-requires-4
 put-requires-4 c κs =
     (omega (arith, simp length-append at (c .before .before .before .before .before .before .before .before .before .before .before .before .before .before .pre .0), c .before .before .before .before .before .before .before .before .before .before .before .put .ensures .0, c .before .before .before .before .before .before .before .put2 .ensures .0, c .before .before .before .put3 .ensures .0, c .before .before .before .before .before .before .before .before .before .before .before .put .kept .1 .0, c .before .before .before .before .before .before .before .put2 .kept .1 .0, c .before .before .before .put3 .kept .1 .0), c .before .before .before .before .before .before .before .before .before .before .before .before .before .before .pre .1)
 
-same-length : tie.Need-same-length
-same-length c = search needs
-
 returns : tie.Need-returns
 returns c =
     let a = c .before .before .before .before .before .before .before .before .before .before .before .before .before .before .before .before .before .args in
@@ -45,5 +42,4 @@ returns c =
 
 pub put-optional-spec : {M : Type 1} → statement M
 put-optional-spec =
-    tie.close
-    (tie.spec put-requires put-requires-2 put-requires-3 put-requires-4 same-length returns)
+    tie.close (tie.spec put-requires put-requires-2 put-requires-3 put-requires-4 (λ c. search needs) returns)

@@ -8,15 +8,6 @@ use Rattle.header.proofs.nwk.relay_at.Statement.{statement}
 use Rattle.header.proofs.nwk.relay_at.Tie as tie
 use Rattle.octets.specs.Numbers.{leAt}
 
-mul-read-u16 : tie.Need-mul-read-u16
-mul-read-u16 c = search needs
-
-add-read-u16 : tie.Need-add-read-u16
-add-read-u16 c = search needs
-
-read-u16-requires : tie.Need-read-u16-requires
-read-u16-requires c κs = search needs
-
 returns : tie.Need-returns
 returns c =
     let a = c .before .before .before .args in
@@ -28,4 +19,4 @@ returns-2 c =
     sym (ap (λ (b : Bool). cond b (leAt 2 (a .f .now) (a .first + 2 * a .i)) 0) (le-ltb (a .i) (a .n) (c .if1 .left)))
 
 pub relay-at-spec : {M : Type 1} → statement M
-relay-at-spec = tie.close (tie.spec mul-read-u16 add-read-u16 read-u16-requires returns returns-2)
+relay-at-spec = tie.close (tie.spec (λ c. search needs) (λ c. search needs) (λ c κs. search needs) returns returns-2)

@@ -9,15 +9,6 @@ use Rattle.header.proofs.nwk.relays_at.Statement.{statement}
 use Rattle.header.proofs.nwk.relays_at.Tie as tie
 use Rattle.header.specs.Reading.{routeAt, relaysAt}
 
-route-at-requires : tie.Need-route-at-requires
-route-at-requires c κs = search needs
-
-byte-at-requires : tie.Need-byte-at-requires
-byte-at-requires c κs = search needs
-
-cast-result : tie.Need-cast-result
-cast-result c = search needs
-
 returns : tie.Need-returns
 unfolding relaysAt
 returns c =
@@ -35,4 +26,4 @@ returns-2 c =
 
 pub relays-at-spec : {M : Type 1} → statement M
 relays-at-spec =
-    tie.close (tie.spec route-at-requires byte-at-requires cast-result returns returns-2)
+    tie.close (tie.spec (λ c κs. search needs) (λ c κs. search needs) (λ c. search needs) returns returns-2)

@@ -5,21 +5,10 @@ use Rattle.header.proofs.nwk.source_at.Statement.{statement}
 use Rattle.header.proofs.nwk.source_at.Tie as tie
 use Rattle.header.specs.Reading.{sourceAt}
 
-bit-of-requires : tie.Need-bit-of-requires
-bit-of-requires c κs = search needs
-
-cast-result : tie.Need-cast-result
-cast-result c = search needs
-
-mul-result : tie.Need-mul-result
-mul-result c = search needs
-
-add-result : tie.Need-add-result
-add-result c = search needs
-
 returns : tie.Need-returns
 unfolding sourceAt
 returns c = omega arith
 
 pub source-at-spec : {M : Type 1} → statement M
-source-at-spec = tie.close (tie.spec bit-of-requires cast-result mul-result add-result returns)
+source-at-spec =
+    tie.close (tie.spec (λ c κs. search needs) (λ c. search needs) (λ c. search needs) (λ c. search needs) returns)

@@ -18,16 +18,10 @@ put-u8-requires c κs =
     let a = c .before .before .args in
     omega (arith, c .before .before .pre, route-length (NwkSourceRoute.Present (a .relay-count) (a .relay-index)) (a .relays))
 
-add-put-u8 : tie.Need-add-put-u8
-add-put-u8 c = search needs
-
 put-u8-requires-2 : tie.Need-put-u8-requires-2
 put-u8-requires-2 c κs =
     let a = c .before .before .before .before .before .before .args in
     omega (arith, c .before .before .before .put-u8 .kept, c .before .before .before .before .before .before .pre, route-length (NwkSourceRoute.Present (a .relay-count) (a .relay-index)) (a .relays))
-
-add-put-relays : tie.Need-add-put-relays
-add-put-relays c = search needs
 
 put-relays-requires : tie.Need-put-relays-requires
 put-relays-requires c κs =
@@ -41,9 +35,6 @@ put-relays-requires c κs =
       route-length (NwkSourceRoute.Present (a .relay-count) (a .relay-index)) (a .relays),
     )
 
-same-length : tie.Need-same-length
-same-length c = search needs
-
 returns : tie.Need-returns
 returns c =
     let a = c .before .before .before .before .before .before .before .before .before .before .before .before .before .args in
@@ -54,11 +45,5 @@ returns c =
 pub put-route-spec : {M : Type 1} → statement M
 put-route-spec =
     tie.close
-    (tie.spec
-    put-u8-requires
-    add-put-u8
-    put-u8-requires-2
-    add-put-relays
-    put-relays-requires
-    same-length
-    returns)
+    (tie.spec put-u8-requires (λ c. search needs) put-u8-requires-2 (λ c. search needs) put-relays-requires
+    (λ c. search needs) returns)

@@ -11,20 +11,11 @@ use Rattle.ccm.specs.Operations.{micLength, givenIf}
 use Rattle.nwk.proofs.Calls.{refused-by, passed-by, refused-answer, refused-buffer}
 use Rattle.nwk.proofs.Refusals.{openable, decrypt-length, decrypt-mic, decrypt-none}
 
-decrypt-lengths-requires : tie.Need-decrypt-lengths-requires
-decrypt-lengths-requires c κs = search needs
-
-answer-requires : tie.Need-answer-requires
-answer-requires c κs = search needs
-
 returns : tie.Need-returns
 returns c =
     let a = c .before .before .before .before .before .before .before .before .args in
     let d = c .before .before .decrypt-lengths in
     refused-by _ (d .result) _ _ _ (a .out .now) (decrypt-length _ _ _ _ _ _ (d .result) (d .ensures) (c .before .if1 .taken)) (c .before .if1 .taken) (c .answer .ensures)
-
-key-of-requires : tie.Need-key-of-requires
-key-of-requires c κs = search needs
 
 nonce-of-requires : tie.Need-nonce-of-requires
 nonce-of-requires c κs =
@@ -38,12 +29,6 @@ open-requires : tie.Need-open-requires
 open-requires c κs =
     let s = openable _ _ _ _ _ (sym (c .before .before .before .before .before .decrypt-lengths .ensures) ∙ c .before .before .before .before .if1 .left) in
     (s .auth, s .ciphertext, s .fits)
-
-answer-requires-2 : tie.Need-answer-requires-2
-answer-requires-2 c κs = search needs
-
-same-length : tie.Need-same-length
-same-length c = search needs
 
 returns-2 : tie.Need-returns-2
 unfolding givenIf
@@ -60,12 +45,6 @@ returns-2 c =
     passed-by _ _ _ _ (a .out .now) _ (decrypt-none _ _ _ _ _ _ e (sym (o .ensures .0 ∙ (λ i. v i .valid)) ∙ c .before .if2 .taken))
     (c .answer2 .ensures)
     (o .ensures .1 ∙ (λ i. givenIf (c .before .if2 .taken i) (v i) (a .out .now)))
-
-answer-requires-3 : tie.Need-answer-requires-3
-answer-requires-3 c κs = search needs
-
-same-length-2 : tie.Need-same-length-2
-same-length-2 c = search needs
 
 returns-3 : tie.Need-returns-3
 unfolding givenIf
@@ -86,17 +65,6 @@ returns-3 c =
 pub nwk-decrypt-ccm-spec : {M : Type 1} → statement M
 nwk-decrypt-ccm-spec =
     tie.close
-    (tie.spec
-    decrypt-lengths-requires
-    answer-requires
-    returns
-    key-of-requires
-    nonce-of-requires
-    mic-of-requires
-    open-requires
-    answer-requires-2
-    same-length
-    returns-2
-    answer-requires-3
-    same-length-2
-    returns-3)
+    (tie.spec (λ c κs. search needs) (λ c κs. search needs) returns (λ c κs. search needs) nonce-of-requires
+    mic-of-requires open-requires (λ c κs. search needs) (λ c. search needs) returns-2 (λ c κs. search needs)
+    (λ c. search needs) returns-3)

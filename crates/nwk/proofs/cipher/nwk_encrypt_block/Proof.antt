@@ -10,42 +10,15 @@ use Rattle.aes.specs.Cipher.{aes128}
 use Rattle.nwk.proofs.Calls.{refused-by, passed-by}
 use Rattle.nwk.proofs.Refusals.{block-length, block-room, block-none}
 
-answer-requires : tie.Need-answer-requires
-answer-requires c κs = search needs
-
 returns : tie.Need-returns
 returns c =
     let a = c .before .before .before .before .args in
     refused-by _ 13 _ _ _ (a .out .now) (block-length (length (a .block .now)) (length (a .out .now)) (c .before .if1 .taken)) (λ e. omega arith) (c .answer .ensures)
 
-answer-requires-2 : tie.Need-answer-requires-2
-answer-requires-2 c κs = search needs
-
 returns-2 : tie.Need-returns-2
 returns-2 c =
     let a = c .before .before .before .before .before .args in
     refused-by _ 18 _ _ _ (a .out .now) (block-room (length (a .block .now)) (length (a .out .now)) (c .before .before .if1 .left) (c .before .if2 .taken)) (λ e. omega arith) (c .answer2 .ensures)
-
-key-of-requires : tie.Need-key-of-requires
-key-of-requires c κs = search needs
-
-block-of-requires : tie.Need-block-of-requires
-block-of-requires c κs = search needs
-
-encrypt-block-requires : tie.Need-encrypt-block-requires
-encrypt-block-requires c κs = search needs
-
-slice-aggregate-copy-at : tie.Need-slice-aggregate-copy-at
-slice-aggregate-copy-at c = search needs
-
-copy-at-requires : tie.Need-copy-at-requires
-copy-at-requires c κs = search needs
-
-answer-requires-3 : tie.Need-answer-requires-3
-answer-requires-3 c κs = search needs
-
-same-length : tie.Need-same-length
-same-length c = search needs
 
 returns-3 : tie.Need-returns-3
 returns-3 c =
@@ -57,16 +30,6 @@ returns-3 c =
 pub nwk-encrypt-block-spec : {M : Type 1} → statement M
 nwk-encrypt-block-spec =
     tie.close
-    (tie.spec
-    answer-requires
-    returns
-    answer-requires-2
-    returns-2
-    key-of-requires
-    block-of-requires
-    encrypt-block-requires
-    slice-aggregate-copy-at
-    copy-at-requires
-    answer-requires-3
-    same-length
-    returns-3)
+    (tie.spec (λ c κs. search needs) returns (λ c κs. search needs) returns-2 (λ c κs. search needs)
+    (λ c κs. search needs) (λ c κs. search needs) (λ c. search needs) (λ c κs. search needs) (λ c κs. search needs)
+    (λ c. search needs) returns-3)

@@ -12,21 +12,12 @@ use Rattle.ccm.specs.Operations.{micLength}
 use Rattle.nwk.proofs.Calls.{refused-answer, refused-buffer, passed-answer, given-passed}
 use Rattle.nwk.proofs.Refusals.{sealable}
 
-encrypt-refusal-requires : tie.Need-encrypt-refusal-requires
-encrypt-refusal-requires c κs = search needs
-
-answer-requires : tie.Need-answer-requires
-answer-requires c κs = search needs
-
 returns : tie.Need-returns
 returns c =
     let a = c .before .before .before .before .before .before .before .before .args in
     let e = c .before .before .encrypt-refusal .ensures in
     let n = c .before .if1 .taken in
     (refused-answer _ _ _ _ e n (c .answer .ensures), (refused-buffer _ _ _ (a .out .now) e n, refused-buffer _ _ _ (a .mic .now) e n))
-
-key-of-requires : tie.Need-key-of-requires
-key-of-requires c κs = search needs
 
 nonce-of-requires : tie.Need-nonce-of-requires
 nonce-of-requires c κs =
@@ -37,21 +28,9 @@ seal-requires c κs =
     let s = sealable _ _ _ _ _ (sym (c .before .before .before .before .encrypt-refusal .ensures) ∙ c .before .before .before .if1 .left) in
     (s .auth, s .payload, s .fits)
 
-slice-aggregate-copy-at : tie.Need-slice-aggregate-copy-at
-slice-aggregate-copy-at c = search needs
-
 copy-at-requires : tie.Need-copy-at-requires
 copy-at-requires c κs =
     omega (arith, sealable _ _ _ _ _ (sym (c .before .before .before .before .before .before .before .before .before .encrypt-refusal .ensures) ∙ c .before .before .before .before .before .before .before .before .if1 .left) .mic)
-
-answer-requires-2 : tie.Need-answer-requires-2
-answer-requires-2 c κs = search needs
-
-same-length : tie.Need-same-length
-same-length c = search needs
-
-same-length-2 : tie.Need-same-length-2
-same-length-2 c = search needs
 
 returns-2 : tie.Need-returns-2
 returns-2 c =
@@ -70,16 +49,6 @@ returns-2 c =
 pub nwk-encrypt-ccm-spec : {M : Type 1} → statement M
 nwk-encrypt-ccm-spec =
     tie.close
-    (tie.spec
-    encrypt-refusal-requires
-    answer-requires
-    returns
-    key-of-requires
-    nonce-of-requires
-    seal-requires
-    slice-aggregate-copy-at
-    copy-at-requires
-    answer-requires-2
-    same-length
-    same-length-2
+    (tie.spec (λ c κs. search needs) (λ c κs. search needs) returns (λ c κs. search needs) nonce-of-requires
+    seal-requires (λ c. search needs) copy-at-requires (λ c κs. search needs) (λ c. search needs) (λ c. search needs)
     returns-2)

@@ -12,12 +12,6 @@ use Rattle.nwk.specs.Commands.{readCommandRefusal}
 use Rattle.nwk.proofs.Calls.{refused-by, passed-by}
 use Rattle.nwk.proofs.Refusals.{first, read-short, read-none}
 
-from-bytes-requires : tie.Need-from-bytes-requires
-from-bytes-requires c κs = search needs
-
-answer-requires : tie.Need-answer-requires
-answer-requires c κs = search needs
-
 returns : tie.Need-returns
 unfolding readCommandRefusal
 returns c =
@@ -27,24 +21,12 @@ returns c =
     ((λ i. d .ensures i .refusal) ∙ first (readCommand (a .bytes .now) .refusal) _ (λ z. c .before .if1 .taken ((λ i. d .ensures i .refusal) ∙ z)))
     (c .before .if1 .taken) (c .answer .ensures)
 
-answer-requires-2 : tie.Need-answer-requires-2
-answer-requires-2 c κs = search needs
-
 returns-2 : tie.Need-returns-2
 unfolding readCommandRefusal
 returns-2 c =
     let a = c .before .before .before .before .before .before .before .args in
     let e = (λ i. sym (c .before .before .before .before .from-bytes .ensures) i .refusal) ∙ c .before .before .if1 .left in
     refused-by _ 18 _ _ _ (a .command .now) (read-short _ 535 (length (a .command .now)) e (c .before .if2 .taken)) (λ e. omega arith) (c .answer2 .ensures)
-
-put-command-requires : tie.Need-put-command-requires
-put-command-requires c κs = search needs
-
-answer-requires-3 : tie.Need-answer-requires-3
-answer-requires-3 c κs = search needs
-
-same-length : tie.Need-same-length
-same-length c = search needs
 
 returns-3 : tie.Need-returns-3
 unfolding readCommandRefusal
@@ -59,13 +41,5 @@ returns-3 c =
 pub nwk-read-command-spec : {M : Type 1} → statement M
 nwk-read-command-spec =
     tie.close
-    (tie.spec
-    from-bytes-requires
-    answer-requires
-    returns
-    answer-requires-2
-    returns-2
-    put-command-requires
-    answer-requires-3
-    same-length
-    returns-3)
+    (tie.spec (λ c κs. search needs) (λ c κs. search needs) returns (λ c κs. search needs) returns-2
+    (λ c κs. search needs) (λ c κs. search needs) (λ c. search needs) returns-3)

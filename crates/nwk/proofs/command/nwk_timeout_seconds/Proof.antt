@@ -8,33 +8,12 @@ use Rattle.commands.specs.Writing.{timeoutSeconds}
 use Rattle.commands.proofs.CodeLaws.{secondsBy, seconds-by}
 use Rattle.nwk.specs.Answer.{answer}
 
-try-from-requires : tie.Need-try-from-requires
-try-from-requires c κs = search needs
-
-enum-known-timeout : tie.Need-enum-known-timeout
-enum-known-timeout c = search needs
-
-enum-told : tie.Need-enum-told
-enum-told c = search needs
-
-answer-requires : tie.Need-answer-requires
-answer-requires c κs = search needs
-
 returns : tie.Need-returns
 returns c =
     let n = c .before .before .before .before .args .code in
     let s : _≡_ {A = EndDeviceTimeoutSeconds} (record { refusal = 13; seconds = 0 }) (timeoutSeconds n) =
     ap secondsBy (sym (c .before .enum-told .given .1) ∙ c .before .before .before .try-from .ensures) ∙ seconds-by n in
     c .answer .ensures ∙ (λ i. answer (s i .refusal) (s i .seconds))
-
-duration-requires : tie.Need-duration-requires
-duration-requires c κs = search needs
-
-cast-answer : tie.Need-cast-answer
-cast-answer c = search needs
-
-answer-requires-2 : tie.Need-answer-requires-2
-answer-requires-2 c κs = search needs
 
 returns-2 : tie.Need-returns-2
 returns-2 c =
@@ -48,13 +27,5 @@ returns-2 c =
 pub nwk-timeout-seconds-spec : {M : Type 1} → statement M
 nwk-timeout-seconds-spec =
     tie.close
-    (tie.spec
-    try-from-requires
-    enum-known-timeout
-    enum-told
-    answer-requires
-    returns
-    duration-requires
-    cast-answer
-    answer-requires-2
-    returns-2)
+    (tie.spec (λ c κs. search needs) (λ c. search needs) (λ c. search needs) (λ c κs. search needs) returns
+    (λ c κs. search needs) (λ c. search needs) (λ c κs. search needs) returns-2)

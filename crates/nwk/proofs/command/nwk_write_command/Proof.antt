@@ -15,29 +15,11 @@ use Rattle.nwk.proofs.Calls.{refused-by}
 use Rattle.nwk.proofs.Refusals.{write-good}
 use Rattle.nwk.proofs.CommandCalls.{command-written-by, untyped, typed}
 
-is-bad-requires : tie.Need-is-bad-requires
-is-bad-requires c κs = search needs
-
-answer-requires : tie.Need-answer-requires
-answer-requires c κs = search needs
-
 returns : tie.Need-returns
 unfolding writeCommandRefusal
 returns c =
     let a = c .before .before .before .before .before .args in
     refused-by _ 13 _ _ _ (a .out .now) (sym (stop 12 (badCommandRecord (a .command .now)) _ (sym (c .before .before .is-bad .ensures) ∙ c .before .if1 .taken))) (λ e. omega arith) (c .answer .ensures)
-
-command-at-requires : tie.Need-command-at-requires
-command-at-requires c κs = search needs
-
-enum-known-typed : tie.Need-enum-known-typed
-enum-known-typed c = search needs
-
-enum-told : tie.Need-enum-told
-enum-told c = search needs
-
-answer-requires-2 : tie.Need-answer-requires-2
-answer-requires-2 c κs = search needs
 
 returns-2 : tie.Need-returns-2
 unfolding writeCommandRefusal
@@ -45,18 +27,6 @@ returns-2 c =
     let a = c .before .before .before .before .before .before .before .before .args in
     let t = untyped (recorded (a .command .now)) (sym (c .before .before .before .command-at .ensures) ∙ c .before .enum-told .given .1) in
     refused-by _ 13 _ _ _ (a .out .now) (sym (skip 13 (badCommandRecord (a .command .now)) _ (sym (c .before .before .before .before .before .is-bad .ensures) ∙ c .before .before .before .before .if1 .left) ∙ stop 12 (isUntyped (recorded (a .command .now))) _ t)) (λ e. omega arith) (c .answer2 .ensures)
-
-frame-at-requires : tie.Need-frame-at-requires
-frame-at-requires c κs = search needs
-
-serialize-requires : tie.Need-serialize-requires
-serialize-requires c κs = search needs
-
-answer-requires-3 : tie.Need-answer-requires-3
-answer-requires-3 c κs = search needs
-
-same-length : tie.Need-same-length
-same-length c = search needs
 
 returns-3 : tie.Need-returns-3
 unfolding writeCommandRefusal commandGiven writeAnswer writeBuffer
@@ -74,17 +44,6 @@ returns-3 c =
 pub nwk-write-command-spec : {M : Type 1} → statement M
 nwk-write-command-spec =
     tie.close
-    (tie.spec
-    is-bad-requires
-    answer-requires
-    returns
-    command-at-requires
-    enum-known-typed
-    enum-told
-    answer-requires-2
-    returns-2
-    frame-at-requires
-    serialize-requires
-    answer-requires-3
-    same-length
-    returns-3)
+    (tie.spec (λ c κs. search needs) (λ c κs. search needs) returns (λ c κs. search needs) (λ c. search needs)
+    (λ c. search needs) (λ c κs. search needs) returns-2 (λ c κs. search needs) (λ c κs. search needs)
+    (λ c κs. search needs) (λ c. search needs) returns-3)

@@ -13,12 +13,6 @@ use Rattle.nwk.specs.Frames.{optionRecord}
 use Rattle.nwk.proofs.Calls.{refused-answer, refused-buffer, passed-answer, given-passed}
 use Rattle.nwk.proofs.FrameRefusals.{open-header-short, open-aux-short, open-number, opened-number, open-gives, open-leaves}
 
-short-refusal-requires : tie.Need-short-refusal-requires
-short-refusal-requires c κs = search needs
-
-answer-requires : tie.Need-answer-requires
-answer-requires c κs = search needs
-
 returns : tie.Need-returns
 returns c =
     let a = c .before .before .before .before .before .before .before .args in
@@ -28,12 +22,6 @@ returns c =
       (refused-buffer _ (c .before .short-refusal .result) _ (a .header .now) e (s .1), (refused-buffer _ (c .before .short-refusal .result) _ (a .auxiliary .now) e (s .1), refused-buffer _ (c .before .short-refusal .result) _ (a .out .now) e (s .1))),
     )
 
-short-refusal-requires-2 : tie.Need-short-refusal-requires-2
-short-refusal-requires-2 c κs = search needs
-
-answer-requires-2 : tie.Need-answer-requires-2
-answer-requires-2 c κs = search needs
-
 returns-2 : tie.Need-returns-2
 returns-2 c =
     let a = c .before .before .before .before .before .before .before .before .args in
@@ -42,18 +30,6 @@ returns-2 c =
       refused-answer _ (c .before .short-refusal2 .result) _ _ e (s .1) (c .answer2 .ensures),
       (refused-buffer _ (c .before .short-refusal2 .result) _ (a .header .now) e (s .1), (refused-buffer _ (c .before .short-refusal2 .result) _ (a .auxiliary .now) e (s .1), refused-buffer _ (c .before .short-refusal2 .result) _ (a .out .now) e (s .1))),
     )
-
-from-halves-requires : tie.Need-from-halves-requires
-from-halves-requires c κs = search needs
-
-open-requires : tie.Need-open-requires
-open-requires c κs = search needs
-
-answer-requires-3 : tie.Need-answer-requires-3
-answer-requires-3 c κs = search needs
-
-same-length : tie.Need-same-length
-same-length c = search needs
 
 returns-3 : tie.Need-returns-3
 returns-3 c =
@@ -66,24 +42,6 @@ returns-3 c =
       refused-answer _ (o .result .refusal) _ _ e (c .before .if3 .taken) (c .answer3 .ensures),
       (refused-buffer _ (o .result .refusal) _ (a .header .now) e (c .before .if3 .taken), (refused-buffer _ (o .result .refusal) _ (a .auxiliary .now) e (c .before .if3 .taken), same ∙ refused-buffer _ (o .result .refusal) _ (a .out .now) e (c .before .if3 .taken))),
     )
-
-put-header-requires : tie.Need-put-header-requires
-put-header-requires c κs = search needs
-
-put-option-requires : tie.Need-put-option-requires
-put-option-requires c κs = search needs
-
-answer-requires-4 : tie.Need-answer-requires-4
-answer-requires-4 c κs = search needs
-
-same-length-2 : tie.Need-same-length-2
-same-length-2 c = search needs
-
-same-length-3 : tie.Need-same-length-3
-same-length-3 c = search needs
-
-same-length-4 : tie.Need-same-length-4
-same-length-4 c = search needs
 
 returns-4 : tie.Need-returns-4
 returns-4 c =
@@ -108,22 +66,7 @@ returns-4 c =
 pub nwk-open-spec : {M : Type 1} → statement M
 nwk-open-spec =
     tie.close
-    (tie.spec
-    short-refusal-requires
-    answer-requires
-    returns
-    short-refusal-requires-2
-    answer-requires-2
-    returns-2
-    from-halves-requires
-    open-requires
-    answer-requires-3
-    same-length
-    returns-3
-    put-header-requires
-    put-option-requires
-    answer-requires-4
-    same-length-2
-    same-length-3
-    same-length-4
-    returns-4)
+    (tie.spec (λ c κs. search needs) (λ c κs. search needs) returns (λ c κs. search needs) (λ c κs. search needs)
+    returns-2 (λ c κs. search needs) (λ c κs. search needs) (λ c κs. search needs) (λ c. search needs) returns-3
+    (λ c κs. search needs) (λ c κs. search needs) (λ c κs. search needs) (λ c. search needs) (λ c. search needs)
+    (λ c. search needs) returns-4)

@@ -12,20 +12,11 @@ use Rattle.nwk.specs.Frames.{optionRecord}
 use Rattle.nwk.proofs.Calls.{refused-answer, refused-buffer, passed-answer, given-passed}
 use Rattle.nwk.proofs.FrameRefusals.{read-number, read-header-short, read-aux-short, read-none}
 
-read-frame-requires : tie.Need-read-frame-requires
-read-frame-requires c κs = search needs
-
-answer-requires : tie.Need-answer-requires
-answer-requires c κs = search needs
-
 returns : tie.Need-returns
 returns c =
     let a = c .before .before .before .before .before .before .before .args in
     let e = read-number (a .bytes .now) (length (a .header .now)) (length (a .auxiliary .now)) (c .before .before .before .read-frame .result .refusal) (λ i. c .before .before .before .read-frame .ensures i .refusal) (c .before .if1 .taken) in
     (refused-answer _ (c .before .before .before .read-frame .result .refusal) _ _ e (c .before .if1 .taken) (c .answer .ensures), (refused-buffer _ (c .before .before .before .read-frame .result .refusal) _ (a .header .now) e (c .before .if1 .taken), refused-buffer _ (c .before .before .before .read-frame .result .refusal) _ (a .auxiliary .now) e (c .before .if1 .taken)))
-
-answer-requires-2 : tie.Need-answer-requires-2
-answer-requires-2 c κs = search needs
 
 returns-2 : tie.Need-returns-2
 returns-2 c =
@@ -33,29 +24,11 @@ returns-2 c =
     let e = read-header-short (a .bytes .now) (length (a .header .now)) (length (a .auxiliary .now)) ((λ i. sym (c .before .before .before .before .read-frame .ensures) i .refusal) ∙ c .before .before .if1 .left) (c .before .if2 .taken) in
     (refused-answer _ 18 _ _ e (λ e. omega arith) (c .answer2 .ensures), (refused-buffer _ 18 _ (a .header .now) e (λ e. omega arith), refused-buffer _ 18 _ (a .auxiliary .now) e (λ e. omega arith)))
 
-answer-requires-3 : tie.Need-answer-requires-3
-answer-requires-3 c κs = search needs
-
 returns-3 : tie.Need-returns-3
 returns-3 c =
     let a = c .before .before .before .before .before .before .before .before .before .args in
     let e = read-aux-short (a .bytes .now) (length (a .header .now)) (length (a .auxiliary .now)) ((λ i. sym (c .before .before .before .before .before .read-frame .ensures) i .refusal) ∙ c .before .before .before .if1 .left) (c .before .before .if2 .left) (c .before .if3 .taken) in
     (refused-answer _ 18 _ _ e (λ e. omega arith) (c .answer3 .ensures), (refused-buffer _ 18 _ (a .header .now) e (λ e. omega arith), refused-buffer _ 18 _ (a .auxiliary .now) e (λ e. omega arith)))
-
-put-header-requires : tie.Need-put-header-requires
-put-header-requires c κs = search needs
-
-put-option-requires : tie.Need-put-option-requires
-put-option-requires c κs = search needs
-
-answer-requires-4 : tie.Need-answer-requires-4
-answer-requires-4 c κs = search needs
-
-same-length : tie.Need-same-length
-same-length c = search needs
-
-same-length-2 : tie.Need-same-length-2
-same-length-2 c = search needs
 
 returns-4 : tie.Need-returns-4
 returns-4 c =
@@ -72,17 +45,6 @@ returns-4 c =
 pub nwk-read-frame-spec : {M : Type 1} → statement M
 nwk-read-frame-spec =
     tie.close
-    (tie.spec
-    read-frame-requires
-    answer-requires
-    returns
-    answer-requires-2
-    returns-2
-    answer-requires-3
-    returns-3
-    put-header-requires
-    put-option-requires
-    answer-requires-4
-    same-length
-    same-length-2
-    returns-4)
+    (tie.spec (λ c κs. search needs) (λ c κs. search needs) returns (λ c κs. search needs) returns-2
+    (λ c κs. search needs) returns-3 (λ c κs. search needs) (λ c κs. search needs) (λ c κs. search needs)
+    (λ c. search needs) (λ c. search needs) returns-4)

@@ -15,24 +15,12 @@ use Rattle.nwk.specs.Frames.{auxGiven, sealRecordsRefusal, sealedRecords
 use Rattle.nwk.proofs.Calls.{refused-by, written-by}
 use Rattle.nwk.proofs.Refusals.{write-good}
 
-is-bad-requires : tie.Need-is-bad-requires
-is-bad-requires c κs = search needs
-
-answer-requires : tie.Need-answer-requires
-answer-requires c κs = search needs
-
 returns : tie.Need-returns
 unfolding sealRecordsRefusal
 returns c =
     let a = c .before .before .before .before .before .before .before .args in
     let e = sym (c .before .before .is-bad .ensures) ∙ c .before .if1 .taken in
     refused-by _ 13 _ _ _ (a .out .now) (sym (stop 12 (badHeaderRecord (a .header .now)) _ e)) (λ e. omega arith) (c .answer .ensures)
-
-is-bad-requires-2 : tie.Need-is-bad-requires-2
-is-bad-requires-2 c κs = search needs
-
-answer-requires-2 : tie.Need-answer-requires-2
-answer-requires-2 c κs = search needs
 
 returns-2 : tie.Need-returns-2
 unfolding sealRecordsRefusal
@@ -41,24 +29,6 @@ returns-2 c =
     let e = sym (c .before .before .before .before .is-bad .ensures) ∙ c .before .before .before .if1 .left in
     let d = sym (c .before .before .is-bad2 .ensures) ∙ c .before .if2 .taken in
     refused-by _ 13 _ _ _ (a .out .now) (sym (skip 13 (badHeaderRecord (a .header .now)) _ e ∙ stop 12 (badAuxRecord (a .auxiliary .now)) _ d)) (λ e. omega arith) (c .answer2 .ensures)
-
-from-halves-requires : tie.Need-from-halves-requires
-from-halves-requires c κs = search needs
-
-header-of-requires : tie.Need-header-of-requires
-header-of-requires c κs = search needs
-
-aux-given-requires : tie.Need-aux-given-requires
-aux-given-requires c κs = search needs
-
-seal-requires : tie.Need-seal-requires
-seal-requires c κs = search needs
-
-answer-requires-3 : tie.Need-answer-requires-3
-answer-requires-3 c κs = search needs
-
-same-length : tie.Need-same-length
-same-length c = search needs
 
 returns-3 : tie.Need-returns-3
 unfolding sealRecordsRefusal sealedRecords sealFrame
@@ -79,17 +49,6 @@ returns-3 c =
 pub nwk-seal-spec : {M : Type 1} → statement M
 nwk-seal-spec =
     tie.close
-    (tie.spec
-    is-bad-requires
-    answer-requires
-    returns
-    is-bad-requires-2
-    answer-requires-2
-    returns-2
-    from-halves-requires
-    header-of-requires
-    aux-given-requires
-    seal-requires
-    answer-requires-3
-    same-length
-    returns-3)
+    (tie.spec (λ c κs. search needs) (λ c κs. search needs) returns (λ c κs. search needs) (λ c κs. search needs)
+    returns-2 (λ c κs. search needs) (λ c κs. search needs) (λ c κs. search needs) (λ c κs. search needs)
+    (λ c κs. search needs) (λ c. search needs) returns-3)

@@ -7,18 +7,6 @@ use Rattle.octets.specs.Strings.{over}
 use Rattle.records.specs.AuxiliaryRecord.{auxRecord}
 use Rattle.nwk.specs.Frames.{optionRecord}
 
-is-present-requires : tie.Need-is-present-requires
-is-present-requires c κs = search needs
-
-or-blank-requires : tie.Need-or-blank-requires
-or-blank-requires c κs = search needs
-
-put-aux-requires : tie.Need-put-aux-requires
-put-aux-requires c κs = search needs
-
-same-length : tie.Need-same-length
-same-length c = search needs
-
 returns : tie.Need-returns
 unfolding optionRecord
 returns c =
@@ -26,4 +14,5 @@ returns c =
 
 pub put-option-spec : {M : Type 1} → statement M
 put-option-spec =
-    tie.close (tie.spec is-present-requires or-blank-requires put-aux-requires same-length returns)
+    tie.close
+    (tie.spec (λ c κs. search needs) (λ c κs. search needs) (λ c κs. search needs) (λ c. search needs) returns)

@@ -12,15 +12,6 @@ use Rattle.frame.specs.Opening.{behind, openRefusals}
 use Rattle.nwk.specs.Frames.{openNumber}
 use Rattle.nwk.proofs.Refusals.{first, pass, single}
 
-read-frame-requires : tie.Need-read-frame-requires
-read-frame-requires c κs = search needs
-
-behind-requires : tie.Need-behind-requires
-behind-requires c κs = search needs
-
-open-refusal-requires : tie.Need-open-refusal-requires
-open-refusal-requires c κs = search needs
-
 returns : tie.Need-returns
 unfolding openNumber behind
 returns c =
@@ -43,5 +34,4 @@ returns-2 c =
 
 pub short-refusal-spec : {M : Type 1} → statement M
 short-refusal-spec =
-    tie.close
-    (tie.spec read-frame-requires behind-requires open-refusal-requires returns returns-2)
+    tie.close (tie.spec (λ c κs. search needs) (λ c κs. search needs) (λ c κs. search needs) returns returns-2)

@@ -14,12 +14,6 @@ use Rattle.nwk.specs.Answer.{answer}
 use Rattle.nwk.proofs.Calls.{refused-by, passed-by}
 use Rattle.nwk.proofs.Refusals.{first, read-short, read-none, aux-number}
 
-deserialize-requires : tie.Need-deserialize-requires
-deserialize-requires c κs = search needs
-
-answer-requires : tie.Need-answer-requires
-answer-requires c κs = search needs
-
 returns : tie.Need-returns
 unfolding readAuxRefusal
 returns c =
@@ -30,24 +24,12 @@ returns c =
     (e ∙ first (auxRefusal (a .bytes .now)) _ (λ z. c .before .if1 .taken (e ∙ z)))
     (c .before .if1 .taken) (c .answer .ensures)
 
-answer-requires-2 : tie.Need-answer-requires-2
-answer-requires-2 c κs = search needs
-
 returns-2 : tie.Need-returns-2
 unfolding readAuxRefusal
 returns-2 c =
     let a = c .before .before .before .before .before .before .before .args in
     let e = sym (aux-number (a .bytes .now)) ∙ (λ i. sym (c .before .before .before .before .deserialize .ensures) i .refusal) ∙ c .before .before .if1 .left in
     refused-by _ 18 _ _ _ (a .auxiliary .now) (read-short _ 19 (length (a .auxiliary .now)) e (c .before .if2 .taken)) (λ e. omega arith) (c .answer2 .ensures)
-
-put-aux-requires : tie.Need-put-aux-requires
-put-aux-requires c κs = search needs
-
-answer-requires-3 : tie.Need-answer-requires-3
-answer-requires-3 c κs = search needs
-
-same-length : tie.Need-same-length
-same-length c = search needs
 
 returns-3 : tie.Need-returns-3
 unfolding readAuxRefusal
@@ -62,13 +44,5 @@ returns-3 c =
 pub nwk-read-auxiliary-spec : {M : Type 1} → statement M
 nwk-read-auxiliary-spec =
     tie.close
-    (tie.spec
-    deserialize-requires
-    answer-requires
-    returns
-    answer-requires-2
-    returns-2
-    put-aux-requires
-    answer-requires-3
-    same-length
-    returns-3)
+    (tie.spec (λ c κs. search needs) (λ c κs. search needs) returns (λ c κs. search needs) returns-2
+    (λ c κs. search needs) (λ c κs. search needs) (λ c. search needs) returns-3)

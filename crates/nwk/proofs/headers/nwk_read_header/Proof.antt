@@ -13,12 +13,6 @@ use Rattle.nwk.specs.Answer.{answer}
 use Rattle.nwk.proofs.Calls.{refused-by, passed-by}
 use Rattle.nwk.proofs.Refusals.{first, read-short, read-none, header-number}
 
-deserialize-requires : tie.Need-deserialize-requires
-deserialize-requires c κs = search needs
-
-answer-requires : tie.Need-answer-requires
-answer-requires c κs = search needs
-
 returns : tie.Need-returns
 unfolding readHeaderRefusal
 returns c =
@@ -29,24 +23,12 @@ returns c =
     (e ∙ first (headerRefusal (a .bytes .now)) _ (λ z. c .before .if1 .taken (e ∙ z)))
     (c .before .if1 .taken) (c .answer .ensures)
 
-answer-requires-2 : tie.Need-answer-requires-2
-answer-requires-2 c κs = search needs
-
 returns-2 : tie.Need-returns-2
 unfolding readHeaderRefusal
 returns-2 c =
     let a = c .before .before .before .before .before .before .before .args in
     let e = sym (header-number (a .bytes .now)) ∙ (λ i. sym (c .before .before .before .before .deserialize .ensures) i .refusal) ∙ c .before .before .if1 .left in
     refused-by _ 18 _ _ _ (a .header .now) (read-short _ 147 (length (a .header .now)) e (c .before .if2 .taken)) (λ e. omega arith) (c .answer2 .ensures)
-
-put-header-requires : tie.Need-put-header-requires
-put-header-requires c κs = search needs
-
-answer-requires-3 : tie.Need-answer-requires-3
-answer-requires-3 c κs = search needs
-
-same-length : tie.Need-same-length
-same-length c = search needs
 
 returns-3 : tie.Need-returns-3
 unfolding readHeaderRefusal
@@ -61,13 +43,5 @@ returns-3 c =
 pub nwk-read-header-spec : {M : Type 1} → statement M
 nwk-read-header-spec =
     tie.close
-    (tie.spec
-    deserialize-requires
-    answer-requires
-    returns
-    answer-requires-2
-    returns-2
-    put-header-requires
-    answer-requires-3
-    same-length
-    returns-3)
+    (tie.spec (λ c κs. search needs) (λ c κs. search needs) returns (λ c κs. search needs) returns-2
+    (λ c κs. search needs) (λ c κs. search needs) (λ c. search needs) returns-3)

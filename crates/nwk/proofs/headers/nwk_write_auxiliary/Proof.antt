@@ -13,33 +13,12 @@ use Rattle.nwk.specs.Headers.{writeAuxRefusal}
 use Rattle.nwk.proofs.Calls.{refused-by, written-by}
 use Rattle.nwk.proofs.Refusals.{write-good}
 
-is-bad-requires : tie.Need-is-bad-requires
-is-bad-requires c κs = search needs
-
-answer-requires : tie.Need-answer-requires
-answer-requires c κs = search needs
-
 returns : tie.Need-returns
 unfolding writeAuxRefusal
 returns c =
     let a = c .before .before .before .before .before .args in
     let e = sym (c .before .before .is-bad .ensures) ∙ c .before .if1 .taken in
     refused-by _ 13 _ _ _ (a .out .now) (sym (stop 12 (badAuxRecord (a .auxiliary .now)) _ e)) (λ e. omega arith) (c .answer .ensures)
-
-is-present-requires : tie.Need-is-present-requires
-is-present-requires c κs = search needs
-
-aux-of-requires : tie.Need-aux-of-requires
-aux-of-requires c κs = search needs
-
-serialize-requires : tie.Need-serialize-requires
-serialize-requires c κs = search needs
-
-answer-requires-2 : tie.Need-answer-requires-2
-answer-requires-2 c κs = search needs
-
-same-length : tie.Need-same-length
-same-length c = search needs
 
 returns-2 : tie.Need-returns-2
 unfolding writeAuxRefusal writeAux
@@ -55,9 +34,6 @@ returns-2 c =
     (s .ensures .1 ∙ (λ i. writeAux (h i) (a .out .now) .out))
     (c .answer2 .ensures)
 
-answer-requires-3 : tie.Need-answer-requires-3
-answer-requires-3 c κs = search needs
-
 returns-3 : tie.Need-returns-3
 unfolding writeAuxRefusal
 returns-3 c =
@@ -70,15 +46,5 @@ returns-3 c =
 pub nwk-write-auxiliary-spec : {M : Type 1} → statement M
 nwk-write-auxiliary-spec =
     tie.close
-    (tie.spec
-    is-bad-requires
-    answer-requires
-    returns
-    is-present-requires
-    aux-of-requires
-    serialize-requires
-    answer-requires-2
-    same-length
-    returns-2
-    answer-requires-3
-    returns-3)
+    (tie.spec (λ c κs. search needs) (λ c κs. search needs) returns (λ c κs. search needs) (λ c κs. search needs)
+    (λ c κs. search needs) (λ c κs. search needs) (λ c. search needs) returns-2 (λ c κs. search needs) returns-3)

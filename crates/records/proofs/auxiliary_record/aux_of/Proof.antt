@@ -4,18 +4,6 @@ use Rattle.records.proofs.auxiliary_record.aux_of.Statement.{statement}
 use Rattle.records.proofs.auxiliary_record.aux_of.Tie as tie
 use Rattle.records.specs.AuxiliaryRecord.{auxOf}
 
-security-of-requires : tie.Need-security-of-requires
-security-of-requires c κs = search needs
-
-read-u32-requires : tie.Need-read-u32-requires
-read-u32-requires c κs = search needs
-
-ieee-at-requires : tie.Need-ieee-at-requires
-ieee-at-requires c κs = search needs
-
-byte-at-requires : tie.Need-byte-at-requires
-byte-at-requires c κs = search needs
-
 returns : tie.Need-returns
 unfolding auxOf
 returns c =
@@ -29,4 +17,4 @@ returns c =
 pub aux-of-spec : {M : Type 1} → statement M
 aux-of-spec =
     tie.close
-    (tie.spec security-of-requires read-u32-requires ieee-at-requires byte-at-requires returns)
+    (tie.spec (λ c κs. search needs) (λ c κs. search needs) (λ c κs. search needs) (λ c κs. search needs) returns)

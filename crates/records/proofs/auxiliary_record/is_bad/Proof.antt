@@ -8,15 +8,9 @@ use Rattle.records.proofs.Refused.{aux-length, aux-rest}
 returns : tie.Need-returns
 returns c = aux-length (c .before .before .args .bytes .now) (c .if1 .taken)
 
-slice-aggregate-exceeds : tie.Need-slice-aggregate-exceeds
-slice-aggregate-exceeds c = search needs
-
-exceeds-requires : tie.Need-exceeds-requires
-exceeds-requires c κs = search needs
-
 returns-2 : tie.Need-returns-2
 returns-2 c =
     c .exceeds .ensures ∙ aux-rest (c .before .before .before .before .args .bytes .now) (c .before .before .if1 .left)
 
 pub is-bad-spec : {M : Type 1} → statement M
-is-bad-spec = tie.close (tie.spec returns slice-aggregate-exceeds exceeds-requires returns-2)
+is-bad-spec = tie.close (tie.spec returns (λ c. search needs) (λ c κs. search needs) returns-2)

@@ -6,11 +6,8 @@ use lib.Dec.{eqb}
 use Rattle.records.proofs.auxiliary_record.is_present.Statement.{statement}
 use Rattle.records.proofs.auxiliary_record.is_present.Tie as tie
 
-byte-at-requires : tie.Need-byte-at-requires
-byte-at-requires c κs = search needs
-
 returns : tie.Need-returns
 returns c = ap (λ (x : ℕ). eqb x 1) (c .byte-at .ensures)
 
 pub is-present-spec : {M : Type 1} → statement M
-is-present-spec = tie.close (tie.spec byte-at-requires returns)
+is-present-spec = tie.close (tie.spec (λ c κs. search needs) returns)

@@ -7,15 +7,6 @@ use Rattle.records.proofs.auxiliary_record.put_aux.Tie as tie
 use Rattle.octets.proofs.Strings.{over-then}
 use Rattle.records.specs.AuxiliaryRecord.{counterRecord, auxRecord}
 
-put-security-requires : tie.Need-put-security-requires
-put-security-requires c κs = search needs
-
-put-counter-requires : tie.Need-put-counter-requires
-put-counter-requires c κs = search needs
-
-same-length : tie.Need-same-length
-same-length c = search needs
-
 returns : tie.Need-returns
 unfolding auxRecord counterRecord
 returns c =
@@ -25,4 +16,4 @@ returns c =
     (c .before .before .put-counter .ensures)
 
 pub put-aux-spec : {M : Type 1} → statement M
-put-aux-spec = tie.close (tie.spec put-security-requires put-counter-requires same-length returns)
+put-aux-spec = tie.close (tie.spec (λ c κs. search needs) (λ c κs. search needs) (λ c. search needs) returns)

@@ -8,18 +8,6 @@ use Rattle.octets.proofs.Strings.{over-three}
 use Rattle.octets.proofs.Numbers.{length-le}
 use Rattle.records.proofs.Sizes.{length-ieee}
 
-put-u32-requires : tie.Need-put-u32-requires
-put-u32-requires c κs = search needs
-
-put-ieee-requires : tie.Need-put-ieee-requires
-put-ieee-requires c κs = search needs
-
-put-u8-requires : tie.Need-put-u8-requires
-put-u8-requires c κs = search needs
-
-same-length : tie.Need-same-length
-same-length c = search needs
-
 returns : tie.Need-returns
 returns c =
     let a = c .before .before .before .before .before .before .before .before .before .before .before .before .before .args in
@@ -30,4 +18,5 @@ returns c =
 
 pub put-counter-spec : {M : Type 1} → statement M
 put-counter-spec =
-    tie.close (tie.spec put-u32-requires put-ieee-requires put-u8-requires same-length returns)
+    tie.close
+    (tie.spec (λ c κs. search needs) (λ c κs. search needs) (λ c κs. search needs) (λ c. search needs) returns)

@@ -6,30 +6,6 @@ use Rattle.records.proofs.auxiliary_record.put_security.Statement.{stat
 use Rattle.records.proofs.auxiliary_record.put_security.Tie as tie
 use Rattle.octets.specs.Strings.{over}
 
-bit-byte-requires : tie.Need-bit-byte-requires
-bit-byte-requires c κs = search needs
-
-code-requires : tie.Need-code-requires
-code-requires c κs = search needs
-
-code-requires-2 : tie.Need-code-requires-2
-code-requires-2 c κs = search needs
-
-bit-byte-requires-2 : tie.Need-bit-byte-requires-2
-bit-byte-requires-2 c κs = search needs
-
-bit-byte-requires-3 : tie.Need-bit-byte-requires-3
-bit-byte-requires-3 c κs = search needs
-
-slice-aggregate-copy-at : tie.Need-slice-aggregate-copy-at
-slice-aggregate-copy-at c = search needs
-
-copy-at-requires : tie.Need-copy-at-requires
-copy-at-requires c κs = search needs
-
-same-length : tie.Need-same-length
-same-length c = search needs
-
 returns : tie.Need-returns
 returns c =
     let a = c .before .before .before .before .before .before .before .before .before .before .before .args in
@@ -40,13 +16,5 @@ returns c =
 pub put-security-spec : {M : Type 1} → statement M
 put-security-spec =
     tie.close
-    (tie.spec
-    bit-byte-requires
-    code-requires
-    code-requires-2
-    bit-byte-requires-2
-    bit-byte-requires-3
-    slice-aggregate-copy-at
-    copy-at-requires
-    same-length
-    returns)
+    (tie.spec (λ c κs. search needs) (λ c κs. search needs) (λ c κs. search needs) (λ c κs. search needs)
+    (λ c κs. search needs) (λ c. search needs) (λ c κs. search needs) (λ c. search needs) returns)

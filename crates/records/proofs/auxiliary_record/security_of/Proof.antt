@@ -7,24 +7,6 @@ use Rattle.records.proofs.auxiliary_record.security_of.Tie as tie
 use Rattle.header.specs.AuxiliaryControl.{levelOf, keyIdOf}
 use Rattle.records.specs.AuxiliaryRecord.{securityAt}
 
-byte-at-requires : tie.Need-byte-at-requires
-byte-at-requires c κs = search needs
-
-from-code-requires : tie.Need-from-code-requires
-from-code-requires c κs = search needs
-
-byte-at-requires-2 : tie.Need-byte-at-requires-2
-byte-at-requires-2 c κs = search needs
-
-from-code-requires-2 : tie.Need-from-code-requires-2
-from-code-requires-2 c κs = search needs
-
-byte-at-requires-3 : tie.Need-byte-at-requires-3
-byte-at-requires-3 c κs = search needs
-
-byte-at-requires-4 : tie.Need-byte-at-requires-4
-byte-at-requires-4 c κs = search needs
-
 returns : tie.Need-returns
 unfolding securityAt
 returns c =
@@ -38,11 +20,5 @@ returns c =
 pub security-of-spec : {M : Type 1} → statement M
 security-of-spec =
     tie.close
-    (tie.spec
-    byte-at-requires
-    from-code-requires
-    byte-at-requires-2
-    from-code-requires-2
-    byte-at-requires-3
-    byte-at-requires-4
-    returns)
+    (tie.spec (λ c κs. search needs) (λ c κs. search needs) (λ c κs. search needs) (λ c κs. search needs)
+    (λ c κs. search needs) (λ c κs. search needs) returns)

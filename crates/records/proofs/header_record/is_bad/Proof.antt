@@ -8,18 +8,9 @@ use Rattle.records.proofs.Refused.{header-length, header-type, header-r
 returns : tie.Need-returns
 returns c = header-length (c .before .before .args .bytes .now) (c .if1 .taken)
 
-byte-at-requires : tie.Need-byte-at-requires
-byte-at-requires c κs = search needs
-
 returns-2 : tie.Need-returns-2
 returns-2 c =
     header-type (c .before .before .before .before .args .bytes .now) (c .before .before .if1 .left) (sym (c .before .byte-at .ensures) ∙ c .if2 .taken)
-
-slice-aggregate-exceeds : tie.Need-slice-aggregate-exceeds
-slice-aggregate-exceeds c = search needs
-
-exceeds-requires : tie.Need-exceeds-requires
-exceeds-requires c κs = search needs
 
 returns-3 : tie.Need-returns-3
 returns-3 c =
@@ -27,11 +18,4 @@ returns-3 c =
 
 pub is-bad-spec : {M : Type 1} → statement M
 is-bad-spec =
-    tie.close
-    (tie.spec
-    returns
-    byte-at-requires
-    returns-2
-    slice-aggregate-exceeds
-    exceeds-requires
-    returns-3)
+    tie.close (tie.spec returns (λ c κs. search needs) returns-2 (λ c. search needs) (λ c κs. search needs) returns-3)

@@ -6,45 +6,6 @@ use Rattle.records.proofs.header_record.put_control.Statement.{statemen
 use Rattle.records.proofs.header_record.put_control.Tie as tie
 use Rattle.octets.specs.Strings.{over}
 
-code-requires : tie.Need-code-requires
-code-requires c κs = search needs
-
-cast-t7 : tie.Need-cast-t7
-cast-t7 c = search needs
-
-code-requires-2 : tie.Need-code-requires-2
-code-requires-2 c κs = search needs
-
-cast-t9 : tie.Need-cast-t9
-cast-t9 c = search needs
-
-bit-byte-requires : tie.Need-bit-byte-requires
-bit-byte-requires c κs = search needs
-
-bit-byte-requires-2 : tie.Need-bit-byte-requires-2
-bit-byte-requires-2 c κs = search needs
-
-bit-byte-requires-3 : tie.Need-bit-byte-requires-3
-bit-byte-requires-3 c κs = search needs
-
-bit-byte-requires-4 : tie.Need-bit-byte-requires-4
-bit-byte-requires-4 c κs = search needs
-
-bit-byte-requires-5 : tie.Need-bit-byte-requires-5
-bit-byte-requires-5 c κs = search needs
-
-bit-byte-requires-6 : tie.Need-bit-byte-requires-6
-bit-byte-requires-6 c κs = search needs
-
-slice-aggregate-copy-at : tie.Need-slice-aggregate-copy-at
-slice-aggregate-copy-at c = search needs
-
-copy-at-requires : tie.Need-copy-at-requires
-copy-at-requires c κs = search needs
-
-same-length : tie.Need-same-length
-same-length c = search needs
-
 returns : tie.Need-returns
 returns c =
     let a = c .before .before .before .before .before .before .before .before .before .before .before .before .before .before .args in
@@ -56,18 +17,6 @@ returns c =
 pub put-control-spec : {M : Type 1} → statement M
 put-control-spec =
     tie.close
-    (tie.spec
-    code-requires
-    cast-t7
-    code-requires-2
-    cast-t9
-    bit-byte-requires
-    bit-byte-requires-2
-    bit-byte-requires-3
-    bit-byte-requires-4
-    bit-byte-requires-5
-    bit-byte-requires-6
-    slice-aggregate-copy-at
-    copy-at-requires
-    same-length
-    returns)
+    (tie.spec (λ c κs. search needs) (λ c. search needs) (λ c κs. search needs) (λ c. search needs)
+    (λ c κs. search needs) (λ c κs. search needs) (λ c κs. search needs) (λ c κs. search needs) (λ c κs. search needs)
+    (λ c κs. search needs) (λ c. search needs) (λ c κs. search needs) (λ c. search needs) returns)

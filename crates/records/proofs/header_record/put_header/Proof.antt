@@ -9,21 +9,6 @@ use Rattle.records.specs.HeaderRecord.{addressRecord, optionalRecord, he
 use Rattle.records.proofs.Sizes.{length-address, length-optional}
 use Rattle.records.proofs.Writes.{over-four}
 
-put-control-requires : tie.Need-put-control-requires
-put-control-requires c κs = search needs
-
-put-addresses-requires : tie.Need-put-addresses-requires
-put-addresses-requires c κs = search needs
-
-put-optional-requires : tie.Need-put-optional-requires
-put-optional-requires c κs = search needs
-
-put-source-route-requires : tie.Need-put-source-route-requires
-put-source-route-requires c κs = search needs
-
-same-length : tie.Need-same-length
-same-length c = search needs
-
 returns : tie.Need-returns
 unfolding headerRecord optionalRecord
 returns c =
@@ -38,10 +23,5 @@ returns c =
 pub put-header-spec : {M : Type 1} → statement M
 put-header-spec =
     tie.close
-    (tie.spec
-    put-control-requires
-    put-addresses-requires
-    put-optional-requires
-    put-source-route-requires
-    same-length
-    returns)
+    (tie.spec (λ c κs. search needs) (λ c κs. search needs) (λ c κs. search needs) (λ c κs. search needs)
+    (λ c. search needs) returns)

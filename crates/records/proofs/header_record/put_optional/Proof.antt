@@ -7,18 +7,6 @@ use Rattle.records.proofs.header_record.put_optional.Tie as tie
 use Rattle.octets.proofs.Strings.{over-three}
 use Rattle.records.proofs.Sizes.{length-ieee}
 
-put-ieee-requires : tie.Need-put-ieee-requires
-put-ieee-requires c κs = search needs
-
-put-ieee-requires-2 : tie.Need-put-ieee-requires-2
-put-ieee-requires-2 c κs = search needs
-
-put-multicast-requires : tie.Need-put-multicast-requires
-put-multicast-requires c κs = search needs
-
-same-length : tie.Need-same-length
-same-length c = search needs
-
 returns : tie.Need-returns
 returns c =
     let a = c .before .before .before .before .before .before .before .before .before .before .before .before .before .args in
@@ -30,4 +18,4 @@ returns c =
 pub put-optional-spec : {M : Type 1} → statement M
 put-optional-spec =
     tie.close
-    (tie.spec put-ieee-requires put-ieee-requires-2 put-multicast-requires same-length returns)
+    (tie.spec (λ c κs. search needs) (λ c κs. search needs) (λ c κs. search needs) (λ c. search needs) returns)

@@ -8,15 +8,6 @@ use Rattle.octets.proofs.Strings.{over-then}
 use Rattle.records.proofs.Sizes.{length-route}
 use Rattle.records.specs.Optional.{routeRecord}
 
-put-route-requires : tie.Need-put-route-requires
-put-route-requires c κs = search needs
-
-put-relays-requires : tie.Need-put-relays-requires
-put-relays-requires c κs = search needs
-
-same-length : tie.Need-same-length
-same-length c = search needs
-
 returns : tie.Need-returns
 returns c =
     let a = c .before .before .before .before .before .before .before .before .before .args in
@@ -25,5 +16,4 @@ returns c =
     (c .before .before .put-relays .ensures)
 
 pub put-source-route-spec : {M : Type 1} → statement M
-put-source-route-spec =
-    tie.close (tie.spec put-route-requires put-relays-requires same-length returns)
+put-source-route-spec = tie.close (tie.spec (λ c κs. search needs) (λ c κs. search needs) (λ c. search needs) returns)

@@ -7,18 +7,6 @@ use Rattle.records.proofs.optional.ieee_at.Tie as tie
 use Rattle.header.specs.Optional.{ieeeIf}
 use Rattle.records.specs.Optional.{ieeeAt}
 
-byte-at-requires : tie.Need-byte-at-requires
-byte-at-requires c κs = search needs
-
-add-read-u64 : tie.Need-add-read-u64
-add-read-u64 c = search needs
-
-read-u64-requires : tie.Need-read-u64-requires
-read-u64-requires c κs = search needs
-
-when-requires : tie.Need-when-requires
-when-requires c κs = search needs
-
 returns : tie.Need-returns
 unfolding ieeeAt
 returns c =
@@ -26,4 +14,5 @@ returns c =
 
 pub ieee-at-spec : {M : Type 1} → statement M
 ieee-at-spec =
-    tie.close (tie.spec byte-at-requires add-read-u64 read-u64-requires when-requires returns)
+    tie.close
+    (tie.spec (λ c κs. search needs) (λ c. search needs) (λ c κs. search needs) (λ c κs. search needs) returns)

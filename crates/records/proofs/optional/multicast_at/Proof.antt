@@ -7,18 +7,6 @@ use Rattle.records.proofs.optional.multicast_at.Tie as tie
 use Rattle.header.specs.Optional.{multicastIf}
 use Rattle.records.specs.Optional.{multicastAt}
 
-byte-at-requires : tie.Need-byte-at-requires
-byte-at-requires c κs = search needs
-
-add-byte-at : tie.Need-add-byte-at
-add-byte-at c = search needs
-
-byte-at-requires-2 : tie.Need-byte-at-requires-2
-byte-at-requires-2 c κs = search needs
-
-when-requires : tie.Need-when-requires
-when-requires c κs = search needs
-
 returns : tie.Need-returns
 unfolding multicastAt
 returns c =
@@ -26,4 +14,5 @@ returns c =
 
 pub multicast-at-spec : {M : Type 1} → statement M
 multicast-at-spec =
-    tie.close (tie.spec byte-at-requires add-byte-at byte-at-requires-2 when-requires returns)
+    tie.close
+    (tie.spec (λ c κs. search needs) (λ c. search needs) (λ c κs. search needs) (λ c κs. search needs) returns)

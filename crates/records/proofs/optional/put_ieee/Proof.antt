@@ -11,24 +11,6 @@ use Rattle.octets.proofs.Strings.{over-then}
 use Rattle.octets.proofs.Numbers.{length-le}
 use Rattle.records.specs.Optional.{ieeeRecord}
 
-ieee-presence-requires : tie.Need-ieee-presence-requires
-ieee-presence-requires c κs = search needs
-
-put-u8-requires : tie.Need-put-u8-requires
-put-u8-requires c κs = search needs
-
-add-put-u64 : tie.Need-add-put-u64
-add-put-u64 c = search needs
-
-ieee-value-requires : tie.Need-ieee-value-requires
-ieee-value-requires c κs = search needs
-
-put-u64-requires : tie.Need-put-u64-requires
-put-u64-requires c κs = search needs
-
-same-length : tie.Need-same-length
-same-length c = search needs
-
 returns : tie.Need-returns
 unfolding ieeeRecord
 returns c =
@@ -40,11 +22,5 @@ returns c =
 pub put-ieee-spec : {M : Type 1} → statement M
 put-ieee-spec =
     tie.close
-    (tie.spec
-    ieee-presence-requires
-    put-u8-requires
-    add-put-u64
-    ieee-value-requires
-    put-u64-requires
-    same-length
-    returns)
+    (tie.spec (λ c κs. search needs) (λ c κs. search needs) (λ c. search needs) (λ c κs. search needs)
+    (λ c κs. search needs) (λ c. search needs) returns)

@@ -11,24 +11,6 @@ use Rattle.octets.proofs.Strings.{over-then}
 use Rattle.octets.proofs.Numbers.{length-le}
 use Rattle.records.specs.Optional.{multicastRecord}
 
-multicast-presence-requires : tie.Need-multicast-presence-requires
-multicast-presence-requires c κs = search needs
-
-put-u8-requires : tie.Need-put-u8-requires
-put-u8-requires c κs = search needs
-
-add-put-u8 : tie.Need-add-put-u8
-add-put-u8 c = search needs
-
-multicast-value-requires : tie.Need-multicast-value-requires
-multicast-value-requires c κs = search needs
-
-put-u8-requires-2 : tie.Need-put-u8-requires-2
-put-u8-requires-2 c κs = search needs
-
-same-length : tie.Need-same-length
-same-length c = search needs
-
 returns : tie.Need-returns
 unfolding multicastRecord
 returns c =
@@ -40,11 +22,5 @@ returns c =
 pub put-multicast-spec : {M : Type 1} → statement M
 put-multicast-spec =
     tie.close
-    (tie.spec
-    multicast-presence-requires
-    put-u8-requires
-    add-put-u8
-    multicast-value-requires
-    put-u8-requires-2
-    same-length
-    returns)
+    (tie.spec (λ c κs. search needs) (λ c κs. search needs) (λ c. search needs) (λ c κs. search needs)
+    (λ c κs. search needs) (λ c. search needs) returns)

@@ -13,33 +13,6 @@ use Rattle.octets.proofs.Numbers.{length-le}
 use Rattle.header.specs.Optional.{bit, hasRoute, relayCount}
 use Rattle.records.specs.Optional.{relayIndex, routeRecord}
 
-route-presence-requires : tie.Need-route-presence-requires
-route-presence-requires c κs = search needs
-
-put-u8-requires : tie.Need-put-u8-requires
-put-u8-requires c κs = search needs
-
-add-put-u8 : tie.Need-add-put-u8
-add-put-u8 c = search needs
-
-count-requires : tie.Need-count-requires
-count-requires c κs = search needs
-
-put-u8-requires-2 : tie.Need-put-u8-requires-2
-put-u8-requires-2 c κs = search needs
-
-add-put-u8-2 : tie.Need-add-put-u8-2
-add-put-u8-2 c = search needs
-
-relay-index-requires : tie.Need-relay-index-requires
-relay-index-requires c κs = search needs
-
-put-u8-requires-3 : tie.Need-put-u8-requires-3
-put-u8-requires-3 c κs = search needs
-
-same-length : tie.Need-same-length
-same-length c = search needs
-
 returns : tie.Need-returns
 unfolding routeRecord
 returns c =
@@ -53,14 +26,6 @@ returns c =
 pub put-route-spec : {M : Type 1} → statement M
 put-route-spec =
     tie.close
-    (tie.spec
-    route-presence-requires
-    put-u8-requires
-    add-put-u8
-    count-requires
-    put-u8-requires-2
-    add-put-u8-2
-    relay-index-requires
-    put-u8-requires-3
-    same-length
+    (tie.spec (λ c κs. search needs) (λ c κs. search needs) (λ c. search needs) (λ c κs. search needs)
+    (λ c κs. search needs) (λ c. search needs) (λ c κs. search needs) (λ c κs. search needs) (λ c. search needs)
     returns)

@@ -7,24 +7,6 @@ use Rattle.records.proofs.optional.route_at.Tie as tie
 use Rattle.header.specs.Optional.{routeIf}
 use Rattle.records.specs.Optional.{routeAt}
 
-byte-at-requires : tie.Need-byte-at-requires
-byte-at-requires c κs = search needs
-
-add-byte-at : tie.Need-add-byte-at
-add-byte-at c = search needs
-
-byte-at-requires-2 : tie.Need-byte-at-requires-2
-byte-at-requires-2 c κs = search needs
-
-add-byte-at-2 : tie.Need-add-byte-at-2
-add-byte-at-2 c = search needs
-
-byte-at-requires-3 : tie.Need-byte-at-requires-3
-byte-at-requires-3 c κs = search needs
-
-when-requires : tie.Need-when-requires
-when-requires c κs = search needs
-
 returns : tie.Need-returns
 unfolding routeAt
 returns c =
@@ -33,11 +15,5 @@ returns c =
 pub route-at-spec : {M : Type 1} → statement M
 route-at-spec =
     tie.close
-    (tie.spec
-    byte-at-requires
-    add-byte-at
-    byte-at-requires-2
-    add-byte-at-2
-    byte-at-requires-3
-    when-requires
-    returns)
+    (tie.spec (λ c κs. search needs) (λ c. search needs) (λ c κs. search needs) (λ c. search needs)
+    (λ c κs. search needs) (λ c κs. search needs) returns)

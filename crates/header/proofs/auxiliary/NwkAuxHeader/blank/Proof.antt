@@ -8,12 +8,9 @@ use Rattle.octets.specs.Fields.{fields}
 use Rattle.header.specs.AuxiliaryControl.{securityOf}
 use Rattle.header.specs.Auxiliary.{blankAux, auxBy, keySequenceAt}
 
-from-byte-requires : tie.Need-from-byte-requires
-from-byte-requires c κs = search needs
-
 returns : tie.Need-returns
 unfolding blankAux auxBy keySequenceAt securityOf fields leAt
 returns c = rw (c .from-byte .ensures) refl
 
 pub blank-spec : {M : Type 1} → statement M
-blank-spec = tie.close (tie.spec from-byte-requires returns)
+blank-spec = tie.close (tie.spec (λ c κs. search needs) returns)

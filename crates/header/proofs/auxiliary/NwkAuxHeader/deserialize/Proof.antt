@@ -8,33 +8,12 @@ use Rattle.header.specs.AuxiliaryControl.{securityOf}
 use Rattle.header.specs.Auxiliary.{keySequenceAt, auxBy, auxAnswer, readAux}
 use Rattle.header.proofs.Answers.{aux-refused}
 
-aux-refusal-requires : tie.Need-aux-refusal-requires
-aux-refusal-requires c κs = search needs
-
-blank-requires : tie.Need-blank-requires
-blank-requires c κs = search needs
-
 returns : tie.Need-returns
 unfolding readAux
 returns c =
     let f = c .before .before .before .before .args .bytes .now in
     (λ i. record { refusal = c .before .before .aux-refusal .result; length = 0; aux = c .blank .ensures i })
     ∙ aux-refused f (c .before .before .aux-refusal .result) (c .before .if1 .taken) ∙ ap (auxAnswer f) (c .before .before .aux-refusal .ensures)
-
-byte-at-requires : tie.Need-byte-at-requires
-byte-at-requires c κs = search needs
-
-from-byte-requires : tie.Need-from-byte-requires
-from-byte-requires c κs = search needs
-
-key-sequence-at-requires : tie.Need-key-sequence-at-requires
-key-sequence-at-requires c κs = search needs
-
-add-t8 : tie.Need-add-t8
-add-t8 c = search needs
-
-fields-requires : tie.Need-fields-requires
-fields-requires c κs = search needs
 
 returns-2 : tie.Need-returns-2
 unfolding readAux auxAnswer
@@ -47,13 +26,5 @@ returns-2 c =
 pub deserialize-spec : {M : Type 1} → statement M
 deserialize-spec =
     tie.close
-    (tie.spec
-    aux-refusal-requires
-    blank-requires
-    returns
-    byte-at-requires
-    from-byte-requires
-    key-sequence-at-requires
-    add-t8
-    fields-requires
-    returns-2)
+    (tie.spec (λ c κs. search needs) (λ c κs. search needs) returns (λ c κs. search needs) (λ c κs. search needs)
+    (λ c κs. search needs) (λ c. search needs) (λ c κs. search needs) returns-2)

@@ -8,21 +8,6 @@ use Rattle.header.proofs.auxiliary.NwkAuxHeader.fields.Tie as tie
 use Rattle.header.specs.Optional.{ieeeIf}
 use Rattle.header.specs.Auxiliary.{auxBy}
 
-read-u32-requires : tie.Need-read-u32-requires
-read-u32-requires c κs = search needs
-
-read-u64-requires : tie.Need-read-u64-requires
-read-u64-requires c κs = search needs
-
-when-requires : tie.Need-when-requires
-when-requires c κs = search needs
-
-key-sequence-at-requires : tie.Need-key-sequence-at-requires
-key-sequence-at-requires c κs = search needs
-
-byte-at-requires : tie.Need-byte-at-requires
-byte-at-requires c κs = search needs
-
 returns : tie.Need-returns
 unfolding auxBy
 returns c =
@@ -37,10 +22,5 @@ returns c =
 pub fields-spec : {M : Type 1} → statement M
 fields-spec =
     tie.close
-    (tie.spec
-    read-u32-requires
-    read-u64-requires
-    when-requires
-    key-sequence-at-requires
-    byte-at-requires
-    returns)
+    (tie.spec (λ c κs. search needs) (λ c κs. search needs) (λ c κs. search needs) (λ c κs. search needs)
+    (λ c κs. search needs) returns)

@@ -17,22 +17,13 @@ use Rattle.header.specs.Auxiliary.{auxBytes}
 use Rattle.header.proofs.Pieces.{ieee-length}
 use Rattle.header.proofs.AuxiliaryLaws.{aux-length}
 
-to-byte-requires : tie.Need-to-byte-requires
-to-byte-requires c κs = search needs
-
 put-u8-requires : tie.Need-put-u8-requires
 put-u8-requires c κs =
     omega (arith, aux-length (c .before .before .before .before .args .self), c .before .before .before .before .pre, ieee-length (c .before .before .before .before .args .self .«extended_source»))
 
-add-put-u32 : tie.Need-add-put-u32
-add-put-u32 c = search needs
-
 put-u32-requires : tie.Need-put-u32-requires
 put-u32-requires c κs =
     omega (arith, aux-length (c .before .before .before .before .before .before .before .before .args .self), c .before .before .before .before .before .before .before .before .pre, ieee-length (c .before .before .before .before .before .before .before .before .args .self .«extended_source»), c .before .before .before .put-u8 .kept)
-
-add-put : tie.Need-add-put
-add-put c = search needs
 
 put-requires : tie.Need-put-requires
 put-requires c κs =
@@ -41,9 +32,6 @@ put-requires c κs =
 put-u8-requires-2 : tie.Need-put-u8-requires-2
 put-u8-requires-2 c κs =
     omega (arith, aux-length (c .before .before .before .before .before .before .before .before .before .before .before .before .before .before .before .before .args .self), c .before .before .before .before .before .before .before .before .before .before .before .before .before .before .before .before .pre, ieee-length (c .before .before .before .before .before .before .before .before .before .before .before .before .before .before .before .before .args .self .«extended_source»), c .before .before .before .before .before .before .before .before .before .before .before .put-u8 .kept, c .before .before .before .before .before .before .before .put-u32 .kept, c .before .before .before .put .kept .1 .0, c .before .before .before .put .ensures .0)
-
-same-length : tie.Need-same-length
-same-length c = search needs
 
 returns : tie.Need-returns
 unfolding auxBytes
@@ -66,13 +54,5 @@ returns c =
 pub put-spec : {M : Type 1} → statement M
 put-spec =
     tie.close
-    (tie.spec
-    to-byte-requires
-    put-u8-requires
-    add-put-u32
-    put-u32-requires
-    add-put
-    put-requires
-    put-u8-requires-2
-    same-length
-    returns)
+    (tie.spec (λ c κs. search needs) put-u8-requires (λ c. search needs) put-u32-requires (λ c. search needs)
+    put-requires put-u8-requires-2 (λ c. search needs) returns)

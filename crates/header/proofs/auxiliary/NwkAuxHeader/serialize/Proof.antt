@@ -11,21 +11,12 @@ use Rattle.octets.proofs.Refusals.{stop, skip, empty}
 use Rattle.header.specs.Auxiliary.{auxBytes, auxWriteRefusal, writeAux}
 use Rattle.header.specs.Writing.{written}
 
-size-requires : tie.Need-size-requires
-size-requires c κs = search needs
-
 returns : tie.Need-returns
 unfolding writeAux auxWriteRefusal written
 returns c =
     let a = c .before .before .before .args in
     let e = stop 17 _ _ (lt-ltb (length (a .out .now)) (length (auxBytes (a .self))) (omega arith)) in
     (sym (ap (λ (n : ℕ). written n (auxBytes (a .self)) (a .out .now) .answer) e), sym (ap (λ (n : ℕ). written n (auxBytes (a .self)) (a .out .now) .out) e))
-
-put-requires : tie.Need-put-requires
-put-requires c κs = search needs
-
-same-length : tie.Need-same-length
-same-length c = search needs
 
 returns-2 : tie.Need-returns-2
 unfolding writeAux auxWriteRefusal written
@@ -37,4 +28,5 @@ returns-2 c =
     )
 
 pub serialize-spec : {M : Type 1} → statement M
-serialize-spec = tie.close (tie.spec size-requires returns put-requires same-length returns-2)
+serialize-spec =
+    tie.close (tie.spec (λ c κs. search needs) returns (λ c κs. search needs) (λ c. search needs) returns-2)

@@ -7,15 +7,9 @@ use Rattle.header.proofs.auxiliary.NwkAuxHeader.size.Tie as tie
 use Rattle.octets.proofs.Numbers.{length-le}
 use Rattle.header.specs.Auxiliary.{auxBytes}
 
-size-requires : tie.Need-size-requires
-size-requires c κs = search needs
-
-add-result : tie.Need-add-result
-add-result c = search needs
-
 returns : tie.Need-returns
 unfolding auxBytes
 returns c = (simp (length-append, length-le) (omega arith), omega arith)
 
 pub size-spec : {M : Type 1} → statement M
-size-spec = tie.close (tie.spec size-requires add-result returns)
+size-spec = tie.close (tie.spec (λ c κs. search needs) (λ c. search needs) returns)

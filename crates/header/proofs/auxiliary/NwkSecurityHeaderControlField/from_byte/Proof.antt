@@ -5,15 +5,9 @@ use Rattle.header.proofs.auxiliary.NwkSecurityHeaderControlField.from_b
 use Rattle.octets.specs.Fields.{fields}
 use Rattle.header.specs.AuxiliaryControl.{securityOf}
 
-from-code-requires : tie.Need-from-code-requires
-from-code-requires c κs = search needs
-
-from-code-requires-2 : tie.Need-from-code-requires-2
-from-code-requires-2 c κs = search needs
-
 returns : tie.Need-returns
 unfolding securityOf fields
 returns c = rw (c .before .from-code .ensures, c .from-code2 .ensures)
 
 pub from-byte-spec : {M : Type 1} → statement M
-from-byte-spec = tie.close (tie.spec from-code-requires from-code-requires-2 returns)
+from-byte-spec = tie.close (tie.spec (λ c κs. search needs) (λ c κs. search needs) returns)

@@ -4,17 +4,8 @@ use Rattle.header.proofs.auxiliary.NwkSecurityHeaderKeyId.from_code.Sta
 use Rattle.header.proofs.auxiliary.NwkSecurityHeaderKeyId.from_code.Tie as tie
 use Rattle.header.proofs.Codes.{keyId-rest}
 
-returns : tie.Need-returns
-returns c = search needs
-
-returns-2 : tie.Need-returns-2
-returns-2 c = search needs
-
-returns-3 : tie.Need-returns-3
-returns-3 c = search needs
-
 returns-4 : tie.Need-returns-4
 returns-4 c = keyId-rest (c .before .args .code) (c .match .rest)
 
 pub from-code-spec : {M : Type 1} → statement M
-from-code-spec = tie.close (tie.spec returns returns-2 returns-3 returns-4)
+from-code-spec = tie.close (tie.spec (λ c. search needs) (λ c. search needs) (λ c. search needs) returns-4)

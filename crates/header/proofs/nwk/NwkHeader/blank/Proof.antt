@@ -9,12 +9,9 @@ use Rattle.octets.specs.Fields.{fields}
 use Rattle.header.specs.Control.{controlOf}
 use Rattle.header.specs.Reading.{blankHeader, headerBy, relaysOf, relaysAt, routeAt, multicastAt, sourceAt}
 
-from-word-requires : tie.Need-from-word-requires
-from-word-requires c κs = search needs
-
 returns : tie.Need-returns
 unfolding blankHeader headerBy relaysOf relaysAt routeAt multicastAt sourceAt controlOf fields tab leAt
 returns c = rw (c .from-word .ensures) refl
 
 pub blank-spec : {M : Type 1} → statement M
-blank-spec = tie.close (tie.spec from-word-requires returns)
+blank-spec = tie.close (tie.spec (λ c κs. search needs) returns)

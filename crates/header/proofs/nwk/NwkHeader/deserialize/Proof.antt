@@ -7,30 +7,12 @@ use Rattle.header.specs.Control.{controlOf}
 use Rattle.header.specs.Reading.{headerEnd, headerBy, headerAnswer, readHeader}
 use Rattle.header.proofs.Answers.{header-refused}
 
-header-refusal-requires : tie.Need-header-refusal-requires
-header-refusal-requires c κs = search needs
-
-blank-requires : tie.Need-blank-requires
-blank-requires c κs = search needs
-
 returns : tie.Need-returns
 unfolding readHeader
 returns c =
     let f = c .before .before .before .before .args .bytes .now in
     (λ i. record { refusal = c .before .before .header-refusal .result; length = 0; header = c .blank .ensures i })
     ∙ header-refused f (c .before .before .header-refusal .result) (c .before .if1 .taken) ∙ ap (headerAnswer f) (c .before .before .header-refusal .ensures)
-
-read-u16-requires : tie.Need-read-u16-requires
-read-u16-requires c κs = search needs
-
-from-word-requires : tie.Need-from-word-requires
-from-word-requires c κs = search needs
-
-header-end-requires : tie.Need-header-end-requires
-header-end-requires c κs = search needs
-
-fields-requires : tie.Need-fields-requires
-fields-requires c κs = search needs
 
 returns-2 : tie.Need-returns-2
 unfolding readHeader headerAnswer
@@ -43,12 +25,5 @@ returns-2 c =
 pub deserialize-spec : {M : Type 1} → statement M
 deserialize-spec =
     tie.close
-    (tie.spec
-    header-refusal-requires
-    blank-requires
-    returns
-    read-u16-requires
-    from-word-requires
-    header-end-requires
-    fields-requires
-    returns-2)
+    (tie.spec (λ c κs. search needs) (λ c κs. search needs) returns (λ c κs. search needs) (λ c κs. search needs)
+    (λ c κs. search needs) (λ c κs. search needs) returns-2)

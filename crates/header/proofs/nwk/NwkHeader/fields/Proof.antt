@@ -9,60 +9,6 @@ use Rattle.octets.specs.Numbers.{leAt}
 use Rattle.header.specs.Optional.{ieeeIf, multicastIf, routeIf}
 use Rattle.header.specs.Reading.{headerBy}
 
-route-at-requires : tie.Need-route-at-requires
-route-at-requires c κs = search needs
-
-read-u16-requires : tie.Need-read-u16-requires
-read-u16-requires c κs = search needs
-
-read-u16-requires-2 : tie.Need-read-u16-requires-2
-read-u16-requires-2 c κs = search needs
-
-byte-at-requires : tie.Need-byte-at-requires
-byte-at-requires c κs = search needs
-
-byte-at-requires-2 : tie.Need-byte-at-requires-2
-byte-at-requires-2 c κs = search needs
-
-read-u64-requires : tie.Need-read-u64-requires
-read-u64-requires c κs = search needs
-
-when-requires : tie.Need-when-requires
-when-requires c κs = search needs
-
-source-at-requires : tie.Need-source-at-requires
-source-at-requires c κs = search needs
-
-read-u64-requires-2 : tie.Need-read-u64-requires-2
-read-u64-requires-2 c κs = search needs
-
-when-requires-2 : tie.Need-when-requires-2
-when-requires-2 c κs = search needs
-
-multicast-at-requires : tie.Need-multicast-at-requires
-multicast-at-requires c κs = search needs
-
-byte-at-requires-3 : tie.Need-byte-at-requires-3
-byte-at-requires-3 c κs = search needs
-
-when-requires-3 : tie.Need-when-requires-3
-when-requires-3 c κs = search needs
-
-byte-at-requires-4 : tie.Need-byte-at-requires-4
-byte-at-requires-4 c κs = search needs
-
-add-byte-at : tie.Need-add-byte-at
-add-byte-at c = search needs
-
-byte-at-requires-5 : tie.Need-byte-at-requires-5
-byte-at-requires-5 c κs = search needs
-
-when-requires-4 : tie.Need-when-requires-4
-when-requires-4 c κs = search needs
-
-relays-of-requires : tie.Need-relays-of-requires
-relays-of-requires c κs = search needs
-
 returns : tie.Need-returns
 unfolding headerBy
 returns c =
@@ -84,23 +30,7 @@ returns c =
 pub fields-spec : {M : Type 1} → statement M
 fields-spec =
     tie.close
-    (tie.spec
-    route-at-requires
-    read-u16-requires
-    read-u16-requires-2
-    byte-at-requires
-    byte-at-requires-2
-    read-u64-requires
-    when-requires
-    source-at-requires
-    read-u64-requires-2
-    when-requires-2
-    multicast-at-requires
-    byte-at-requires-3
-    when-requires-3
-    byte-at-requires-4
-    add-byte-at
-    byte-at-requires-5
-    when-requires-4
-    relays-of-requires
-    returns)
+    (tie.spec (λ c κs. search needs) (λ c κs. search needs) (λ c κs. search needs) (λ c κs. search needs)
+    (λ c κs. search needs) (λ c κs. search needs) (λ c κs. search needs) (λ c κs. search needs) (λ c κs. search needs)
+    (λ c κs. search needs) (λ c κs. search needs) (λ c κs. search needs) (λ c κs. search needs) (λ c κs. search needs)
+    (λ c. search needs) (λ c κs. search needs) (λ c κs. search needs) (λ c κs. search needs) returns)

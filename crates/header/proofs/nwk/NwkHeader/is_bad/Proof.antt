@@ -15,13 +15,10 @@ returns-2 : tie.Need-returns-2
 unfolding badHeader badControl
 returns-2 c = rw (le-ltb 15 _ (c .before .before .if1 .left), lt-ltb 3 _ (c .if2 .taken))
 
-count-requires : tie.Need-count-requires
-count-requires c κs = search needs
-
 returns-3 : tie.Need-returns-3
 unfolding badHeader badControl
 returns-3 c =
     rw (le-ltb 15 _ (c .before .before .before .if1 .left), le-ltb 3 _ (c .before .if2 .left)) (ap (ltb 54) (c .count .ensures))
 
 pub is-bad-spec : {M : Type 1} → statement M
-is-bad-spec = tie.close (tie.spec returns returns-2 count-requires returns-3)
+is-bad-spec = tie.close (tie.spec returns returns-2 (λ c κs. search needs) returns-3)

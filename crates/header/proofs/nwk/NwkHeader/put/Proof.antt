@@ -31,9 +31,6 @@ put-optional-requires c κs =
     let p = simp (length-append, fixed-length) at (c .before .before .before .before .before .before .before .before .before .pre .1) in
     (simp length-append (omega (arith, p, c .before .before .before .put-fixed .kept)), header-good (c .before .before .before .before .before .before .before .before .before .args .self) (c .before .before .before .before .before .before .before .before .before .pre .0) .relays)
 
-same-length : tie.Need-same-length
-same-length c = search needs
-
 returns : tie.Need-returns
 unfolding headerBytes fixedBytes optionalBytes
 returns c =
@@ -43,5 +40,4 @@ returns c =
     (c .before .before .put-optional .ensures)
 
 pub put-spec : {M : Type 1} → statement M
-put-spec =
-    tie.close (tie.spec word-requires put-fixed-requires put-optional-requires same-length returns)
+put-spec = tie.close (tie.spec word-requires put-fixed-requires put-optional-requires (λ c. search needs) returns)

@@ -8,9 +8,6 @@ use Rattle.header.proofs.nwk.NwkHeader.serialize.Tie as tie
 use Rattle.header.specs.Writing.{headerBytes, writeHeader, written}
 use Rattle.header.proofs.Answers.{write-refused, header-writable}
 
-write-refusal-requires : tie.Need-write-refusal-requires
-write-refusal-requires c κs = search needs
-
 returns : tie.Need-returns
 unfolding writeHeader
 returns c =
@@ -26,12 +23,6 @@ put-requires c κs =
     let w = header-writable (a .self) (length (a .out .now)) (sym (c .before .before .write-refusal .ensures) ∙ c .before .if1 .left) in
     (w .good, w .fits)
 
-size-requires : tie.Need-size-requires
-size-requires c κs = search needs
-
-same-length : tie.Need-same-length
-same-length c = search needs
-
 returns-2 : tie.Need-returns-2
 unfolding writeHeader written
 returns-2 c =
@@ -44,4 +35,4 @@ returns-2 c =
 pub serialize-spec : {M : Type 1} → statement M
 serialize-spec =
     tie.close
-    (tie.spec write-refusal-requires returns put-requires size-requires same-length returns-2)
+    (tie.spec (λ c κs. search needs) returns put-requires (λ c κs. search needs) (λ c. search needs) returns-2)

@@ -9,15 +9,9 @@ use Rattle.header.proofs.nwk.NwkHeader.write_refusal.Tie as tie
 use Rattle.octets.proofs.Refusals.{stop, skip, empty}
 use Rattle.header.specs.Writing.{headerBytes, headerWriteRefusal}
 
-is-bad-requires : tie.Need-is-bad-requires
-is-bad-requires c κs = search needs
-
 returns : tie.Need-returns
 unfolding headerWriteRefusal
 returns c = sym (stop 12 _ _ (sym (c .before .is-bad .ensures) ∙ c .if1 .taken))
-
-size-requires : tie.Need-size-requires
-size-requires c κs = search needs
 
 returns-2 : tie.Need-returns-2
 unfolding headerWriteRefusal
@@ -44,4 +38,4 @@ returns-4 c =
 
 pub write-refusal-spec : {M : Type 1} → statement M
 write-refusal-spec =
-    tie.close (tie.spec is-bad-requires returns size-requires returns-2 returns-3 returns-4)
+    tie.close (tie.spec (λ c κs. search needs) returns (λ c κs. search needs) returns-2 returns-3 returns-4)

@@ -10,12 +10,6 @@ use Rattle.octets.proofs.Strings.{over-nil}
 use Rattle.header.specs.declared.optional.NwkSourceRoute.{NwkSourceRoute}
 use Rattle.header.specs.Optional.{routeBytes, relayCount}
 
-enum-told : tie.Need-enum-told
-enum-told c = search needs
-
-enum-known-self : tie.Need-enum-known-self
-enum-known-self c = search needs
-
 put-route-requires : tie.Need-put-route-requires
 put-route-requires c κs =
     let a = c .before .before .before .before .before .args in
@@ -29,9 +23,6 @@ returns c =
     let a = c .before .before .before .args in
     sym (ap (λ (o : NwkSourceRoute). over (a .out .now) (a .i) (routeBytes o (a .relays))) (c .enum-told .given .1) ∙ over-nil (a .out .now) (a .i))
 
-same-length : tie.Need-same-length
-same-length c = search needs
-
 returns-2 : tie.Need-returns-2
 returns-2 c =
     let a = c .before .before .before .before .before .before .before .before .args in
@@ -39,4 +30,5 @@ returns-2 c =
 
 pub put-spec : {M : Type 1} → statement M
 put-spec =
-    tie.close (tie.spec enum-told enum-known-self put-route-requires returns same-length returns-2)
+    tie.close
+    (tie.spec (λ c. search needs) (λ c. search needs) put-route-requires returns (λ c. search needs) returns-2)

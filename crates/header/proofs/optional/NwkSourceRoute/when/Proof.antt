@@ -10,8 +10,5 @@ returns : tie.Need-returns
 returns c =
     sym (ap (λ (b : Bool). routeIf b (c .before .args .n) (c .before .args .i)) (c .if1 .taken))
 
-returns-2 : tie.Need-returns-2
-returns-2 c = search needs
-
 pub when-spec : {M : Type 1} → statement M
-when-spec = tie.close (tie.spec returns returns-2)
+when-spec = tie.close (tie.spec returns (λ c. search needs))

@@ -15,28 +15,16 @@ use Rattle.octets.specs.Strings.{over}
 use Rattle.octets.proofs.Strings.{over-nil}
 use Rattle.octets.proofs.Numbers.{length-le}
 
-enum-told : tie.Need-enum-told
-enum-told c = search needs
-
-enum-known-self : tie.Need-enum-known-self
-enum-known-self c = search needs
-
 put-u64-requires : tie.Need-put-u64-requires
 put-u64-requires c κs =
     let e : length (ieeeBytes (c .before .before .before .before .before .args .self)) ≡ 8 = ap (λ (o : OptionEui64). length (ieeeBytes o)) (c .before .before .self .given .1) ∙ length-le 8 _ in
     omega (arith, c .before .before .before .before .before .pre)
-
-add-result : tie.Need-add-result
-add-result c = search needs
 
 returns : tie.Need-returns
 returns c =
     let a = c .before .before .before .args in
     let e : ieeeBytes (a .self) ≡ ieeeBytes OptionEui64.Absent = ap ieeeBytes (c .enum-told .given .1) in
     (sym (ap (λ (l : List ℕ). a .i + length l) e ∙ add-zero (a .i)), sym (ap (over (a .out .now) (a .i)) e ∙ over-nil (a .out .now) (a .i)))
-
-same-length : tie.Need-same-length
-same-length c = search needs
 
 returns-2 : tie.Need-returns-2
 returns-2 c =
@@ -49,4 +37,5 @@ returns-2 c =
 pub put-spec : {M : Type 1} → statement M
 put-spec =
     tie.close
-    (tie.spec enum-told enum-known-self put-u64-requires add-result returns same-length returns-2)
+    (tie.spec (λ c. search needs) (λ c. search needs) put-u64-requires (λ c. search needs) returns (λ c. search needs)
+    returns-2)

@@ -15,28 +15,16 @@ use Rattle.octets.specs.Strings.{over}
 use Rattle.octets.proofs.Strings.{over-nil}
 use Rattle.octets.proofs.Numbers.{length-le}
 
-enum-told : tie.Need-enum-told
-enum-told c = search needs
-
-enum-known-self : tie.Need-enum-known-self
-enum-known-self c = search needs
-
 put-u8-requires : tie.Need-put-u8-requires
 put-u8-requires c κs =
     let e : length (multicastBytes (c .before .before .before .before .before .args .self)) ≡ 1 = ap (λ (o : OptionMulticast). length (multicastBytes o)) (c .before .before .self .given .1) ∙ length-le 1 _ in
     omega (arith, c .before .before .before .before .before .pre)
-
-add-result : tie.Need-add-result
-add-result c = search needs
 
 returns : tie.Need-returns
 returns c =
     let a = c .before .before .before .args in
     let e : multicastBytes (a .self) ≡ multicastBytes OptionMulticast.Absent = ap multicastBytes (c .enum-told .given .1) in
     (sym (ap (λ (l : List ℕ). a .i + length l) e ∙ add-zero (a .i)), sym (ap (over (a .out .now) (a .i)) e ∙ over-nil (a .out .now) (a .i)))
-
-same-length : tie.Need-same-length
-same-length c = search needs
 
 returns-2 : tie.Need-returns-2
 returns-2 c =
@@ -49,4 +37,5 @@ returns-2 c =
 pub put-spec : {M : Type 1} → statement M
 put-spec =
     tie.close
-    (tie.spec enum-told enum-known-self put-u8-requires add-result returns same-length returns-2)
+    (tie.spec (λ c. search needs) (λ c. search needs) put-u8-requires (λ c. search needs) returns (λ c. search needs)
+    returns-2)
