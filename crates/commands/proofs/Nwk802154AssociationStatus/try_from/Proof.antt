@@ -1,4 +1,5 @@
 -- `commands::Nwk802154AssociationStatus::try_from` meets its contract: 0 to 3, 0x80 and 0xF0 are declared. Assumes nothing.
+use mathlib.Core.Path.{sym, ap}
 use borrow.Author.Needs.{needs}
 use borrow.Author.Tests.{eq-eqb, ne-eqb, lt-ltb, le-ltb}
 use Rattle.commands.proofs.Nwk802154AssociationStatus.try_from.Statement.{statement}
@@ -11,7 +12,7 @@ returns c = rw (lt-ltb _ _ (c .before .if1 .taken))
 
 returns-2 : tie.Need-returns-2
 unfolding associationStatusOf
-returns-2 c = rw (le-ltb _ _ (c .before .if1 .left), eq-eqb _ _ (c .if2 .taken))
+returns-2 c = sym (ap associationStatusOf (c .if2 .taken))
 
 returns-3 : tie.Need-returns-3
 unfolding associationStatusOf
