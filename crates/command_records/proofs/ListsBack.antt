@@ -2,7 +2,7 @@
 -- length, and one law reads a counted list back from the laws of a single entry.
 -- Assumes nothing.
 use mathlib.Core.Path.{_≡_, refl, sym, ap, subst, _∙_}
-use mathlib.Core.List.{List, _∷_, _++_, append-assoc}
+use mathlib.Core.List.{List, _++_, append-assoc}
 use Prim.Native.Nat.{ℕ, _+_, _*_, _%_, _<_}
 use native.Mathlib.Nat.{add-assoc, mod-eq-of-lt}
 use native.Mathlib.Omega.{arith}
@@ -14,8 +14,6 @@ use Rattle.octets.proofs.Strings.{tab-ext, tab-getD}
 use Rattle.octets.proofs.Numbers.{length-le, leAt-le, leAt-behind}
 use Rattle.commands.specs.Commands.{noLink, noPower}
 use Rattle.commands.specs.declared.NwkCommandFrame.{NwkCommandFrame}
-use Rattle.commands.specs.declared.NwkLinkStatus.{NwkLinkStatus}
-use Rattle.commands.specs.declared.NwkPowerListEntry.{NwkPowerListEntry}
 use Rattle.command_records.specs.Fields.{fieldsRecord}
 use Rattle.command_records.specs.Lists.{entries, numberEntry, linkRecord, linkEntry, powerRecord, powerEntry, linkAt, powerAt, frameAt}
 use Rattle.command_records.specs.CommandRecord.{routingRecord, networkRecord, commandRecord}

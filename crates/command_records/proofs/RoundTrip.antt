@@ -1,5 +1,5 @@
--- The record of a command says that command again: its identifier and fields the command, and its lists the command's
--- lists. Every field stands at its own place, so each is read back by the law of its kind.
+-- The record of a command says that command again, with its lists, so no two commands have the same record. Every field
+-- stands at its own place and is read back by the law of its kind; for the lists that is ListsBack.
 -- Assumes nothing.
 use mathlib.Core.Path.{_≡_, refl, sym, ap, _∙_}
 use mathlib.Core.Bool.{cond}
@@ -22,7 +22,10 @@ use Rattle.commands.specs.declared.NwkCommandId.{NwkCommandId}
 use Rattle.commands.specs.declared.NwkCommandFrame.{NwkCommandFrame}
 use Rattle.commands.specs.declared.TypedBody.{TypedBody}
 use Rattle.command_records.specs.Fields.{addressRecord, fieldBytes, fieldsRecord, recordValues, recordedBy, recorded}
+use Rattle.command_records.specs.Lists.{frameAt}
 use Rattle.command_records.specs.CommandRecord.{routingRecord, networkRecord, commandRecord}
+use Rattle.command_records.proofs.Fits.{FrameFits}
+use Rattle.command_records.proofs.ListsBack.{frame-back}
 
 -- ---- the optional addresses
 
@@ -86,7 +89,19 @@ fields-back (NwkCommand.NetworkCommissioningResponse c) f rest h =
     ∙ back (NwkCommand.NetworkCommissioningResponse c) f .command
 fields-back NwkCommand.Unparsed f rest h = refl
 
+-- ---- the record
+
 -- the record of a command says the command
 pub command-back : (f : NwkCommandFrame) → Ranged (f .command) → recorded (commandRecord f) ≡ TypedBody.Typed (f .command)
 unfolding commandRecord
 command-back f h = fields-back (f .command) f (routingRecord f ++ (networkRecord f ++ (le 1 (f .«unparsed_len») ++ f .unparsed))) h
+
+-- and with the command its lists
+pub record-back : (f : NwkCommandFrame) → FrameFits f → (recorded (commandRecord f) ≡ TypedBody.Typed (f .command)) × (frameAt (f .command) (commandRecord f) ≡ f)
+record-back f w = (command-back f (w .command), frame-back f w)
+
+pub record-injective : (f g : NwkCommandFrame) → FrameFits f → FrameFits g → commandRecord f ≡ commandRecord g → f ≡ g
+record-injective f g v w e =
+    let said : TypedBody.Typed (f .command) ≡ TypedBody.Typed (g .command) = sym (command-back f (v .command)) ∙ ap recorded e ∙ command-back g (w .command) in
+    let same : f .command ≡ g .command = cc in
+    sym (frame-back f v) ∙ (λ i. frameAt (same i) (e i)) ∙ frame-back g w

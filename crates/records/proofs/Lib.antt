@@ -3,4 +3,5 @@ pub mod Tests
 pub mod Writes
 pub mod Sizes
 pub mod Refused
+pub mod Within
 pub mod RoundTrip
