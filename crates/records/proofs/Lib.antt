@@ -4,4 +4,5 @@ pub mod Writes
 pub mod Sizes
 pub mod Refused
 pub mod Within
+pub mod Accepted
 pub mod RoundTrip

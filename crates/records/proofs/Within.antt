@@ -2,19 +2,25 @@
 -- Assumes nothing.
 use mathlib.Core.Path.{_≡_, refl}
 use mathlib.Core.Bool.{Bool, false}
-use mathlib.Core.List.{List, [], _∷_}
+use mathlib.Core.List.{List, [], _∷_, _++_}
 use Prim.Native.Nat.{ℕ, zero, suc, _≤_, _<_}
 use native.Mathlib.Numerals.{one-add}
 use native.Mathlib.Omega.{arith}
 use borrow.Author.Tests.{le-ltb}
 use lib.ListN.{length, getD, drop}
-use lib.Seq.{getD-drop}
+use lib.Seq.{getD-drop, drop-drop}
 use Rattle.records.specs.Limits.{anyBelow, exceeds}
 
 -- each byte of r from the first on keeps to its limit
 abbrev pub Within : List ℕ → List ℕ → Type 0
 Within [] r = Unit {0}
 Within (l ∷ ls) r = (getD r 0 0 ≤ l) × Within ls (drop 1 r)
+
+-- the first limits and those behind them
+pub within-append : (ls ms r : List ℕ) → Within ls r → Within ms (drop (length ls) r) → Within (ls ++ ms) r
+within-append [] ms r v w = w
+within-append (l ∷ ls) ms r v w =
+    (v .0, within-append ls ms (drop 1 r) (v .1) (rw (drop-drop (length ls) 1 r, one-add) w))
 
 each-within : (ls r : List ℕ) → Within ls r → (i : ℕ) → i < length ls → getD r i 0 ≤ getD ls i 0
 each-within [] r w i h = absurd (omega arith)
