@@ -5,4 +5,6 @@ pub mod Sizes
 pub mod Refused
 pub mod Within
 pub mod Accepted
+pub mod RecordPieces
+pub mod RecordBack
 pub mod RoundTrip
