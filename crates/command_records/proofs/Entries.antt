@@ -1,14 +1,16 @@
--- Entries of a list in a record, one right behind the other, each of the same size: how long they are, and a loop that
--- writes them.
+-- Entries of a list in a record, one right behind the other, each of the same size: how long they are, a loop that
+-- writes them, and what a reader of single entries finds.
 -- Assumes nothing.
-use mathlib.Core.Path.{_≡_, refl, sym, ap}
-use mathlib.Core.List.{List}
-use Prim.Native.Nat.{ℕ, zero, suc, _+_, _*_, _≤_}
+use mathlib.Core.Path.{_≡_, refl, sym, ap, _∙_}
+use mathlib.Core.List.{List, _++_, append-assoc}
+use mathlib.Core.Logic.{⊎-elim}
+use Prim.Native.Nat.{ℕ, zero, suc, _+_, _*_, _≤_, _<_}
 use native.Mathlib.Numerals.{add-one}
-use native.Mathlib.Nat.{mul-suc, mul-zero}
+use native.Mathlib.Nat.{mul-suc, mul-zero, add-zero}
+use native.Mathlib.Omega.{arith}
 use lib.ListN.{length, length-append}
-use Rattle.octets.specs.Strings.{over}
-use Rattle.octets.proofs.Strings.{over-over, over-nil}
+use Rattle.octets.specs.Strings.{tab, over}
+use Rattle.octets.proofs.Strings.{over-over, over-nil, tab-ext, below-or-last}
 use Rattle.command_records.specs.Lists.{entries}
 
 module _ (f : ℕ → List ℕ) (m : ℕ) (size : (k : ℕ) → length (f k) ≡ m) where
@@ -22,6 +24,26 @@ module _ (f : ℕ → List ℕ) (m : ℕ) (size : (k : ℕ) → length (f k) ≡
   unfolding entries
   entries-more o i k h =
       rw (add-one k) (over-over o i (i + m * k) (entries f k) (f k) h (ap (λ (n : ℕ). i + n) (sym (entries-length k))))
+
+  -- a reader of entries that looks only behind its place, and reads x k from the bytes of entry k
+  module _ {A : Type 0} (read : List ℕ → ℕ → A) (x : ℕ → A) (behind : (p s : List ℕ) (i : ℕ) → read (p ++ s) (length p + i) ≡ read s i)
+      (back : (k : ℕ) (rest : List ℕ) → read (f k ++ rest) 0 ≡ x k) where
+    last-back : (p rest : List ℕ) (n : ℕ) → read (p ++ (entries f n ++ (f n ++ rest))) (length p + m * n) ≡ x n
+    last-back p rest n =
+        let place : length p + m * n ≡ length (p ++ entries f n) + 0 = rw (add-zero, length-append p (entries f n), entries-length n) refl in
+        ap (λ (s : List ℕ). read s (length p + m * n)) (sym (append-assoc p (entries f n) (f n ++ rest)))
+        ∙ ap (read ((p ++ entries f n) ++ (f n ++ rest))) place ∙ behind (p ++ entries f n) (f n ++ rest) 0 ∙ back n rest
+
+    entry-back : (p rest : List ℕ) (n k : ℕ) → k < n → read (p ++ (entries f n ++ rest)) (length p + m * k) ≡ x k
+    unfolding entries
+    entry-back p rest zero k h = absurd (omega arith)
+    entry-back p rest (suc n) k h =
+        ap (λ (s : List ℕ). read (p ++ s) (length p + m * k)) (append-assoc (entries f n) (f n) rest)
+        ∙ ⊎-elim (λ l. entry-back p (f n ++ rest) n k l) (λ (e : k ≡ n). rw e (last-back p rest n)) (below-or-last k n h)
+
+    -- reads every entry, behind a front of i bytes
+    pub entries-back : (p rest : List ℕ) (i n : ℕ) → length p ≡ i → tab (λ (k : ℕ). read (p ++ (entries f n ++ rest)) (i + m * k)) n ≡ tab x n
+    entries-back p rest i n e = rw (← e) (tab-ext _ x n (entry-back p rest n))
 
 -- none written
 pub entries-none : (f : ℕ → List ℕ) (o : List ℕ) (i : ℕ) → o ≡ over o i (entries f 0)

@@ -1,3 +1,7 @@
--- Laws of the command record's parts, and the proofs of the functions that write it.
+-- Laws of the command record and its parts, and the proofs of the functions that write it.
 pub mod Entries
 pub mod Lengths
+pub mod Fits
+pub mod ListsBack
+pub mod RoundTrip
+pub mod Accepted

@@ -3,4 +3,8 @@ pub mod Tests
 pub mod Writes
 pub mod Sizes
 pub mod Refused
+pub mod Within
+pub mod Accepted
+pub mod RecordPieces
+pub mod RecordBack
 pub mod RoundTrip
