@@ -151,8 +151,18 @@ fn id_case(line: &[u8]) -> bool {
     is_answer(line, 3, id.code(), b"")
 }
 
-// Whether the case of a line agrees.
+// Whether word 2 of the line is well formed.
+fn has_input(line: &[u8]) -> bool {
+    let mut input = [0u8; 160];
+    let f = field(line, 2, &mut input);
+    f.good
+}
+
+// Whether the case of a line is well formed and agrees.
 pub fn case(line: &[u8]) -> bool {
+    if !has_input(line) {
+        return false;
+    }
     match octets::byte_at(line, 0) {
         b'R' => read_case(line),
         b'W' => write_case(line),
