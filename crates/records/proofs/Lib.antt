@@ -7,4 +7,5 @@ pub mod Within
 pub mod Accepted
 pub mod RecordPieces
 pub mod RecordBack
+pub mod Plain
 pub mod RoundTrip
