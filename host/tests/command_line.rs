@@ -328,6 +328,23 @@ fn help_shows_an_example_of_each_command() {
     }
 }
 
+/// Every example of the help runs as printed, from the repository's root.
+#[test]
+fn the_examples_of_the_help_run() {
+    let help = run(&["--help"], b"").out;
+    let examples = help.split("Examples\n").nth(1).expect("examples").replace("\\\n", " ");
+    let folder = PathBuf::from(env!("CARGO_BIN_EXE_store-reader"));
+    let path =
+        format!("{}:{}", folder.parent().expect("a folder").display(), std::env::var("PATH").unwrap_or_default());
+    let lines: Vec<&str> = examples.lines().filter(|line| !line.trim().is_empty()).collect();
+    assert_eq!(lines.len(), 6);
+    for line in lines {
+        let ran =
+            Command::new("sh").args(["-c", line]).env("PATH", &path).current_dir(root()).output().expect("a shell");
+        assert!(ran.status.success() && ran.stderr.is_empty() && !ran.stdout.is_empty(), "{line}");
+    }
+}
+
 /// The 24 bytes at a capture's front.
 fn capture_header(link_type: u32, big_endian: bool) -> Vec<u8> {
     let order = |number: u32| if big_endian { number.to_be_bytes() } else { number.to_le_bytes() };
