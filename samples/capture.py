@@ -2,7 +2,7 @@
 """Makes store.pcap, the sample capture: python3 samples/capture.py > samples/store.pcap
 
 The frames are put together field by field from the Zigbee and IEEE 802.15.4 formats and sealed with AESCCM of the Python
-package cryptography; nothing comes from the codec. The key is the one in store.key.
+package cryptography; nothing comes from the codec. The key is the one in store.key. Wireshark, given it, shows the same frames.
 """
 import pathlib
 import struct
@@ -67,6 +67,11 @@ def temperature(counter, hundredths):
     return aps + struct.pack("<BBBHBh", 0x18, counter, 0x0A, 0, 0x29, hundredths)
 
 
+def acknowledgement(counter):
+    """The APS acknowledgement of such a report."""
+    return struct.pack("<BBHHBB", 2, 1, 0x0402, 0x0104, 1, counter)
+
+
 def damaged(frame, place):
     return frame[:place] + bytes([frame[place] ^ 1]) + frame[place + 1:]
 
@@ -78,15 +83,14 @@ def records():
     yield mac(10, 0xFFFF, 0, sealed(header(COMMAND, SECURITY, ALL_ROUTERS, 0, 21), COORDINATOR, 90210, links))
     report = header(DATA, SECURITY, 0, PROBE[0], 7)
     yield mac(11, 0, PROBE[0], sealed(report, PROBE, 74565, temperature(1, 2150)))
-    acknowledgement = b"\x02\x00\x0b"
-    yield acknowledgement + fcs(acknowledgement)
+    yield b"\x02\x00\x0b" + fcs(b"\x02\x00\x0b")
     record = struct.pack("<BBHH", 0x05, 2, 0x52B0, ROUTER[0])
     yield mac(12, 0, ROUTER[0], sealed(header(COMMAND, SECURITY, 0, DEEP_PROBE[0], 40), DEEP_PROBE, 512, record))
     deep = header(DATA, SECURITY | SOURCE_IEEE, 0, DEEP_PROBE[0], 41, wire(DEEP_PROBE[1]))
     yield mac(13, 0, ROUTER[0], sealed(deep, DEEP_PROBE, 513, temperature(9, 3420)))
     route = struct.pack("<BBHH", 2, 1, 0x52B0, ROUTER[0])
     routed = header(DATA, SECURITY | SOURCE_ROUTE, DEEP_PROBE[0], 0, 22, route)
-    yield mac(14, ROUTER[0], 0, sealed(routed, COORDINATOR, 90211, b"\x02\x01"))
+    yield mac(14, ROUTER[0], 0, sealed(routed, COORDINATOR, 90211, acknowledgement(9)))
     yield mac(15, 0, PROBE[0], damaged(sealed(header(DATA, SECURITY, 0, PROBE[0], 8), PROBE, 74566, temperature(2, 2160)), 30))
     yield mac(16, 0, 0x9C44, sealed(header(DATA, SECURITY, 0, 0x9C44, 1), ROUTER, 3, temperature(1, 1990), OTHER_KEY))
     yield mac(17, 0, 0x9C44, header(DATA, 0, 0, 0x9C44, 2) + temperature(2, 1990))

@@ -53,7 +53,7 @@ const OPENED: &str = "   1  MAC beacon
    4  MAC acknowledgement
    5  command   0xD105 -> 0x0000  sequence 40  counter 512  route record: relays [0x52B0, 0x3F21]
    6  data      0xD105 -> 0x0000  sequence 41  counter 513  payload 16 bytes: 000102040401010918090A0000295C0D
-   7  data      0x0000 -> 0xD105  sequence 22  counter 90211  payload 2 bytes: 0201
+   7  data      0x0000 -> 0xD105  sequence 22  counter 90211  payload 8 bytes: 0201020404010109
    8  data      0x7A10 -> 0x0000  sequence 8  counter 74566  refused by 19: the MIC is not the one computed
    9  data      0x9C44 -> 0x0000  sequence 1  counter 3  refused by 19: the MIC is not the one computed
   10  data      0x9C44 -> 0x0000  sequence 2  refused by 14: sealing or opening has no auxiliary header
