@@ -2,7 +2,8 @@
 """Makes store.pcap, the sample capture: python3 samples/capture.py > samples/store.pcap
 
 The frames are put together field by field from the Zigbee and IEEE 802.15.4 formats and sealed with AESCCM of the Python
-package cryptography; nothing comes from the codec. The key is the one in store.key. Wireshark, given it, shows the same frames.
+package cryptography; nothing comes from the codec. The key is the one in store.key. Wireshark, given
+it, opens the same eight frames.
 """
 import pathlib
 import struct
