@@ -8,7 +8,8 @@ SHELL := bash
 .ONESHELL:
 .DELETE_ON_ERROR:
 
-CARGO ?= $(or $(shell command -v cargo),$(HOME)/.cargo/bin/cargo)
+# The folder where rustup puts cargo, for a shell whose path does not have it.
+export PATH := $(PATH):$(shell echo ~)/.cargo/bin
 
 ARCHIVE := target/staticlib/libnwk.a
 COMMAND := host/target/release/store-reader
@@ -34,7 +35,7 @@ $(ARCHIVE): $(RATTLE)
 
 $(COMMAND): $(ARCHIVE) $(HOST)
 	@cd host
-	$(CARGO) build --release --offline --quiet
+	cargo build --release --offline --quiet
 
 # rt's last line, the count, is kept for the end: it is printed only if everything passed.
 test:
@@ -49,7 +50,7 @@ test:
 # The host's tests compile and run the C programs too, against the archive of this tree.
 host-test: $(COMMAND)
 	@cd host
-	$(CARGO) test --release --offline
+	cargo test --release --offline
 
 clean:
 	rm -rf target host/target

@@ -8,7 +8,7 @@ BENCH_PROGRAM := target/bench/bench
 BENCH_CFLAGS := -std=c11 -O2 -Wall -Wextra -Iinclude -Ibench
 BENCH_LIBS := -Wl,-z,now
 
-ifeq ($(shell pkg-config --exists nettle && echo yes),yes)
+ifeq ($(shell pkg-config --exists nettle 2>/dev/null && echo yes),yes)
 BENCH_CFLAGS += -DHAVE_NETTLE $(shell pkg-config --cflags nettle)
 BENCH_LIBS += $(shell pkg-config --libs nettle)
 endif
