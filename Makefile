@@ -25,9 +25,9 @@ archive: $(ARCHIVE)
 
 command: $(COMMAND)
 
-# The codec is proved before it is compiled: some minutes the first time.
+# The codec is proved before it is compiled: ten minutes or so the first time.
 $(ARCHIVE): $(RATTLE)
-	@echo "proving and compiling the codec, some minutes the first time"
+	@echo "proving and compiling the codec, ten minutes or so the first time"
 	log=$$(mktemp)
 	trap 'rm -f "$$log"' EXIT
 	rt staticlib nwk 2>&1 | tee "$$log" | sed -un '/^rt: .* proved/p' || { cat "$$log"; exit 1; }

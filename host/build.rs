@@ -14,7 +14,7 @@ fn main() {
     println!("cargo:rustc-link-lib=static=nwk");
 }
 
-/// Proves and compiles the codec; takes some minutes in a fresh tree.
+/// Proves and compiles the codec; takes ten minutes or so in a fresh tree.
 fn make(root: &Path, archive: &Path) {
     let done = Command::new("rt").args(["staticlib", "nwk"]).current_dir(root).status();
     match done {
