@@ -14,7 +14,6 @@ use Rattle.commands.specs.Commands.{firsts}
 use Rattle.octets.specs.Strings.{over}
 use Rattle.commands.specs.Writing.{wireOf, wire, wireBytes, commandBytes}
 use Rattle.commands.specs.declared.NwkCommand.{NwkCommand}
-use Rattle.commands.specs.declared.NwkCommandFrame.{NwkCommandFrame}
 use Rattle.commands.proofs.InRange.{in-range}
 use Rattle.command_writer.proofs.Ready.{Ready, ready-by}
 
