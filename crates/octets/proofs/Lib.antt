@@ -4,4 +4,5 @@ pub mod Xor
 pub mod Numbers
 pub mod Fields
 mod Parts
-pub mod Refusals
+pub mod Conditions
+pub mod Writing

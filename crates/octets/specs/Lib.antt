@@ -3,3 +3,4 @@ pub mod Strings
 pub mod Numbers
 pub mod Fields
 pub mod Refusals
+pub mod Writing

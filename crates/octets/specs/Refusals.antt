@@ -4,16 +4,18 @@ use Prim.Native.Nat.{ℕ, zero, suc}
 use mathlib.Core.Bool.{Bool, cond}
 use mathlib.Core.List.{List, [], _∷_}
 
--- the number n if the condition b holds, else 0
-abbrev pub on : ℕ → Bool → ℕ
-on n b = cond b n 0
+-- by the refusal's number: what is answered where it is 0, or what is answered where it is not
+unfoldable pub unless : {A : Type 0} → ℕ → A → A → A
+unless zero accepted refused = accepted
+unless (suc n) accepted refused = refused
 
--- the number n, or m where n is 0
-unfoldable pub orElse : ℕ → ℕ → ℕ
-orElse zero m = m
-orElse (suc n) m = suc n
+-- an entry of the list: a number with the condition it is given on, or the number that an operation before it gave
+pub data Condition : Type 0 where
+  on : ℕ → Bool → Condition
+  by : ℕ → Condition
 
--- the first number of the list that is not 0, or 0
-unfoldable pub firstOf : List ℕ → ℕ
+-- the first number of the list that is given, or 0
+unfoldable pub firstOf : List Condition → ℕ
 firstOf [] = 0
-firstOf (n ∷ ns) = orElse n (firstOf ns)
+firstOf (on n b ∷ cs) = cond b n (firstOf cs)
+firstOf (by n ∷ cs) = unless n (firstOf cs) n

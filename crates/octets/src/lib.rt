@@ -6,6 +6,14 @@ ghost use lib.ListN.{length, getD};
 ghost use Rattle.octets.specs.Strings.{over};
 ghost use Rattle.octets.specs.Numbers.{le, leAt};
 
+pub mod refusals;
+
+// What a writer answers: a refusal's number with length 0, or 0 and how many bytes it wrote.
+pub struct Written {
+    pub refusal: u8,
+    pub length: usize,
+}
+
 // A byte as a wider number.
 pub fn wide(x: u8) -> u64
     ensures { λ r. ⌜ r ≡ x ⌝ }

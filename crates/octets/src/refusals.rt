@@ -1,0 +1,58 @@
+// The refusals, each by its name: document 01's list, its numbers and its words. 0 is no refusal.
+
+// 1: a frame, or the bytes given to read a header or an auxiliary header, are more than 118; or authenticated data or a payload handed to CCM alone is more than 127
+pub const TOO_LONG: u8 = 1;
+
+// 2: a header has fewer than 8 bytes
+pub const SHORT_HEADER: u8 = 2;
+
+// 3: the frame type is 2
+pub const FRAME_TYPE: u8 = 3;
+
+// 4: discovery is 3
+pub const DISCOVERY: u8 = 4;
+
+// 5: fewer than 8 bytes remain for a destination IEEE
+pub const DESTINATION_IEEE: u8 = 5;
+
+// 6: fewer than 8 bytes remain for a source IEEE
+pub const SOURCE_IEEE: u8 = 6;
+
+// 7: no byte remains for multicast control
+pub const MULTICAST: u8 = 7;
+
+// 8: a source route has fewer than 2 + 2n bytes for its n relays, or fewer than 2
+pub const SOURCE_ROUTE: u8 = 8;
+
+// 9: an auxiliary header has fewer than 6 bytes
+pub const SHORT_AUXILIARY: u8 = 9;
+
+// 10: an auxiliary header with extended nonce has 6 to 12 bytes
+pub const SHORT_EXTENDED: u8 = 10;
+
+// 11: an auxiliary header with extended nonce has exactly 13 bytes
+pub const NO_KEY_SEQUENCE: u8 = 11;
+
+// 12: an unsecured payload, or a command to read, has more than 108 bytes
+pub const PAYLOAD: u8 = 12;
+
+// 13: a field to write exceeds its bits or has an undeclared code, or a list exceeds its places
+pub const FIELD: u8 = 13;
+
+// 14: sealing or opening has no auxiliary header
+pub const NO_AUXILIARY: u8 = 14;
+
+// 15: sealing or opening has neither an auxiliary nor a header source IEEE
+pub const NO_IEEE: u8 = 15;
+
+// 16: ciphertext with MIC has fewer than 4 bytes
+pub const NO_MIC: u8 = 16;
+
+// 17: the bytes to write exceed 118 for a header or frame, or 108 for a payload, alone or in a frame
+pub const LENGTH: u8 = 17;
+
+// 18: the lent output is shorter than what is to be written
+pub const NO_ROOM: u8 = 18;
+
+// 19: the MIC is not the one computed
+pub const WRONG_MIC: u8 = 19;
