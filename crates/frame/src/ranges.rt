@@ -3,8 +3,8 @@
 use header::auxiliary::NwkAuxHeader;
 use header::nwk::NwkHeader;
 use header::optional::NwkSourceRoute;
-use header::optional::OptionEui64;
 use header::optional::OptionMulticast;
+use types::OptionEui64;
 ghost use Prim.Native.Nat.{_^_};
 ghost use Rattle.octets.specs.Strings.{Below};
 ghost use Rattle.header.specs.Same.{IeeeFits, MulticastFits, RouteFits, HeaderFits, AuxFits};

@@ -2,7 +2,7 @@
 use header::auxiliary::NwkAuxHeader;
 use header::auxiliary::NwkSecurityLevel;
 use header::nwk::NwkHeader;
-use header::optional::OptionEui64;
+use types::OptionEui64;
 ghost use mathlib.Core.Path.{_≡_};
 ghost use mathlib.Core.Bool.{false};
 ghost use mathlib.Core.List.{_++_};
@@ -10,7 +10,7 @@ ghost use Prim.Native.Nat.{_+_, _≤_};
 ghost use lib.ListN.{length, take};
 ghost use Rattle.octets.specs.Strings.{over};
 ghost use Rattle.octets.specs.Numbers.{le};
-ghost use Rattle.header.specs.Optional.{hasIeee};
+ghost use Rattle.types.specs.Optional.{hasIeee};
 ghost use Rattle.header.specs.Auxiliary.{auxBytes};
 ghost use Rattle.header.specs.Writing.{badHeader, headerBytes};
 ghost use Rattle.frame.specs.Security.{atLevel, ieeeOf, noIeee, nonce};

@@ -18,7 +18,8 @@ use Rattle.octets.proofs.Numbers.{length-le, leAt-le, le-leAt}
 use Rattle.octets.proofs.Refusals.{none-split, not-on}
 use Rattle.header.specs.declared.auxiliary.NwkAuxHeader.{NwkAuxHeader}
 use Rattle.header.specs.declared.auxiliary.NwkSecurityHeaderControlField.{NwkSecurityHeaderControlField}
-use Rattle.header.specs.Optional.{bit, ieeeIf, ieeeBytes, hasIeee}
+use Rattle.types.specs.Optional.{ieeeIf, ieeeBytes, hasIeee}
+use Rattle.octets.specs.Fields.{bit}
 use Rattle.header.specs.AuxiliaryControl.{securityByte}
 use Rattle.header.specs.Auxiliary.{security, keySequenceAt, auxRefusal, auxBy, auxAnswer, readAux, auxBytes}
 use Rattle.header.specs.Same.{AuxAgrees, AuxFits}

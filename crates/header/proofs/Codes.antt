@@ -9,7 +9,7 @@ use Rattle.header.specs.declared.control.NwkFrameType.{NwkFrameType}
 use Rattle.header.specs.declared.control.NwkRouteDiscovery.{NwkRouteDiscovery}
 use Rattle.header.specs.declared.auxiliary.NwkSecurityLevel.{NwkSecurityLevel}
 use Rattle.header.specs.declared.auxiliary.NwkSecurityHeaderKeyId.{NwkSecurityHeaderKeyId}
-use Rattle.header.specs.Optional.{bit}
+use Rattle.octets.specs.Fields.{bit}
 use Rattle.header.specs.Control.{typeCode, typeOf, discoveryCode, discoveryOf}
 use Rattle.header.specs.AuxiliaryControl.{levelCode, levelOf, keyIdCode, keyIdOf}
 

@@ -14,7 +14,7 @@ use Rattle.octets.specs.Fields.{fields, packed, bitsOf, Held}
 use Rattle.octets.proofs.Fields.{fields-packed, packed-fields, packed-lt}
 use Rattle.header.specs.declared.control.NwkFrameControl.{NwkFrameControl}
 use Rattle.header.specs.declared.auxiliary.NwkSecurityHeaderControlField.{NwkSecurityHeaderControlField}
-use Rattle.header.specs.Optional.{bit}
+use Rattle.octets.specs.Fields.{bit}
 use Rattle.header.specs.Control.{controlSizes, controlValues, controlRecord, controlWord, controlOf}
 use Rattle.header.specs.AuxiliaryControl.{securitySizes, securityValues, securityRecord, securityByte, securityOf}
 use Rattle.header.specs.Writing.{badControl}

@@ -18,7 +18,9 @@ use Rattle.octets.proofs.Numbers.{length-le, leAt-le, leAt-behind}
 use Rattle.header.specs.declared.control.NwkFrameControl.{NwkFrameControl}
 use Rattle.header.specs.declared.optional.NwkSourceRoute.{NwkSourceRoute}
 use Rattle.header.specs.declared.nwk.NwkHeader.{NwkHeader}
-use Rattle.header.specs.Optional.{bit, ieeeIf, ieeeBytes, hasIeee, multicastIf, multicastBytes, hasMulticast, routeIf, routeBytes, relayCount}
+use Rattle.header.specs.Optional.{multicastIf, multicastBytes, hasMulticast, routeIf, routeBytes, relayCount}
+use Rattle.types.specs.Optional.{ieeeIf, ieeeBytes, hasIeee}
+use Rattle.octets.specs.Fields.{bit}
 use Rattle.header.specs.Control.{controlWord, controlOf}
 use Rattle.header.specs.Reading.{control, sourceAt, multicastAt, routeAt, relaysAt, headerEnd, headerRefusal, optionalRefusals, relaysOf, headerBy, headerAnswer, readHeader}
 use Rattle.header.specs.Writing.{fixedBytes, optionalBytes, headerBytes, badControl, badHeader}

@@ -13,7 +13,7 @@ use Rattle.octets.specs.Fields.{fields}
 use Rattle.header.specs.declared.auxiliary.NwkSecurityLevel.{NwkSecurityLevel}
 use Rattle.header.specs.declared.nwk.HeaderRead.{HeaderRead}
 use Rattle.header.specs.declared.auxiliary.AuxRead.{AuxRead}
-use Rattle.header.specs.Optional.{bit}
+use Rattle.octets.specs.Fields.{bit}
 use Rattle.header.specs.Reading.{control, headerRefusal, headerAnswer, readHeader}
 use Rattle.header.specs.Writing.{headerBytes, badHeader}
 use Rattle.header.specs.Auxiliary.{security, keySequenceAt, auxRefusal, auxBy, auxAnswer, readAux, auxBytes}

@@ -16,7 +16,9 @@ use Rattle.octets.proofs.Strings.{getD-tab}
 use Rattle.octets.proofs.Numbers.{le-leAt, leAt-lt}
 use Rattle.octets.proofs.Refusals.{none-split, not-on}
 use Rattle.header.specs.declared.control.NwkFrameControl.{NwkFrameControl}
-use Rattle.header.specs.Optional.{bit, ieeeIf, ieeeBytes, multicastIf, multicastBytes, routeIf, routeBytes}
+use Rattle.header.specs.Optional.{multicastIf, multicastBytes, routeIf, routeBytes}
+use Rattle.types.specs.Optional.{ieeeIf, ieeeBytes}
+use Rattle.octets.specs.Fields.{bit}
 use Rattle.header.specs.Control.{controlWord}
 use Rattle.header.specs.Reading.{control, sourceAt, multicastAt, routeAt, relaysAt, headerEnd, headerRefusal, optionalRefusals, relaysOf, headerBy}
 use Rattle.header.specs.Writing.{fixedBytes, optionalBytes, headerBytes, badHeader}

@@ -10,7 +10,8 @@ use Rattle.octets.specs.Refusals.{on, firstOf}
 use Rattle.header.specs.declared.auxiliary.NwkSecurityHeaderControlField.{NwkSecurityHeaderControlField}
 use Rattle.header.specs.declared.auxiliary.NwkAuxHeader.{NwkAuxHeader}
 use Rattle.header.specs.declared.auxiliary.AuxRead.{AuxRead}
-use Rattle.header.specs.Optional.{bit, ieeeIf, ieeeBytes}
+use Rattle.types.specs.Optional.{ieeeIf, ieeeBytes}
+use Rattle.octets.specs.Fields.{bit}
 use Rattle.header.specs.AuxiliaryControl.{securityByte, securityOf}
 use Rattle.header.specs.Writing.{Run, written}
 

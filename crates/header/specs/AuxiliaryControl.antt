@@ -9,7 +9,7 @@ use Rattle.octets.specs.Fields.{fields, packed}
 use Rattle.header.specs.declared.auxiliary.NwkSecurityLevel.{NwkSecurityLevel}
 use Rattle.header.specs.declared.auxiliary.NwkSecurityHeaderKeyId.{NwkSecurityHeaderKeyId}
 use Rattle.header.specs.declared.auxiliary.NwkSecurityHeaderControlField.{NwkSecurityHeaderControlField}
-use Rattle.header.specs.Optional.{bit}
+use Rattle.octets.specs.Fields.{bit}
 
 -- bits 0-2 level, 3-4 key id, 5 extended nonce, 6 verified counter, 7 skipped
 abbrev pub securitySizes : List ℕ

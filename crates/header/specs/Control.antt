@@ -8,7 +8,7 @@ use Rattle.octets.specs.Fields.{fields, packed}
 use Rattle.header.specs.declared.control.NwkFrameType.{NwkFrameType}
 use Rattle.header.specs.declared.control.NwkRouteDiscovery.{NwkRouteDiscovery}
 use Rattle.header.specs.declared.control.NwkFrameControl.{NwkFrameControl}
-use Rattle.header.specs.Optional.{bit}
+use Rattle.octets.specs.Fields.{bit}
 
 -- bits 0-1 type, 2-5 version, 6-7 discovery, 8 multicast, 9 security, 10 source route, 11 destination IEEE,
 -- 12 source IEEE, 13 end device initiator, 14-15 kept

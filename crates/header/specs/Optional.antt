@@ -1,32 +1,12 @@
--- Fields that may be missing: whether one is there, what reading makes of its presence bit, and the bytes that it has.
+-- Fields that may be missing, beside the long addresses: whether one is there, what reading makes of its presence bit, and the bytes that it has.
 -- Assumes nothing.
 use Prim.Native.Nat.{ℕ, zero, suc}
 use mathlib.Core.Bool.{Bool, true, false}
 use mathlib.Core.List.{List, [], _++_}
 use lib.ListN.{getD}
 use Rattle.octets.specs.Numbers.{le}
-use Rattle.header.specs.declared.optional.OptionEui64.{OptionEui64}
 use Rattle.header.specs.declared.optional.OptionMulticast.{OptionMulticast}
 use Rattle.header.specs.declared.optional.NwkSourceRoute.{NwkSourceRoute}
-
--- a bit as a number
-abbrev pub bit : Bool → ℕ
-bit true = 1
-bit false = 0
-
--- ---- a long address
-
-abbrev pub hasIeee : OptionEui64 → Bool
-hasIeee OptionEui64.Absent = false
-hasIeee (OptionEui64.Present x) = true
-
-abbrev pub ieeeIf : Bool → ℕ → OptionEui64
-ieeeIf true x = OptionEui64.Present x
-ieeeIf false x = OptionEui64.Absent
-
-abbrev pub ieeeBytes : OptionEui64 → List ℕ
-ieeeBytes OptionEui64.Absent = []
-ieeeBytes (OptionEui64.Present x) = le 8 x
 
 -- ---- the multicast control byte
 

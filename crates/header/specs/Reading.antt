@@ -12,7 +12,9 @@ use Rattle.octets.specs.Refusals.{on, firstOf}
 use Rattle.header.specs.declared.control.NwkFrameControl.{NwkFrameControl}
 use Rattle.header.specs.declared.nwk.NwkHeader.{NwkHeader}
 use Rattle.header.specs.declared.nwk.HeaderRead.{HeaderRead}
-use Rattle.header.specs.Optional.{bit, ieeeIf, multicastIf, routeIf}
+use Rattle.header.specs.Optional.{multicastIf, routeIf}
+use Rattle.types.specs.Optional.{ieeeIf}
+use Rattle.octets.specs.Fields.{bit}
 use Rattle.header.specs.Control.{controlOf}
 
 -- ---- where each field stands: frame control at 0, destination 2, source 4, radius 6, sequence 7, destination IEEE 8

@@ -7,12 +7,13 @@ use mathlib.Core.Bool.{cond}
 use lib.ListN.{getD}
 use lib.Dec.{ltb}
 use Rattle.octets.specs.Strings.{tab, Below}
-use Rattle.header.specs.declared.optional.OptionEui64.{OptionEui64}
+use Rattle.types.specs.declared.OptionEui64.{OptionEui64}
 use Rattle.header.specs.declared.optional.OptionMulticast.{OptionMulticast}
 use Rattle.header.specs.declared.optional.NwkSourceRoute.{NwkSourceRoute}
 use Rattle.header.specs.declared.nwk.NwkHeader.{NwkHeader}
 use Rattle.header.specs.declared.auxiliary.NwkAuxHeader.{NwkAuxHeader}
-use Rattle.header.specs.Optional.{hasIeee, hasMulticast, hasRoute, relayCount}
+use Rattle.header.specs.Optional.{hasMulticast, hasRoute, relayCount}
+use Rattle.types.specs.Optional.{hasIeee}
 
 -- bits 11, 12, 8 and 10 of frame control are set exactly when their fields are present
 pub record Agrees (h : NwkHeader) : Type 0 where

@@ -12,7 +12,8 @@ use Rattle.octets.specs.Refusals.{on, firstOf}
 use Rattle.header.specs.declared.control.NwkFrameControl.{NwkFrameControl}
 use Rattle.header.specs.declared.nwk.NwkHeader.{NwkHeader}
 use Rattle.header.specs.declared.nwk.Written.{Written}
-use Rattle.header.specs.Optional.{ieeeBytes, multicastBytes, routeBytes, relayCount}
+use Rattle.header.specs.Optional.{multicastBytes, routeBytes, relayCount}
+use Rattle.types.specs.Optional.{ieeeBytes}
 use Rattle.header.specs.Control.{controlWord}
 
 -- the eight bytes that every header has

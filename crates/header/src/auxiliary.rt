@@ -1,8 +1,8 @@
 // The auxiliary header (Zigbee Specification 4.5.1).
-use crate::control::bit_of;
 use crate::nwk::MAX_MAC_PAYLOAD_SIZE;
 use crate::nwk::Written;
-use crate::optional::OptionEui64;
+use octets::bit_of;
+use types::OptionEui64;
 ghost use mathlib.Core.Path.{_≡_};
 ghost use Prim.Native.Nat.{_+_, _≤_, _<_};
 ghost use lib.ListN.{length};

@@ -4,7 +4,7 @@ ghost use mathlib.Core.Path.{_≡_};
 ghost use Prim.Native.Nat.{_<_};
 ghost use lib.ListN.{drop};
 ghost use Rattle.octets.specs.Fields.{packed};
-ghost use Rattle.header.specs.Optional.{bit};
+ghost use Rattle.octets.specs.Fields.{bit};
 ghost use Rattle.header.specs.Control.{controlSizes, controlValues, typeCode, typeOf, discoveryCode, discoveryOf, controlWord, controlOf};
 
 // The frame's type; the code 2 is not declared.
@@ -33,13 +33,6 @@ pub struct NwkFrameControl {
     pub extended_source: bool,
     pub end_device_initiator: bool,
     pub reserved1: u8,
-}
-
-// A bit as a number.
-pub fn bit_of(b: bool) -> u16
-    ensures { λ r. ⌜ (r ≡ bit b) × (r < 2) ⌝ }
-{
-    if b { 1 } else { 0 }
 }
 
 impl NwkFrameType {

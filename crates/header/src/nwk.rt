@@ -1,10 +1,10 @@
 // The NWK header (Zigbee Specification 3.3.1).
 use crate::control::NwkFrameControl;
-use crate::control::bit_of;
 use crate::optional::NwkSourceRoute;
-use crate::optional::OptionEui64;
 use crate::optional::OptionMulticast;
+use octets::bit_of;
 use types::Nwk;
+use types::OptionEui64;
 ghost use mathlib.Core.Path.{_≡_};
 ghost use mathlib.Core.Bool.{false, cond};
 ghost use lib.Dec.{ltb};
@@ -14,7 +14,8 @@ ghost use lib.ListN.{length};
 ghost use Rattle.octets.specs.Strings.{over};
 ghost use Rattle.octets.specs.Numbers.{le, leAt};
 ghost use Rattle.octets.specs.Refusals.{firstOf};
-ghost use Rattle.header.specs.Optional.{ieeeBytes, multicastBytes, routeBytes, relayCount};
+ghost use Rattle.header.specs.Optional.{multicastBytes, routeBytes, relayCount};
+ghost use Rattle.types.specs.Optional.{ieeeBytes};
 ghost use Rattle.header.specs.Reading.{optionalRefusals, sourceAt, multicastAt, routeAt, relaysAt, headerEnd, headerRefusal, relaysOf, headerBy, blankHeader, readHeader};
 ghost use Rattle.header.specs.Writing.{headerBytes, badHeader, headerWriteRefusal, writeHeader};
 

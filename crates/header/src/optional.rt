@@ -1,16 +1,10 @@
-// Fields that may be missing. Inside an enum an IEEE is a 64-bit number, its first wire byte lowest.
+// Fields that may be missing, beside the long addresses (`types::OptionEui64`).
 
 ghost use mathlib.Core.Path.{_≡_};
 ghost use Prim.Native.Nat.{_+_, _≤_};
 ghost use lib.ListN.{length};
 ghost use Rattle.octets.specs.Strings.{over};
-ghost use Rattle.header.specs.Optional.{ieeeIf, ieeeBytes, multicastIf, multicastBytes, routeIf, routeBytes, relayCount, relayBytes};
-
-// An optional long address.
-pub enum OptionEui64 {
-    Absent,
-    Present(u64),
-}
+ghost use Rattle.header.specs.Optional.{multicastIf, multicastBytes, routeIf, routeBytes, relayCount, relayBytes};
 
 // An optional multicast control byte.
 pub enum OptionMulticast {
@@ -22,43 +16,6 @@ pub enum OptionMulticast {
 pub enum NwkSourceRoute {
     Absent,
     Present { relay_count: u8, relay_index: u8 },
-}
-
-impl OptionEui64 {
-    // The address x if its presence bit is set.
-    pub fn when(present: bool, x: u64) -> OptionEui64
-        ensures { λ r. ⌜ r ≡ ieeeIf present x ⌝ }
-    {
-        if present {
-            OptionEui64::Present(x)
-        } else {
-            OptionEui64::Absent
-        }
-    }
-
-    // How many bytes it takes in a frame.
-    pub fn size(self) -> usize
-        ensures { λ r. ⌜ (r ≡ length (ieeeBytes self)) × (r ≤ 8) ⌝ }
-    {
-        match self {
-            OptionEui64::Absent => 0,
-            OptionEui64::Present(_) => 8,
-        }
-    }
-
-    // Write it at place i, and give the place behind it.
-    pub fn put(self, out: &mut [u8], i: usize) -> usize
-        requires { ⌜ i + length (ieeeBytes self) ≤ length (now out) ⌝ }
-        ensures { λ r. ⌜ (r ≡ i + length (ieeeBytes self)) × (now (out .exit) ≡ over (now (out .entry)) i (ieeeBytes self)) ⌝ }
-    {
-        match self {
-            OptionEui64::Absent => i,
-            OptionEui64::Present(x) => {
-                octets::put_u64(out, i, x);
-                i + 8
-            }
-        }
-    }
 }
 
 impl OptionMulticast {

@@ -12,11 +12,11 @@ use casefile::fields::whole;
 use header::auxiliary::NwkAuxHeader;
 use header::auxiliary::NwkSecurityHeaderControlField;
 use header::control::NwkFrameControl;
-use header::control::bit_of;
 use header::nwk::NwkHeader;
 use header::optional::NwkSourceRoute;
-use header::optional::OptionEui64;
 use header::optional::OptionMulticast;
+use octets::bit_of;
+use types::OptionEui64;
 
 // The parts of a frame control field, a byte each.
 fn control_row(c: NwkFrameControl) -> [u8; 10] {

@@ -1,7 +1,12 @@
 -- Bit fields of a word, lowest first: a word is read and put together by the list of its fields' sizes in bits.
 -- Assumes nothing.
 use Prim.Native.Nat.{ℕ, _+_, _*_, _/_, _%_, _^_, _<_}
+use mathlib.Core.Bool.{Bool, cond}
 use mathlib.Core.List.{List, [], _∷_}
+
+-- a bit as a number
+abbrev pub bit : Bool → ℕ
+bit b = cond b 1 0
 
 -- the fields of the word w
 unfoldable pub fields : List ℕ → ℕ → List ℕ

@@ -5,6 +5,7 @@ ghost use Prim.Native.Nat.{_+_, _*_, _≤_, _<_};
 ghost use lib.ListN.{length, getD};
 ghost use Rattle.octets.specs.Strings.{over};
 ghost use Rattle.octets.specs.Numbers.{le, leAt};
+ghost use Rattle.octets.specs.Fields.{bit};
 
 pub mod refusals;
 
@@ -19,6 +20,13 @@ pub fn wide(x: u8) -> u64
     ensures { λ r. ⌜ r ≡ x ⌝ }
 {
     x as u64
+}
+
+// A bit as a number.
+pub fn bit_of(b: bool) -> u8
+    ensures { λ r. ⌜ (r ≡ bit b) × (r < 2) ⌝ }
+{
+    if b { 1 } else { 0 }
 }
 
 // The byte at place i, or 0 past the end.

@@ -13,7 +13,8 @@ use Rattle.octets.specs.Numbers.{le}
 use Rattle.header.specs.declared.control.NwkRouteDiscovery.{NwkRouteDiscovery}
 use Rattle.header.specs.declared.nwk.NwkHeader.{NwkHeader}
 use Rattle.header.specs.declared.auxiliary.NwkAuxHeader.{NwkAuxHeader}
-use Rattle.header.specs.Optional.{hasIeee, hasMulticast, hasRoute}
+use Rattle.header.specs.Optional.{hasMulticast, hasRoute}
+use Rattle.types.specs.Optional.{hasIeee}
 use Rattle.header.specs.Control.{discoveryCode}
 use Rattle.header.proofs.Codes.{bit-lt, type-lt, type-declared, level-lt, keyId-lt}
 use Rattle.header.specs.Reading.{readHeader}

@@ -13,7 +13,7 @@ use lib.Seq.{getD-append-add}
 use Rattle.octets.specs.Strings.{Below}
 use Rattle.octets.specs.Numbers.{le}
 use Rattle.octets.proofs.Numbers.{le-below}
-use Rattle.header.specs.declared.optional.OptionEui64.{OptionEui64}
+use Rattle.types.specs.declared.OptionEui64.{OptionEui64}
 use Rattle.header.specs.declared.optional.OptionMulticast.{OptionMulticast}
 use Rattle.header.specs.declared.optional.NwkSourceRoute.{NwkSourceRoute}
 use Rattle.header.specs.declared.control.NwkFrameControl.{NwkFrameControl}

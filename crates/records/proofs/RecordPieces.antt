@@ -14,7 +14,9 @@ use Rattle.octets.specs.Strings.{Below}
 use Rattle.octets.specs.Numbers.{le, leAt}
 use Rattle.octets.proofs.Numbers.{le-leAt, leAt-same, leAt-past}
 use Rattle.header.specs.declared.optional.NwkSourceRoute.{NwkSourceRoute}
-use Rattle.header.specs.Optional.{bit, hasIeee, ieeeIf, hasMulticast, multicastIf, hasRoute, routeIf, relayCount}
+use Rattle.header.specs.Optional.{hasMulticast, multicastIf, hasRoute, routeIf, relayCount}
+use Rattle.types.specs.Optional.{hasIeee, ieeeIf}
+use Rattle.octets.specs.Fields.{bit}
 use Rattle.header.proofs.Codes.{bit-of}
 use Rattle.header.proofs.Pieces.{byte-read, ieee-has, multicast-has, route-has}
 use Rattle.records.specs.Limits.{exceeds}

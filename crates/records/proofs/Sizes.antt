@@ -5,7 +5,7 @@ use mathlib.Core.Bool.{Bool}
 use Prim.Native.Nat.{ℕ}
 use lib.ListN.{length, length-append}
 use Rattle.octets.proofs.Numbers.{length-le}
-use Rattle.header.specs.declared.optional.OptionEui64.{OptionEui64}
+use Rattle.types.specs.declared.OptionEui64.{OptionEui64}
 use Rattle.header.specs.declared.optional.OptionMulticast.{OptionMulticast}
 use Rattle.header.specs.declared.optional.NwkSourceRoute.{NwkSourceRoute}
 use Rattle.header.specs.declared.nwk.NwkHeader.{NwkHeader}

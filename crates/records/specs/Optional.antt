@@ -6,10 +6,12 @@ use mathlib.Core.List.{List, _++_}
 use lib.ListN.{getD}
 use lib.Dec.{eqb}
 use Rattle.octets.specs.Numbers.{le, leAt}
-use Rattle.header.specs.declared.optional.OptionEui64.{OptionEui64}
+use Rattle.types.specs.declared.OptionEui64.{OptionEui64}
 use Rattle.header.specs.declared.optional.OptionMulticast.{OptionMulticast}
 use Rattle.header.specs.declared.optional.NwkSourceRoute.{NwkSourceRoute}
-use Rattle.header.specs.Optional.{bit, hasIeee, ieeeIf, hasMulticast, multicastIf, hasRoute, routeIf, relayCount}
+use Rattle.header.specs.Optional.{hasMulticast, multicastIf, hasRoute, routeIf, relayCount}
+use Rattle.types.specs.Optional.{hasIeee, ieeeIf}
+use Rattle.octets.specs.Fields.{bit}
 
 -- ---- a long address: 9 bytes
 

@@ -7,7 +7,7 @@ use header::auxiliary::NwkAuxHeader;
 use header::auxiliary::NwkSecurityHeaderControlField;
 use header::auxiliary::NwkSecurityHeaderKeyId;
 use header::auxiliary::NwkSecurityLevel;
-use header::optional::OptionEui64;
+use types::OptionEui64;
 ghost use mathlib.Core.Path.{_≡_};
 ghost use mathlib.Core.List.{_++_};
 ghost use Prim.Native.Nat.{_≤_};

@@ -1,13 +1,15 @@
 // Fields that may be missing, in a record.
 
 use header::optional::NwkSourceRoute;
-use header::optional::OptionEui64;
 use header::optional::OptionMulticast;
+use types::OptionEui64;
 ghost use mathlib.Core.Path.{_≡_};
 ghost use Prim.Native.Nat.{_+_, _≤_, _<_};
 ghost use lib.ListN.{length};
 ghost use Rattle.octets.specs.Strings.{over};
-ghost use Rattle.header.specs.Optional.{bit, hasIeee, hasMulticast, hasRoute};
+ghost use Rattle.header.specs.Optional.{hasMulticast, hasRoute};
+ghost use Rattle.types.specs.Optional.{hasIeee};
+ghost use Rattle.octets.specs.Fields.{bit};
 ghost use Rattle.records.specs.Optional.{ieeeValue, ieeeRecord, ieeeAt, multicastValue, multicastRecord, multicastAt, relayIndex, routeRecord, routeAt};
 
 // A bit as a byte.

@@ -3,11 +3,13 @@
 // with 0 for both where the bytes do not give one.
 
 ghost use mathlib.Core.Path.{_≡_};
+ghost use Prim.Native.Nat.{_+_, _≤_};
 ghost use lib.ListN.{length};
-ghost use Rattle.octets.specs.Strings.{Below};
+ghost use Rattle.octets.specs.Strings.{Below, over};
 ghost use Rattle.octets.specs.Numbers.{le, leAt};
 ghost use Rattle.types.specs.Addresses.{readNwk, readPanId, readEui64, reversed};
 ghost use Rattle.types.specs.Keys.{readKey, keyBytes};
+ghost use Rattle.types.specs.Optional.{ieeeIf, ieeeBytes};
 
 // A 16-bit network address.
 pub struct Nwk(pub u16);
@@ -17,6 +19,12 @@ pub struct PanId(pub u16);
 
 // A 64-bit IEEE address, its bytes in wire order.
 pub struct Eui64(pub [u8; 8]);
+
+// An optional long address. Inside an enum an IEEE is a 64-bit number, its first wire byte lowest.
+pub enum OptionEui64 {
+    Absent,
+    Present(u64),
+}
 
 // A 128-bit key.
 pub struct Key(pub [u8; 16]);
@@ -43,12 +51,6 @@ pub struct Eui64Read {
 pub struct KeyRead {
     pub key: Key,
     pub used: usize,
-}
-
-// A key as two numbers, its first eight bytes in the first, the first byte lowest.
-pub struct KeyHalves {
-    pub first: u64,
-    pub second: u64,
 }
 
 impl Nwk {
@@ -158,28 +160,48 @@ impl Eui64 {
         ])
     }
 
-    // The address as a number, its first wire byte lowest.
-    pub fn as_u64(self) -> u64
-        ensures { λ r. ⌜ r ≡ leAt 8 (self .0) 0 ⌝ }
-    {
-        let b = self.0;
-        octets::read_u64(&b, 0)
-    }
-
     // Every address is eight bytes, each below 256: the premises of the laws about addresses.
     pub fn is_bytes(self) -> bool
         ensures { λ _. ⌜ (length (self .0) ≡ 8) × Below 256 (self .0) ⌝ }
     {
         true
     }
+}
 
-    // The address of a number, its first wire byte lowest.
-    pub fn from_u64(x: u64) -> Self
-        ensures { λ r. ⌜ r .0 ≡ le 8 x ⌝ }
+impl OptionEui64 {
+    // The address x if its presence bit is set.
+    pub fn when(present: bool, x: u64) -> OptionEui64
+        ensures { λ r. ⌜ r ≡ ieeeIf present x ⌝ }
     {
-        let mut b = [0u8; 8];
-        octets::put_u64(&mut b, 0, x);
-        Eui64(b)
+        if present {
+            OptionEui64::Present(x)
+        } else {
+            OptionEui64::Absent
+        }
+    }
+
+    // How many bytes it takes in a frame.
+    pub fn size(self) -> usize
+        ensures { λ r. ⌜ (r ≡ length (ieeeBytes self)) × (r ≤ 8) ⌝ }
+    {
+        match self {
+            OptionEui64::Absent => 0,
+            OptionEui64::Present(_) => 8,
+        }
+    }
+
+    // Write it at place i, and give the place behind it.
+    pub fn put(self, out: &mut [u8], i: usize) -> usize
+        requires { ⌜ i + length (ieeeBytes self) ≤ length (now out) ⌝ }
+        ensures { λ r. ⌜ (r ≡ i + length (ieeeBytes self)) × (now (out .exit) ≡ over (now (out .entry)) i (ieeeBytes self)) ⌝ }
+    {
+        match self {
+            OptionEui64::Absent => i,
+            OptionEui64::Present(x) => {
+                octets::put_u64(out, i, x);
+                i + 8
+            }
+        }
     }
 }
 
@@ -221,17 +243,6 @@ impl Key {
         ensures { λ _. ⌜ (length (self .0) ≡ 16) × Below 256 (self .0) ⌝ }
     {
         true
-    }
-
-    // The key as two numbers.
-    pub fn to_halves(self) -> KeyHalves
-        ensures { λ r. ⌜ (r .first ≡ leAt 8 (self .0) 0) × (r .second ≡ leAt 8 (self .0) 8) ⌝ }
-    {
-        let b = self.0;
-        KeyHalves {
-            first: octets::read_u64(&b, 0),
-            second: octets::read_u64(&b, 8),
-        }
     }
 
     // The key of two numbers.

@@ -4,7 +4,7 @@ use mathlib.Core.Path.{sym, ap, _∙_}
 use mathlib.Core.Bool.{Bool, not, _||_}
 use Rattle.frame.proofs.security.no_ieee.Statement.{statement}
 use Rattle.frame.proofs.security.no_ieee.Tie as tie
-use Rattle.header.specs.Optional.{hasIeee}
+use Rattle.types.specs.Optional.{hasIeee}
 
 returns : tie.Need-returns
 returns c =

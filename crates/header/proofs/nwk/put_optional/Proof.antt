@@ -9,7 +9,8 @@ use Rattle.header.proofs.nwk.put_optional.Statement.{statement}
 use Rattle.header.proofs.nwk.put_optional.Tie as tie
 use Rattle.octets.specs.Strings.{over}
 use Rattle.octets.proofs.Strings.{over-then, over-three}
-use Rattle.header.specs.Optional.{ieeeBytes, multicastBytes, routeBytes}
+use Rattle.header.specs.Optional.{multicastBytes, routeBytes}
+use Rattle.types.specs.Optional.{ieeeBytes}
 
 put-requires : tie.Need-put-requires
 put-requires c κs = omega (arith, simp length-append at (c .before .before .pre .0))

@@ -4,7 +4,7 @@ use mathlib.Core.Path.{_∙_}
 use lib.Dec.{eqb}
 use Rattle.records.proofs.optional.ieee_at.Statement.{statement}
 use Rattle.records.proofs.optional.ieee_at.Tie as tie
-use Rattle.header.specs.Optional.{ieeeIf}
+use Rattle.types.specs.Optional.{ieeeIf}
 use Rattle.records.specs.Optional.{ieeeAt}
 
 returns : tie.Need-returns

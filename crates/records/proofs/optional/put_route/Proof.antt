@@ -10,7 +10,8 @@ use Rattle.octets.specs.Strings.{over}
 use Rattle.octets.specs.Numbers.{le}
 use Rattle.octets.proofs.Strings.{over-three}
 use Rattle.octets.proofs.Numbers.{length-le}
-use Rattle.header.specs.Optional.{bit, hasRoute, relayCount}
+use Rattle.header.specs.Optional.{hasRoute, relayCount}
+use Rattle.octets.specs.Fields.{bit}
 use Rattle.records.specs.Optional.{relayIndex, routeRecord}
 
 returns : tie.Need-returns

@@ -5,7 +5,7 @@ use Prim.Native.Nat.{ℕ}
 use lib.ListN.{getD}
 use Rattle.header.proofs.auxiliary.NwkAuxHeader.fields.Statement.{statement}
 use Rattle.header.proofs.auxiliary.NwkAuxHeader.fields.Tie as tie
-use Rattle.header.specs.Optional.{ieeeIf}
+use Rattle.types.specs.Optional.{ieeeIf}
 use Rattle.header.specs.Auxiliary.{auxBy}
 
 returns : tie.Need-returns

@@ -11,7 +11,7 @@ use Rattle.octets.specs.Strings.{over}
 use Rattle.octets.specs.Numbers.{le}
 use Rattle.octets.proofs.Strings.{over-then, over-three}
 use Rattle.octets.proofs.Numbers.{length-le}
-use Rattle.header.specs.Optional.{ieeeBytes}
+use Rattle.types.specs.Optional.{ieeeBytes}
 use Rattle.header.specs.AuxiliaryControl.{securityByte}
 use Rattle.header.specs.Auxiliary.{auxBytes}
 use Rattle.header.proofs.Pieces.{ieee-length}

@@ -6,7 +6,8 @@ use lib.ListN.{getD}
 use Rattle.header.proofs.nwk.NwkHeader.fields.Statement.{statement}
 use Rattle.header.proofs.nwk.NwkHeader.fields.Tie as tie
 use Rattle.octets.specs.Numbers.{leAt}
-use Rattle.header.specs.Optional.{ieeeIf, multicastIf, routeIf}
+use Rattle.header.specs.Optional.{multicastIf, routeIf}
+use Rattle.types.specs.Optional.{ieeeIf}
 use Rattle.header.specs.Reading.{headerBy}
 
 returns : tie.Need-returns

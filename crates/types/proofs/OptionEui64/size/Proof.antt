@@ -3,10 +3,10 @@ use borrow.Author.Needs.{needs}
 use mathlib.Core.Path.{sym, ap, _∙_}
 use native.Mathlib.Omega.{arith}
 use lib.ListN.{length}
-use Rattle.header.proofs.optional.OptionEui64.size.Statement.{statement}
-use Rattle.header.proofs.optional.OptionEui64.size.Tie as tie
-use Rattle.header.specs.declared.optional.OptionEui64.{OptionEui64}
-use Rattle.header.specs.Optional.{ieeeBytes}
+use Rattle.types.proofs.OptionEui64.size.Statement.{statement}
+use Rattle.types.proofs.OptionEui64.size.Tie as tie
+use Rattle.types.specs.declared.OptionEui64.{OptionEui64}
+use Rattle.types.specs.Optional.{ieeeBytes}
 use Rattle.octets.proofs.Numbers.{length-le}
 
 returns-2 : tie.Need-returns-2

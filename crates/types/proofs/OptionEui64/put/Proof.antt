@@ -7,10 +7,10 @@ use Prim.Native.Nat.{ℕ, _+_}
 use native.Mathlib.Nat.{add-zero}
 use native.Mathlib.Omega.{arith}
 use lib.ListN.{length}
-use Rattle.header.proofs.optional.OptionEui64.put.Statement.{statement}
-use Rattle.header.proofs.optional.OptionEui64.put.Tie as tie
-use Rattle.header.specs.declared.optional.OptionEui64.{OptionEui64}
-use Rattle.header.specs.Optional.{ieeeBytes}
+use Rattle.types.proofs.OptionEui64.put.Statement.{statement}
+use Rattle.types.proofs.OptionEui64.put.Tie as tie
+use Rattle.types.specs.declared.OptionEui64.{OptionEui64}
+use Rattle.types.specs.Optional.{ieeeBytes}
 use Rattle.octets.specs.Strings.{over}
 use Rattle.octets.proofs.Strings.{over-nil}
 use Rattle.octets.proofs.Numbers.{length-le}

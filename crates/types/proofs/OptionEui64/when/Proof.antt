@@ -2,9 +2,9 @@
 use borrow.Author.Needs.{needs}
 use mathlib.Core.Path.{sym, ap}
 use mathlib.Core.Bool.{Bool}
-use Rattle.header.proofs.optional.OptionEui64.when.Statement.{statement}
-use Rattle.header.proofs.optional.OptionEui64.when.Tie as tie
-use Rattle.header.specs.Optional.{ieeeIf}
+use Rattle.types.proofs.OptionEui64.when.Statement.{statement}
+use Rattle.types.proofs.OptionEui64.when.Tie as tie
+use Rattle.types.specs.Optional.{ieeeIf}
 
 returns : tie.Need-returns
 returns c = sym (ap (λ (b : Bool). ieeeIf b (c .before .args .x)) (c .if1 .taken))
