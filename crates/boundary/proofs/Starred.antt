@@ -4,7 +4,7 @@ use mathlib.Core.Path.{refl}
 use Rattle.octets.specs.Strings.{tab}
 use Rattle.octets.specs.Numbers.{le, leAt}
 use Rattle.octets.specs.Fields.{fields, packed}
-use Rattle.octets.specs.Refusals.{orElse, firstOf}
+use Rattle.octets.specs.Refusals.{unless, firstOf}
 use Rattle.field.specs.Field.{xtime, productOfBits, product, bitPower, power, inverse}
 use Rattle.field.specs.SBox.{bit, affineBit, ofBits, affine, sbox}
 use Rattle.header.specs.Control.{controlOf}
@@ -17,7 +17,7 @@ use Rattle.commands.specs.Writing.{wireOf, wire, wireBytes, commandBytes, secon
 use Rattle.boundary.specs.Starred.{All, starred, plainBytes, dataControl, routedControl, fromProbe, routedBytes, leaveWithRequest, timeout14, oneLink}
 
 pub starred-hold : All starred
-unfolding tab le leAt fields packed orElse firstOf xtime productOfBits product bitPower power inverse bit affineBit ofBits affine sbox controlOf sourceAt multicastAt routeAt relaysAt headerEnd optionalRefusals headerRefusal relaysOf headerBy blankHeader headerAnswer readHeader commandIdOf commandIds timeoutOf timeouts partSizes keptCount kept filled size width readField writeField sizes widths readFields writeFields plus summed headEnd announced bodyEnd values writeEntries bodyBytes leaveFormat leaveOf leaveValues timeoutRequestFormat timeoutRequestBy timeoutRequestOf timeoutRequestValues linkStatusFormat linkStatusOf linkStatusValues linkOf linkEntry firsts formatOf commandOf places frame listed bodyOf typedBy typed unparsed frameOf accepted readCommand wireOf wire wireBytes commandBytes seconds timeoutSeconds starred plainBytes dataControl routedControl fromProbe routedBytes leaveWithRequest timeout14 oneLink
+unfolding tab le leAt fields packed unless firstOf xtime productOfBits product bitPower power inverse bit affineBit ofBits affine sbox controlOf sourceAt multicastAt routeAt relaysAt headerEnd optionalRefusals headerRefusal relaysOf headerBy blankHeader headerAnswer readHeader commandIdOf commandIds timeoutOf timeouts partSizes keptCount kept filled size width readField writeField sizes widths readFields writeFields plus summed headEnd announced bodyEnd values writeEntries bodyBytes leaveFormat leaveOf leaveValues timeoutRequestFormat timeoutRequestBy timeoutRequestOf timeoutRequestValues linkStatusFormat linkStatusOf linkStatusValues linkOf linkEntry firsts formatOf commandOf places frame listed bodyOf typedBy typed unparsed frameOf accepted readCommand wireOf wire wireBytes commandBytes seconds timeoutSeconds starred plainBytes dataControl routedControl fromProbe routedBytes leaveWithRequest timeout14 oneLink
 starred-hold = (
   record { accepted = refl; header = refl; left = refl },
   (

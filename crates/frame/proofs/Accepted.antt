@@ -7,8 +7,8 @@ use Prim.Native.Nat.{ℕ, zero, suc, _-_, _≤_}
 use lib.ListN.{length}
 use lib.Dec.{ltb}
 use borrow.Author.Tests.{ltb-false, le-ltb}
-use Rattle.octets.specs.Refusals.{firstOf, orElse}
-use Rattle.octets.proofs.Refusals.{none-split, none-join, not-on, skip, empty}
+use Rattle.octets.specs.Refusals.{firstOf, unless}
+use Rattle.octets.proofs.Conditions.{none-split, none-join, not-on, skip, empty}
 use Rattle.header.specs.declared.auxiliary.NwkSecurityLevel.{NwkSecurityLevel}
 use Rattle.header.specs.declared.auxiliary.AuxRead.{AuxRead}
 use Rattle.header.specs.declared.nwk.HeaderRead.{HeaderRead}
@@ -53,7 +53,7 @@ sealable t h a p room e =
     }
 
 pub seal-accepts : (t : ℕ) (h : NwkHeader) (a : OptionAuxHeader) (p : List ℕ) (room : ℕ) → Sealable t h a p room → sealRefusal t h a p room ≡ 0
-unfolding sealRefusal lengthRefusals firstOf orElse
+unfolding sealRefusal lengthRefusals firstOf unless
 seal-accepts t h a p room s =
     rw (
       s .good,

@@ -11,7 +11,7 @@ use lib.ListN.{length, drop, length-append}
 use lib.Seq.{drop-at}
 use lib.Dec.{ltb}
 use borrow.Author.Tests.{le-ltb}
-use Rattle.octets.proofs.Refusals.{none-join, skip, empty}
+use Rattle.octets.proofs.Conditions.{none-join, skip, empty}
 use Rattle.header.specs.declared.auxiliary.AuxRead.{AuxRead}
 use Rattle.header.specs.declared.control.NwkFrameControl.{NwkFrameControl}
 use Rattle.header.specs.declared.nwk.HeaderRead.{HeaderRead}

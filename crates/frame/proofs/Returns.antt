@@ -12,8 +12,8 @@ use native.Mathlib.Omega.{arith}
 use borrow.Author.Tests.{lt-ltb, le-ltb, ltb-false}
 use Rattle.octets.specs.Strings.{over, Below}
 use Rattle.octets.proofs.Strings.{over-part, over-then}
-use Rattle.octets.specs.Refusals.{on, firstOf, orElse}
-use Rattle.octets.proofs.Refusals.{none-split, not-on, stop, skip, empty}
+use Rattle.octets.specs.Refusals.{on, firstOf, unless}
+use Rattle.octets.proofs.Conditions.{none-split, not-on, stop, skip, empty}
 use Rattle.header.specs.declared.auxiliary.AuxRead.{AuxRead}
 use Rattle.header.specs.declared.nwk.HeaderRead.{HeaderRead}
 use Rattle.header.specs.Reading.{readHeader}
@@ -47,17 +47,17 @@ nothing-behind f n h = part-behind f (length f) ∙ drop-length f ∙ sym (drop-
 
 -- a number that is not 0 comes first
 pub first-number : (n : ℕ) (ns : List ℕ) → (n ≡ 0 → ⊥) → firstOf (n ∷ ns) ≡ n
-unfolding firstOf orElse
+unfolding firstOf unless
 first-number zero ns h = absurd (h refl)
 first-number (suc n) ns h = refl
 
 pub no-number : (n : ℕ) (ns : List ℕ) → n ≡ 0 → firstOf (n ∷ ns) ≡ firstOf ns
-unfolding firstOf orElse
+unfolding firstOf unless
 no-number zero ns h = refl
 no-number (suc n) ns h = absurd (omega arith)
 
 behind-zero : (n : ℕ) → firstOf (n ∷ 0 ∷ []) ≡ n
-unfolding firstOf orElse
+unfolding firstOf unless
 behind-zero zero = refl
 behind-zero (suc n) = refl
 
@@ -76,7 +76,7 @@ pub aux-number : (h : ℕ) (s : Bool) (a p : ℕ) → h ≡ 0 → s ≡ true →
 aux-number h s a p e t = sym (past-header h s true a p e t ∙ behind-zero a)
 
 pub payload-number : (h : ℕ) (s : Bool) (a p : ℕ) → h ≡ 0 → s ≡ false → 108 < p → 12 ≡ frameRefusal h s a p
-payload-number h s a p e t l = sym (past-header h s false a p e t ∙ no-number 0 _ refl ∙ stop 11 _ [] (lt-ltb 108 p l))
+payload-number h s a p e t l = sym (past-header h s false a p e t ∙ no-number 0 _ refl ∙ stop 12 _ [] (lt-ltb 108 p l))
 
 pub no-refusal : (h : ℕ) (s : Bool) (a p : ℕ) → h ≡ 0 → s ≡ false → p ≤ 108 → 0 ≡ frameRefusal h s a p
 no-refusal h s a p e t l = sym (past-header h s false a p e t ∙ no-number 0 _ refl ∙ skip 12 _ [] (le-ltb 108 p l) ∙ empty)
@@ -204,8 +204,8 @@ module _ (key f o : List ℕ) (r : FrameRead) (read : r ≡ readFrame f) (n : �
   pub open-invalid : n ≡ 0 → verified networkLevel micLength key f r .valid ≡ false → openFrame key f o ≡ record { answer = openRefused 19; out = o }
   open-invalid e bad =
       run-number
-      ∙ ap (λ (k : ℕ). opened k r (verified networkLevel micLength key f r) o) (no-number n _ e ∙ stop 18 _ [] (ap not bad))
-      ∙ opened-stop 19 r (verified networkLevel micLength key f r) o (λ (z : 19 ≡ 0). omega arith)
+      ∙ ap (λ (k : ℕ). opened k r (verified networkLevel micLength key f r) o) (no-number n _ e ∙ stop 19 _ [] (ap not bad))
+      ∙ opened-stop 20 r (verified networkLevel micLength key f r) o (λ (z : 19 ≡ 0). omega arith)
 
   pub open-valid : n ≡ 0 → verified networkLevel micLength key f r .valid ≡ true
       → openFrame key f o ≡ record {

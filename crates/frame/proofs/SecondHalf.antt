@@ -10,7 +10,7 @@ use native.Mathlib.Omega.{arith}
 use lib.ListN.{length, getD, take, drop, length-drop, take-append-drop}
 use lib.Seq.{take-add, getD-drop, length-take-le}
 use Rattle.octets.specs.Strings.{Below}
-use Rattle.octets.proofs.Refusals.{none-split}
+use Rattle.octets.proofs.Conditions.{none-split}
 use Rattle.header.specs.declared.auxiliary.NwkSecurityLevel.{NwkSecurityLevel}
 use Rattle.header.specs.declared.auxiliary.NwkAuxHeader.{NwkAuxHeader}
 use Rattle.header.specs.declared.auxiliary.AuxRead.{AuxRead}

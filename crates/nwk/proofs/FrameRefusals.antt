@@ -9,8 +9,8 @@ use borrow.Author.Tests.{lt-ltb, le-ltb}
 use lib.Dec.{ltb}
 use lib.ListN.{length}
 use Rattle.octets.specs.Strings.{over}
-use Rattle.octets.specs.Refusals.{on, orElse, firstOf}
-use Rattle.octets.proofs.Refusals.{stop, skip, empty}
+use Rattle.octets.specs.Refusals.{on, unless, firstOf}
+use Rattle.octets.proofs.Conditions.{stop, skip, empty}
 use Rattle.ccm.specs.Operations.{micLength}
 use Rattle.ccm.specs.Verification.{Verified}
 use Rattle.frame.specs.declared.FrameRead.{FrameRead}
@@ -31,12 +31,12 @@ module _ (f : List ℕ) (h a : ℕ) where
 
   pub read-header-short : readFrame f .refusal ≡ 0 → h < 147 → 18 ≡ readFrameRefusal f h a
   unfolding readFrameRefusal
-  read-header-short e s = sym (pass (readFrame f .refusal) _ e ∙ stop 17 (ltb h 147) _ (lt-ltb h 147 s))
+  read-header-short e s = sym (pass (readFrame f .refusal) _ e ∙ stop 18 (ltb h 147) _ (lt-ltb h 147 s))
 
   pub read-aux-short : readFrame f .refusal ≡ 0 → 147 ≤ h → a < 19 → 18 ≡ readFrameRefusal f h a
   unfolding readFrameRefusal
   read-aux-short e l s =
-      sym (pass (readFrame f .refusal) _ e ∙ skip 18 (ltb h 147) _ (le-ltb h 147 l) ∙ stop 17 (ltb a 19) _ (lt-ltb a 19 s))
+      sym (pass (readFrame f .refusal) _ e ∙ skip 18 (ltb h 147) _ (le-ltb h 147 l) ∙ stop 18 (ltb a 19) _ (lt-ltb a 19 s))
 
   pub read-none : readFrame f .refusal ≡ 0 → 147 ≤ h → 19 ≤ a → readFrameRefusal f h a ≡ 0
   unfolding readFrameRefusal
@@ -47,17 +47,17 @@ module _ (f : List ℕ) (h a : ℕ) where
 
 -- 18 behind a number: the first test holds, or the second
 short-first : (n m : ℕ) (p q : Bool) → p ≡ true → firstOf (n ∷ 18 ∷ []) ≡ firstOf (n ∷ on 18 p ∷ on 18 q ∷ m ∷ [])
-unfolding firstOf orElse
+unfolding firstOf unless
 short-first zero m p q e = rw e refl
 short-first (suc n) m p q e = refl
 
 short-second : (n m : ℕ) (p q : Bool) → p ≡ false → q ≡ true → firstOf (n ∷ 18 ∷ []) ≡ firstOf (n ∷ on 18 p ∷ on 18 q ∷ m ∷ [])
-unfolding firstOf orElse
+unfolding firstOf unless
 short-second zero m p q e d = rw (e, d) refl
 short-second (suc n) m p q e d = refl
 
 short-not-none : (n : ℕ) → firstOf (n ∷ 18 ∷ []) ≡ 0 → ⊥
-unfolding firstOf orElse
+unfolding firstOf unless
 short-not-none zero e = omega arith
 short-not-none (suc n) e = omega arith
 
@@ -75,7 +75,7 @@ module _ (key f : List ℕ) (h a room : ℕ) where
 
 -- two tests that do not hold
 pass-two : (n m : ℕ) (p q : Bool) → p ≡ false → q ≡ false → firstOf (n ∷ on 18 p ∷ on 18 q ∷ m ∷ []) ≡ firstOf (n ∷ m ∷ [])
-unfolding firstOf orElse
+unfolding firstOf unless
 pass-two zero m p q e d = rw (e, d) refl
 pass-two (suc n) m p q e d = refl
 

@@ -6,8 +6,8 @@ use mathlib.Core.List.{List, [], _∷_}
 use Prim.Native.Nat.{ℕ, zero, suc, _≤_, _<_}
 use borrow.Author.Tests.{lt-ltb, le-ltb, eq-eqb, ne-eqb, ltb-false, eqb-true, not-false}
 use lib.Dec.{eqb, ltb}
-use Rattle.octets.specs.Refusals.{on, orElse, firstOf}
-use Rattle.octets.proofs.Refusals.{none-split, not-on, stop, skip, empty}
+use Rattle.octets.specs.Refusals.{on, unless, firstOf}
+use Rattle.octets.proofs.Conditions.{none-split, not-on, stop, skip, empty}
 use Rattle.header.specs.Reading.{headerRefusal, headerAnswer, readHeader}
 use Rattle.header.specs.Auxiliary.{auxRefusal, auxAnswer, readAux}
 use Rattle.nwk.specs.Cipher.{encryptRefusal, decryptLengths, decryptRefusal, blockRefusal}
@@ -15,23 +15,23 @@ use Rattle.nwk.specs.Cipher.{encryptRefusal, decryptLengths, decryptRefu
 -- ---- the first of a list
 
 pub first : (n : ℕ) (ns : List ℕ) → (n ≡ 0 → ⊥) → n ≡ firstOf (n ∷ ns)
-unfolding firstOf orElse
+unfolding firstOf unless
 first zero ns h = absurd (h refl)
 first (suc n) ns h = refl
 
 pub pass : (n : ℕ) (ns : List ℕ) → n ≡ 0 → firstOf (n ∷ ns) ≡ firstOf ns
-unfolding firstOf orElse
+unfolding firstOf unless
 pass n ns e = rw e refl
 
 pub single : (n : ℕ) → n ≡ firstOf (n ∷ [])
-unfolding firstOf orElse
+unfolding firstOf unless
 single zero = refl
 single (suc n) = refl
 
 -- ---- reading: the reader's own number n, then 18 for a record with too little room
 
 pub read-short : (n size room : ℕ) → n ≡ 0 → room < size → 18 ≡ firstOf (n ∷ on 18 (ltb room size) ∷ [])
-read-short n size room e h = sym (pass n (on 18 (ltb room size) ∷ []) e ∙ stop 17 (ltb room size) [] (lt-ltb room size h))
+read-short n size room e h = sym (pass n (on 18 (ltb room size) ∷ []) e ∙ stop 18 (ltb room size) [] (lt-ltb room size h))
 
 pub read-none : (n size room : ℕ) → n ≡ 0 → size ≤ room → firstOf (n ∷ on 18 (ltb room size) ∷ []) ≡ 0
 read-none n size room e h = pass n (on 18 (ltb room size) ∷ []) e ∙ skip 18 (ltb room size) [] (le-ltb room size h) ∙ empty
@@ -110,26 +110,26 @@ openable a c n m room e =
 
 -- refused by a length, by the MIC, or not
 pub decrypt-length : (a c n m room : ℕ) (valid : Bool) (k : ℕ) → k ≡ decryptLengths a c n m room → (k ≡ 0 → ⊥) → k ≡ decryptRefusal a c n m room valid
-unfolding decryptRefusal orElse
+unfolding decryptRefusal unless
 decrypt-length a c n m room valid zero e h = absurd (h refl)
 decrypt-length a c n m room valid (suc k) e h = rw (← e) refl
 
 pub decrypt-mic : (a c n m room : ℕ) (valid : Bool) → decryptLengths a c n m room ≡ 0 → valid ≡ false → 19 ≡ decryptRefusal a c n m room valid
-unfolding decryptRefusal orElse
+unfolding decryptRefusal unless
 decrypt-mic a c n m room valid e f = rw (e, f) refl
 
 pub decrypt-none : (a c n m room : ℕ) (valid : Bool) → decryptLengths a c n m room ≡ 0 → valid ≡ true → decryptRefusal a c n m room valid ≡ 0
-unfolding decryptRefusal orElse
+unfolding decryptRefusal unless
 decrypt-none a c n m room valid e f = rw (e, f) refl
 
 pub block-length : (n room : ℕ) → (n ≡ 16 → ⊥) → 13 ≡ blockRefusal n room
-unfolding blockRefusal firstOf orElse
+unfolding blockRefusal firstOf unless
 block-length n room h = rw (ne-eqb n 16 h) refl
 
 pub block-room : (n room : ℕ) → n ≡ 16 → room < 16 → 18 ≡ blockRefusal n room
-unfolding blockRefusal firstOf orElse
+unfolding blockRefusal firstOf unless
 block-room n room e h = rw (eq-eqb n 16 e, lt-ltb room 16 h) refl
 
 pub block-none : (n room : ℕ) → n ≡ 16 → 16 ≤ room → blockRefusal n room ≡ 0
-unfolding blockRefusal firstOf orElse
+unfolding blockRefusal firstOf unless
 block-none n room e h = rw (eq-eqb n 16 e, le-ltb room 16 h) refl

@@ -6,25 +6,25 @@ use lib.ListN.{length}
 use borrow.Author.Tests.{lt-ltb, le-ltb}
 use Rattle.frame.proofs.sealing.length_refusal.Statement.{statement}
 use Rattle.frame.proofs.sealing.length_refusal.Tie as tie
-use Rattle.octets.proofs.Refusals.{stop, skip, empty}
+use Rattle.octets.proofs.Conditions.{stop, skip, empty}
 use Rattle.frame.specs.Sealing.{sealedLength, lengthRefusals}
 use Rattle.frame.proofs.Returns.{long-payload, long-whole, not-long}
 
 returns : tie.Need-returns
 unfolding lengthRefusals
 returns c =
-    sym (stop 16 _ _ (long-payload (length (c .before .before .args .payload .now)) (sealedLength 4 (c .before .before .args .h) (c .before .before .args .aux) (c .before .before .args .payload .now)) (c .if1 .taken)))
+    sym (stop 17 _ _ (long-payload (length (c .before .before .args .payload .now)) (sealedLength 4 (c .before .before .args .h) (c .before .before .args .aux) (c .before .before .args .payload .now)) (c .if1 .taken)))
 
 returns-2 : tie.Need-returns-2
 unfolding lengthRefusals
 returns-2 c =
-    sym (stop 16 _ _ (long-whole (length (c .before .before .before .before .args .payload .now)) (sealedLength 4 (c .before .before .before .before .args .h) (c .before .before .before .before .args .aux) (c .before .before .before .before .args .payload .now)) (c .before .before .if1 .left) (omega arith)))
+    sym (stop 17 _ _ (long-whole (length (c .before .before .before .before .args .payload .now)) (sealedLength 4 (c .before .before .before .before .args .h) (c .before .before .before .before .args .aux) (c .before .before .before .before .args .payload .now)) (c .before .before .if1 .left) (omega arith)))
 
 returns-3 : tie.Need-returns-3
 unfolding lengthRefusals
 returns-3 c =
     sym (skip 17 _ _ (not-long (length (c .before .before .before .before .before .args .payload .now)) (sealedLength 4 (c .before .before .before .before .before .args .h) (c .before .before .before .before .before .args .aux) (c .before .before .before .before .before .args .payload .now)) (c .before .before .before .if1 .left) (omega arith))
-    ∙ stop 17 _ _ (lt-ltb (c .before .before .before .before .before .args .room) (sealedLength 4 (c .before .before .before .before .before .args .h) (c .before .before .before .before .before .args .aux) (c .before .before .before .before .before .args .payload .now)) (omega arith)))
+    ∙ stop 18 _ _ (lt-ltb (c .before .before .before .before .before .args .room) (sealedLength 4 (c .before .before .before .before .before .args .h) (c .before .before .before .before .before .args .aux) (c .before .before .before .before .before .args .payload .now)) (omega arith)))
 
 returns-4 : tie.Need-returns-4
 unfolding lengthRefusals

@@ -5,26 +5,26 @@ use Rattle.frame.proofs.sealing.seal_refusal.Statement.{statement}
 use Rattle.frame.proofs.sealing.seal_refusal.Tie as tie
 use Rattle.header.specs.declared.auxiliary.NwkAuxHeader.{NwkAuxHeader}
 use Rattle.octets.specs.Refusals.{firstOf}
-use Rattle.octets.proofs.Refusals.{stop, skip}
+use Rattle.octets.proofs.Conditions.{stop, skip}
 use Rattle.frame.specs.Security.{noIeee}
 use Rattle.frame.specs.Sealing.{lengthRefusals, sealRefusal}
 
 returns : tie.Need-returns
 unfolding sealRefusal
-returns c = sym (stop 12 _ _ (sym (c .before .is-bad .ensures) ∙ c .if1 .taken))
+returns c = sym (stop 13 _ _ (sym (c .before .is-bad .ensures) ∙ c .if1 .taken))
 
 returns-2 : tie.Need-returns-2
 unfolding sealRefusal
 returns-2 c =
     sym (skip 13 _ _ (sym (c .before .before .before .is-bad .ensures) ∙ c .before .before .if1 .left)
-    ∙ stop 13 _ _ (sym (c .before .is-absent .ensures) ∙ c .if2 .taken))
+    ∙ stop 14 _ _ (sym (c .before .is-absent .ensures) ∙ c .if2 .taken))
 
 returns-3 : tie.Need-returns-3
 unfolding sealRefusal
 returns-3 c =
     sym (skip 13 _ _ (sym (c .before .before .before .before .before .before .is-bad .ensures) ∙ c .before .before .before .before .before .if1 .left)
     ∙ skip 14 _ _ (sym (c .before .before .before .before .is-absent .ensures) ∙ c .before .before .before .if2 .left)
-    ∙ stop 14 _ _ (ap (noIeee (c .before .before .before .before .before .before .before .before .args .h)) (sym (c .before .before .or-blank .ensures)) ∙ sym (c .before .no-ieee .ensures) ∙ c .if3 .taken))
+    ∙ stop 15 _ _ (ap (noIeee (c .before .before .before .before .before .before .before .before .args .h)) (sym (c .before .before .or-blank .ensures)) ∙ sym (c .before .no-ieee .ensures) ∙ c .if3 .taken))
 
 returns-4 : tie.Need-returns-4
 unfolding sealRefusal

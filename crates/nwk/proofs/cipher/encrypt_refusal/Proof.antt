@@ -3,35 +3,35 @@ use mathlib.Core.Path.{refl}
 use borrow.Author.Tests.{lt-ltb, le-ltb, eq-eqb, ne-eqb}
 use Rattle.nwk.proofs.cipher.encrypt_refusal.Statement.{statement}
 use Rattle.nwk.proofs.cipher.encrypt_refusal.Tie as tie
-use Rattle.octets.specs.Refusals.{orElse, firstOf}
+use Rattle.octets.specs.Refusals.{unless, firstOf}
 use Rattle.nwk.specs.Cipher.{encryptRefusal}
 
 returns : tie.Need-returns
-unfolding encryptRefusal firstOf orElse
+unfolding encryptRefusal firstOf unless
 returns c = rw (lt-ltb 127 (c .before .args .auth) (c .if1 .taken)) refl
 
 returns-2 : tie.Need-returns-2
-unfolding encryptRefusal firstOf orElse
+unfolding encryptRefusal firstOf unless
 returns-2 c =
     rw (le-ltb 127 (c .before .before .args .auth) (c .before .if1 .left), lt-ltb 127 (c .before .before .args .payload) (c .if2 .taken)) refl
 
 returns-3 : tie.Need-returns-3
-unfolding encryptRefusal firstOf orElse
+unfolding encryptRefusal firstOf unless
 returns-3 c =
     rw (le-ltb 127 (c .before .before .before .args .auth) (c .before .before .if1 .left), le-ltb 127 (c .before .before .before .args .payload) (c .before .if2 .left), ne-eqb (c .before .before .before .args .nonce) 13 (c .if3 .taken)) refl
 
 returns-4 : tie.Need-returns-4
-unfolding encryptRefusal firstOf orElse
+unfolding encryptRefusal firstOf unless
 returns-4 c =
     rw (le-ltb 127 (c .before .before .before .before .args .auth) (c .before .before .before .if1 .left), le-ltb 127 (c .before .before .before .before .args .payload) (c .before .before .if2 .left), eq-eqb (c .before .before .before .before .args .nonce) 13 (c .before .if3 .left), lt-ltb (c .before .before .before .before .args .room) (c .before .before .before .before .args .payload) (c .if4 .taken)) refl
 
 returns-5 : tie.Need-returns-5
-unfolding encryptRefusal firstOf orElse
+unfolding encryptRefusal firstOf unless
 returns-5 c =
     rw (le-ltb 127 (c .before .before .before .before .before .args .auth) (c .before .before .before .before .if1 .left), le-ltb 127 (c .before .before .before .before .before .args .payload) (c .before .before .before .if2 .left), eq-eqb (c .before .before .before .before .before .args .nonce) 13 (c .before .before .if3 .left), le-ltb (c .before .before .before .before .before .args .room) (c .before .before .before .before .before .args .payload) (c .before .if4 .left), lt-ltb (c .before .before .before .before .before .args .mic-room) 4 (c .if5 .taken)) refl
 
 returns-6 : tie.Need-returns-6
-unfolding encryptRefusal firstOf orElse
+unfolding encryptRefusal firstOf unless
 returns-6 c =
     rw (le-ltb 127 (c .before .before .before .before .before .args .auth) (c .before .before .before .before .if1 .left), le-ltb 127 (c .before .before .before .before .before .args .payload) (c .before .before .before .if2 .left), eq-eqb (c .before .before .before .before .before .args .nonce) 13 (c .before .before .if3 .left), le-ltb (c .before .before .before .before .before .args .room) (c .before .before .before .before .before .args .payload) (c .before .if4 .left), le-ltb (c .before .before .before .before .before .args .mic-room) 4 (c .if5 .left)) refl
 

@@ -5,7 +5,7 @@ use native.Mathlib.Omega.{arith}
 use lib.ListN.{length}
 use Rattle.nwk.proofs.command.nwk_write_command.Statement.{statement}
 use Rattle.nwk.proofs.command.nwk_write_command.Tie as tie
-use Rattle.octets.proofs.Refusals.{stop, skip}
+use Rattle.octets.proofs.Conditions.{stop, skip}
 use Rattle.commands.specs.Writing.{commandBytes, writeRefusal, writeAnswer, writeBuffer}
 use Rattle.command_records.specs.Fields.{recorded}
 use Rattle.command_records.specs.Lists.{frameAt}
@@ -19,14 +19,14 @@ returns : tie.Need-returns
 unfolding writeCommandRefusal
 returns c =
     let a = c .before .before .before .before .before .args in
-    refused-by _ 13 _ _ _ (a .out .now) (sym (stop 12 (badCommandRecord (a .command .now)) _ (sym (c .before .before .is-bad .ensures) ∙ c .before .if1 .taken))) (λ e. omega arith) (c .answer .ensures)
+    refused-by _ 13 _ _ _ (a .out .now) (sym (stop 13 (badCommandRecord (a .command .now)) _ (sym (c .before .before .is-bad .ensures) ∙ c .before .if1 .taken))) (λ e. omega arith) (c .answer .ensures)
 
 returns-2 : tie.Need-returns-2
 unfolding writeCommandRefusal
 returns-2 c =
     let a = c .before .before .before .before .before .before .before .before .args in
     let t = untyped (recorded (a .command .now)) (sym (c .before .before .before .command-at .ensures) ∙ c .before .enum-told .given .1) in
-    refused-by _ 13 _ _ _ (a .out .now) (sym (skip 13 (badCommandRecord (a .command .now)) _ (sym (c .before .before .before .before .before .is-bad .ensures) ∙ c .before .before .before .before .if1 .left) ∙ stop 12 (isUntyped (recorded (a .command .now))) _ t)) (λ e. omega arith) (c .answer2 .ensures)
+    refused-by _ 13 _ _ _ (a .out .now) (sym (skip 13 (badCommandRecord (a .command .now)) _ (sym (c .before .before .before .before .before .is-bad .ensures) ∙ c .before .before .before .before .if1 .left) ∙ stop 13 (isUntyped (recorded (a .command .now))) _ t)) (λ e. omega arith) (c .answer2 .ensures)
 
 returns-3 : tie.Need-returns-3
 unfolding writeCommandRefusal commandGiven writeAnswer writeBuffer

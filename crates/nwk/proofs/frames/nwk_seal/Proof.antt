@@ -5,7 +5,7 @@ use native.Mathlib.Omega.{arith}
 use lib.ListN.{length}
 use Rattle.nwk.proofs.frames.nwk_seal.Statement.{statement}
 use Rattle.nwk.proofs.frames.nwk_seal.Tie as tie
-use Rattle.octets.proofs.Refusals.{stop, skip}
+use Rattle.octets.proofs.Conditions.{stop, skip}
 use Rattle.types.specs.Keys.{keyBytes}
 use Rattle.ccm.specs.Operations.{micLength}
 use Rattle.frame.specs.Sealing.{sealRefusal, sealFrame}
@@ -20,7 +20,7 @@ unfolding sealRecordsRefusal
 returns c =
     let a = c .before .before .before .before .before .before .before .args in
     let e = sym (c .before .before .is-bad .ensures) ∙ c .before .if1 .taken in
-    refused-by _ 13 _ _ _ (a .out .now) (sym (stop 12 (badHeaderRecord (a .header .now)) _ e)) (λ e. omega arith) (c .answer .ensures)
+    refused-by _ 13 _ _ _ (a .out .now) (sym (stop 13 (badHeaderRecord (a .header .now)) _ e)) (λ e. omega arith) (c .answer .ensures)
 
 returns-2 : tie.Need-returns-2
 unfolding sealRecordsRefusal
@@ -28,7 +28,7 @@ returns-2 c =
     let a = c .before .before .before .before .before .before .before .before .before .args in
     let e = sym (c .before .before .before .before .is-bad .ensures) ∙ c .before .before .before .if1 .left in
     let d = sym (c .before .before .is-bad2 .ensures) ∙ c .before .if2 .taken in
-    refused-by _ 13 _ _ _ (a .out .now) (sym (skip 13 (badHeaderRecord (a .header .now)) _ e ∙ stop 12 (badAuxRecord (a .auxiliary .now)) _ d)) (λ e. omega arith) (c .answer2 .ensures)
+    refused-by _ 13 _ _ _ (a .out .now) (sym (skip 13 (badHeaderRecord (a .header .now)) _ e ∙ stop 13 (badAuxRecord (a .auxiliary .now)) _ d)) (λ e. omega arith) (c .answer2 .ensures)
 
 returns-3 : tie.Need-returns-3
 unfolding sealRecordsRefusal sealedRecords sealFrame
