@@ -21,7 +21,7 @@ use Rattle.octets.specs.Strings.{Below}
 use Rattle.header.specs.declared.nwk.NwkHeader.{NwkHeader}
 use Rattle.header.specs.Reading.{readHeader}
 use Rattle.header.specs.Same.{Agrees, AuxAgrees, SameHeader, HeaderFits, AuxFits}
-use Rattle.header.specs.Writing as writing
+use Rattle.octets.specs.Writing as writing
 use Rattle.frame.specs.declared.OptionAuxHeader.{OptionAuxHeader}
 use Rattle.frame.specs.Security.{sentLevel, atLevel}
 use Rattle.frame.specs.Sealing.{sealFrame}
@@ -56,6 +56,7 @@ pub record Reopened (h : NwkHeader) (a : OptionAuxHeader) (p : List ℕ) (r : op
   pub accepted : r .answer .refusal ≡ 0
   pub header : SameHeader h (r .answer .header)
   pub auxiliary : r .answer .aux ≡ levelZero a
+  pub length : r .answer .length ≡ length p
   pub payload : payloadGiven r ≡ p
 
 abbrev pub FirstHalf : Type 0
@@ -78,6 +79,7 @@ pub record PlainControl (f : List ℕ) : Type 0 where
 -- what sealing afresh writes of an opened frame f
 pub record Resealed (f : List ℕ) (s : writing.Run) : Type 0 where
   pub accepted : s .answer .refusal ≡ 0
+  pub length : s .answer .length ≡ length f
   pub bytes : bytesWritten s ≡ f
 
 abbrev pub SecondHalf : Type 0

@@ -32,6 +32,11 @@ unfolding unless
 unless-either P zero a r pa pr = pa refl
 unless-either P (suc n) a r pa pr = pr
 
+pub unless-number : (n : ℕ) → unless n 0 n ≡ n
+unfolding unless
+unless-number zero = refl
+unless-number (suc n) = refl
+
 -- an answer bears the refusal's number
 pub answer-number : {A : Type 0} (number : A → ℕ) (n : ℕ) (a : A) (r : ℕ → A) → number a ≡ 0 → number (r n) ≡ n → number (unless n a (r n)) ≡ n
 unfolding unless

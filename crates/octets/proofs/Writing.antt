@@ -2,9 +2,11 @@
 -- Assumes nothing.
 use mathlib.Core.Path.{_≡_, refl}
 use mathlib.Core.List.{List}
-use Prim.Native.Nat.{ℕ}
+use Prim.Native.Nat.{ℕ, _≤_}
+use native.Mathlib.Omega.{arith}
+use lib.ListN.{length}
 use Rattle.octets.specs.Writing.{Run, wrote, wroteNothing, written}
-use Rattle.octets.proofs.Conditions.{accepted-by, refused-by, answer-number}
+use Rattle.octets.proofs.Conditions.{accepted-by, refused-by, unless-either, answer-number}
 
 pub write-accepted : (k n : ℕ) (bs o : List ℕ) → n ≡ k → n ≡ 0 → wrote bs o ≡ written k bs o
 unfolding written
@@ -18,3 +20,8 @@ write-refused k n bs o e h = refused-by k n (wrote bs o) (λ (m : ℕ). wroteNot
 pub written-number : (n : ℕ) (bs o : List ℕ) → written n bs o .answer .refusal ≡ n
 unfolding written
 written-number n bs o = answer-number (λ (r : Run). r .answer .refusal) n (wrote bs o) (λ (m : ℕ). wroteNothing m o) refl refl
+
+-- a writer's length is within the output, if its bytes are where it accepts
+pub written-within : (n : ℕ) (bs o : List ℕ) → (n ≡ 0 → length bs ≤ length o) → written n bs o .answer .length ≤ length o
+unfolding written
+written-within n bs o h = unless-either (λ (r : Run). r .answer .length ≤ length o) n (wrote bs o) (wroteNothing n o) h (omega arith)

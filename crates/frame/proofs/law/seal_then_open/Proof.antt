@@ -6,28 +6,36 @@ use native.Mathlib.Omega.{arith}
 use lib.Seq.{length-take-le}
 use Rattle.frame.proofs.law.seal_then_open.Statement.{statement}
 use Rattle.frame.proofs.law.seal_then_open.Tie as tie
-use Rattle.header.specs.declared.nwk.Written.{Written}
+use Rattle.octets.specs.declared.Written.{Written}
 use Rattle.frame.proofs.SealingLaw.{seal-within, first-half, first-half-run}
 
 slice-reshare-prefix-open : tie.Need-slice-reshare-prefix-open
 slice-reshare-prefix-open c =
-    let w = seal-within (c .before .before .before .before .before .before .before .before .before .args .key .0) (c .before .before .before .before .before .before .before .before .before .args .h) (c .before .before .before .before .before .before .before .before .before .args .aux) (c .before .before .before .before .before .before .before .before .before .args .payload .now) (c .before .before .before .before .before .before .before .before .before .args .frame .now) in
-    let e = ap (λ (r : Written). r .length) (c .before .before .seal .ensures .0) in
-    omega (arith, w, e, c .before .before .seal .kept .1 .1 .1 .1 .0)
+    let args = c .before .before .before .before .before .before .before .before .before .args in
+    let seal = c .before .before .seal in
+    let w = seal-within (args .key .0) (args .h) (args .aux) (args .payload .now) (args .frame .now) in
+    let e = ap (λ (r : Written). r .length) (seal .ensures .0) in
+    omega (arith, w, e, seal .kept .1 .1 .1 .1 .0)
 
 slice-aggregate-open : tie.Need-slice-aggregate-open
 slice-aggregate-open c =
-    let w = seal-within (c .before .before .before .before .before .before .before .before .before .before .args .key .0) (c .before .before .before .before .before .before .before .before .before .before .args .h) (c .before .before .before .before .before .before .before .before .before .before .args .aux) (c .before .before .before .before .before .before .before .before .before .before .args .payload .now) (c .before .before .before .before .before .before .before .before .before .before .args .frame .now) in
-    let e = ap (λ (r : Written). r .length) (c .before .before .before .seal .ensures .0) in
-    sym (length-take-le _ _ (omega (arith, w, e, c .before .before .before .seal .kept .1 .1 .1 .1 .0)))
+    let args = c .before .before .before .before .before .before .before .before .before .before .args in
+    let seal = c .before .before .before .seal in
+    let w = seal-within (args .key .0) (args .h) (args .aux) (args .payload .now) (args .frame .now) in
+    let e = ap (λ (r : Written). r .length) (seal .ensures .0) in
+    sym (length-take-le _ _ (omega (arith, w, e, seal .kept .1 .1 .1 .1 .0)))
 
 returns : tie.Need-returns
 returns c =
     let a = c .before .before .before .before .before .before .before .before .before .before .before .before .before .before .args in
+    let header-fits = c .before .before .before .before .before .before .before .before .before .before .header-fits in
+    let aux-option-fits = c .before .before .before .before .before .before .before .before .before .aux-option-fits in
+    let seal = c .before .before .before .before .before .before .before .seal in
+    let opened = c .before .before .«open» in
     λ accepted sec agrees aagrees room.
-    first-half-run (a .key .0) (a .h) (a .aux) (a .payload .now) (a .frame .now) (a .out .now) (c .before .before .before .before .before .before .before .seal .result) _ _ _
-    (c .before .before .before .before .before .before .before .seal .ensures .0) (c .before .before .before .before .before .before .before .seal .ensures .1) (c .before .before .«open» .ensures .0) (c .before .before .«open» .ensures .1)
-    (first-half (a .key .0) (a .h) (a .aux) (a .payload .now) (a .frame .now) (a .out .now) (c .before .before .before .before .before .before .before .before .before .before .header-fits .ensures) (c .before .before .before .before .before .before .before .before .before .aux-option-fits .ensures) accepted sec agrees aagrees room)
+    first-half-run (a .key .0) (a .h) (a .aux) (a .payload .now) (a .frame .now) (a .out .now) (seal .result) _ _ _
+    (seal .ensures .0) (seal .ensures .1) (opened .ensures .0) (opened .ensures .1)
+    (first-half (a .key .0) (a .h) (a .aux) (a .payload .now) (a .frame .now) (a .out .now) (header-fits .ensures) (aux-option-fits .ensures) accepted sec agrees aagrees room)
 
 pub seal-then-open-spec : {M : Type 1} → statement M
 seal-then-open-spec =
