@@ -11,7 +11,7 @@ use Rattle.octets.specs.declared.Written.{Written}
 use Rattle.header.specs.Reading.{readHeader}
 use Rattle.octets.specs.Writing as writing
 use Rattle.octets.specs.Writing.{wrote}
-use Rattle.octets.proofs.Conditions.{accepted}
+use Rattle.octets.proofs.Conditions.{accepted, unless-either}
 use Rattle.octets.proofs.Writing.{write-accepted, written-number, written-within}
 use Rattle.header.proofs.ReadBack.{same-cleared}
 use Rattle.ccm.specs.Operations.{micLength}
@@ -22,11 +22,11 @@ use Rattle.frame.specs.Reading.{readFrame}
 use Rattle.frame.specs.Security.{networkLevel, auxOf}
 use Rattle.frame.specs.Sealing.{sealRefusal, sealedBytes, sealFrame}
 use Rattle.frame.specs.Opening as opening
-use Rattle.frame.specs.Opening.{verified, openRefusal, openGiven, openBy, openFrame}
-use Rattle.frame.specs.SealingLaw.{FirstHalf, SecondHalf, Reopened, Resealed, bytesWritten, payloadGiven}
+use Rattle.frame.specs.Opening.{verified, openRefusal, openRefused, openGiven, openBy, openFrame}
+use Rattle.frame.specs.SealingLaw.{FirstHalf, SecondHalf, sealThenOpen, openThenSeal, Resealed, bytesWritten, payloadGiven}
 use Rattle.frame.proofs.Accepted.{Sealable, sealable, seal-accepts, Openable, openable, open-accepts, open-number}
 use Rattle.frame.proofs.FirstHalf.{sealed-length, reopened}
-use Rattle.frame.proofs.SecondHalf.{SecuredFacts, secured-facts, wholeRead, sealable-again, frame-again}
+use Rattle.frame.proofs.SecondHalf.{payload-length, SecuredFacts, secured-facts, wholeRead, sealable-again, frame-again}
 
 seal-number : (key : List ℕ) (h : NwkHeader) (a : OptionAuxHeader) (p o : List ℕ)
     → sealFrame key h a p o .answer .refusal ≡ sealRefusal micLength h a p (length o)
@@ -102,13 +102,25 @@ second-half key f out out₂ bytes accepted control size =
     let same = frame-again networkLevel micLength key f bytes s low (control .level) (o .tagged) (o .valid) in
     rw (run, take-over out (v .payload)) (resealed key f out₂ _ _ (v .payload) size able same)
 
--- the first half, by what sealing and opening in turn answered and left
-pub first-half-run : (key : List ℕ) (h : NwkHeader) (a : OptionAuxHeader) (p out out₂ : List ℕ) (w : Written) (frame : List ℕ) (r : FrameOpened) (o : List ℕ)
+-- ---- the two in turn, by what each answered and left
+
+pub seal-then-open-run : (key : List ℕ) (h : NwkHeader) (a : OptionAuxHeader) (p out out₂ : List ℕ) (w : Written) (frame : List ℕ) (r : FrameOpened) (o : List ℕ)
     → w ≡ sealFrame key h a p out .answer → frame ≡ sealFrame key h a p out .out
     → r ≡ openFrame key (take (w .length) frame) out₂ .answer → o ≡ openFrame key (take (w .length) frame) out₂ .out
-    → Reopened h a p (openFrame key (bytesWritten (sealFrame key h a p out)) out₂) → Reopened h a p (record { answer = r; out = o })
-first-half-run key h a p out out₂ w frame r o ew ef er eo law =
-    let bytes : take (w .length) frame ≡ bytesWritten (sealFrame key h a p out) = λ i. take (ew i .length) (ef i) in
-    let run : _≡_ {A = opening.Run} (record { answer = r; out = o }) (openFrame key (bytesWritten (sealFrame key h a p out)) out₂) =
-    (λ i. record { answer = er i; out = eo i }) ∙ ap (λ (f : List ℕ). openFrame key f out₂) bytes in
-    rw run law
+    → _≡_ {A = opening.Run} (record { answer = r; out = o }) (sealThenOpen key h a p out out₂)
+seal-then-open-run key h a p out out₂ w frame r o ew ef er eo =
+    (λ i. record { answer = er i; out = eo i }) ∙ (λ i. openFrame key (take (ew i .length) (ef i)) out₂)
+
+pub open-then-seal-run : (key f out out₂ : List ℕ) (d : FrameOpened) (o : List ℕ) (w : Written) (b : List ℕ)
+    → d ≡ openFrame key f out .answer → o ≡ openFrame key f out .out
+    → w ≡ sealFrame key (d .header) (d .aux) (take (d .length) o) out₂ .answer → b ≡ sealFrame key (d .header) (d .aux) (take (d .length) o) out₂ .out
+    → _≡_ {A = writing.Run} (record { answer = w; out = b }) (openThenSeal key f out out₂)
+open-then-seal-run key f out out₂ d o w b ed eo ew eb =
+    (λ i. record { answer = ew i; out = eb i }) ∙ (λ i. sealFrame key (ed i .header) (ed i .aux) (take (ed i .length) (eo i)) out₂)
+
+-- the length that opening gives is within the output
+pub open-within : (key f o : List ℕ) → openFrame key f o .answer .length ≤ length o
+unfolding openFrame openBy openRefused
+open-within key f o =
+    unless-either (λ (r : opening.Run). r .answer .length ≤ length o) (openRefusal networkLevel micLength key f (readFrame f) (length o)) _ _
+    (λ e. rw (payload-length networkLevel micLength key f (readFrame f)) (openable networkLevel micLength key f (readFrame f) (length o) e .fits)) (omega arith)

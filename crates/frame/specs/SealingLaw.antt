@@ -51,6 +51,10 @@ levelZero (OptionAuxHeader.Present a) = OptionAuxHeader.Present (atLevel sentLev
 
 -- ---- the first half
 
+-- sealing into a frame's buffer, then opening the bytes written
+abbrev pub sealThenOpen : List ℕ → NwkHeader → OptionAuxHeader → List ℕ → List ℕ → List ℕ → opening.Run
+sealThenOpen key h a p out out₂ = openFrame key (bytesWritten (sealFrame key h a p out)) out₂
+
 -- what opening r gives, of a frame sealed from the headers h and a and the payload p
 pub record Reopened (h : NwkHeader) (a : OptionAuxHeader) (p : List ℕ) (r : opening.Run) : Type 0 where
   pub accepted : r .answer .refusal ≡ 0
@@ -67,9 +71,14 @@ FirstHalf =
     → h .«frame_control» .security ≡ true
     → Agrees h → AuxOptionAgrees a
     → length p ≤ length out₂
-    → Reopened h a p (openFrame key (bytesWritten (sealFrame key h a p out)) out₂)
+    → Reopened h a p (sealThenOpen key h a p out out₂)
 
 -- ---- the second half
+
+-- opening a frame, then sealing afresh the headers and the payload given
+abbrev pub openThenSeal : List ℕ → List ℕ → List ℕ → List ℕ → writing.Run
+openThenSeal key f out out₂ =
+    sealFrame key (openFrame key f out .answer .header) (openFrame key f out .answer .aux) (payloadGiven (openFrame key f out)) out₂
 
 -- the security control byte, the first behind the header, arrived with level and bit 7 zero
 pub record PlainControl (f : List ℕ) : Type 0 where
@@ -89,5 +98,4 @@ SecondHalf =
     → openFrame key f out .answer .refusal ≡ 0
     → PlainControl f
     → length out₂ ≡ 118
-    → Resealed f
-    (sealFrame key (openFrame key f out .answer .header) (openFrame key f out .answer .aux) (payloadGiven (openFrame key f out)) out₂)
+    → Resealed f (openThenSeal key f out out₂)
