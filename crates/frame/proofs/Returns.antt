@@ -35,14 +35,6 @@ use Rattle.frame.proofs.SecondHalf.{drop-below, secured-facts, payload-
 use Rattle.frame.specs.declared.FrameRead.{FrameRead}
 use Rattle.frame.specs.Reading.{secured, auxBehind, frameRefusal, frameNumber, frameBy, readFrame}
 
--- ---- a part of a slice
-
-pub part-behind : (f : List ℕ) (n : ℕ) → take (length f - n) (drop n f) ≡ drop n f
-part-behind f n = take-all (length f - n) (drop n f) (rw (length-drop n f) (omega arith))
-
-pub nothing-behind : (f : List ℕ) (n : ℕ) → length f ≤ n → take (length f - length f) (drop (length f) f) ≡ drop n f
-nothing-behind f n h = part-behind f (length f) ∙ drop-length f ∙ sym (drop-of-length-le f h)
-
 -- ---- reading
 
 pub aux-number : (h : ℕ) (s : Bool) (a p : ℕ) → h ≡ 0 → s ≡ true → a ≡ frameRefusal h s a p
@@ -77,17 +69,6 @@ long-whole p w h k = rw (le-ltb 108 p h) (lt-ltb 118 w k)
 
 pub not-long : (p w : ℕ) → p ≤ 108 → w ≤ 118 → (ltb 108 p || ltb 118 w) ≡ false
 not-long p w h k = rw (le-ltb 108 p h) (le-ltb 118 w k)
-
--- ---- writing to a part that starts at place s
-
-pub part-over : (o m bs : List ℕ) (s : ℕ) → s ≤ length o → m ≡ over (take (length o - s) (drop s o)) 0 bs
-    → take s o ++ (m ++ drop (length o - s) (drop s o)) ≡ over o s bs
-part-over o m bs s h e =
-    let rest : drop (length o - s) (drop s o) ≡ [] = drop-of-length-le (drop s o) {i = length o - s} (rw (length-drop s o) (omega arith)) in
-    let inner : m ≡ over (drop s o) 0 bs = e ∙ ap (λ (l : List ℕ). over l 0 bs) (part-behind o s) in
-    (λ i. take s o ++ (inner i ++ rest i))
-    ∙ ap (λ (l : List ℕ). take s o ++ l) (append-nil (over (drop s o) 0 bs))
-    ∙ over-part o s 0 bs h ∙ ap (λ (k : ℕ). over o k bs) (add-zero s)
 
 -- ---- the authenticated bytes
 

@@ -1,6 +1,6 @@
 // The header record, 147 bytes.
 use crate::limits::exceeds;
-use crate::optional::bit_byte;
+use octets::bit_of;
 use crate::optional::ieee_at;
 use crate::optional::multicast_at;
 use crate::optional::put_ieee;
@@ -95,12 +95,12 @@ fn put_control(out: &mut [u8], c: NwkFrameControl)
         frame_type.code() as u8,
         c.protocol_version,
         discover_route.code() as u8,
-        bit_byte(c.multicast),
-        bit_byte(c.security),
-        bit_byte(c.source_route),
-        bit_byte(c.destination),
-        bit_byte(c.extended_source),
-        bit_byte(c.end_device_initiator),
+        bit_of(c.multicast),
+        bit_of(c.security),
+        bit_of(c.source_route),
+        bit_of(c.destination),
+        bit_of(c.extended_source),
+        bit_of(c.end_device_initiator),
         c.reserved1,
     ];
     octets::copy_at(out, 0, &values);

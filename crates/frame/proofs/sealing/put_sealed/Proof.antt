@@ -10,7 +10,7 @@ use Rattle.octets.specs.Strings.{over}
 use Rattle.octets.proofs.Strings.{over-then}
 use Rattle.ccm.specs.Operations.{sealedBy}
 use Rattle.ccm.proofs.Opening.{length-ciphertext}
-use Rattle.frame.proofs.Returns.{part-over}
+use Rattle.octets.proofs.Strings.{part-over}
 
 returns : tie.Need-returns
 returns c =
