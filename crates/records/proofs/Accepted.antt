@@ -2,12 +2,13 @@
 -- each byte keeps to the limit of its place. What was read is not bad, so what reading fills in, writing takes.
 -- Assumes nothing.
 use mathlib.Core.Path.{_≡_, refl}
-use mathlib.Core.Bool.{Bool, false, and-false}
+use mathlib.Core.Bool.{Bool, false, not, and-false}
 use mathlib.Core.List.{List}
 use Prim.Native.Nat.{ℕ, _<_}
 use native.Mathlib.Omega.{arith}
 use borrow.Author.Tests.{eq-eqb}
-use lib.ListN.{length, take, drop}
+use lib.Dec.{eqb}
+use lib.ListN.{length, getD, take, drop}
 use Rattle.octets.specs.Strings.{Below}
 use Rattle.octets.specs.Numbers.{le}
 use Rattle.header.specs.declared.control.NwkRouteDiscovery.{NwkRouteDiscovery}
@@ -85,7 +86,7 @@ header-taken h e =
 pub aux-taken : (present : Bool) (a : NwkAuxHeader) → badAuxRecord (auxRecord present a) ≡ false
 unfolding badAuxRecord
 aux-taken present a =
-    rw (eq-eqb (length (auxRecord present a)) 19 (length-aux present a), within-limits auxLimits (auxRecord present a) (aux-within present a)) (and-false _)
+    rw (eq-eqb (length (auxRecord present a)) 19 (length-aux present a), within-limits auxLimits (auxRecord present a) (aux-within present a)) (and-false (not (eqb (getD (auxRecord present a) 0 0) 0)))
 
 -- what was read
 pub read-header-taken : (f : List ℕ) → Below 256 f → readHeader f .refusal ≡ 0 → badHeaderRecord (headerRecord (readHeader f .header)) ≡ false

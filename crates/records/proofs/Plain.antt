@@ -27,7 +27,7 @@ use Rattle.header.proofs.Writable.{Good, header-good}
 use Rattle.header.proofs.ReadBack.{getD-at₀}
 use Rattle.records.specs.Optional.{ieeeRecord, multicastRecord, routeRecord}
 use Rattle.records.specs.HeaderRecord.{addressRecord, optionalRecord, headerRecord}
-use Rattle.records.specs.AuxiliaryRecord.{securityRecord, counterRecord, auxRecord}
+use Rattle.records.specs.AuxiliaryRecord.{securityRecord, counterRecord, auxRecord, auxLimits}
 use Rattle.records.proofs.Sizes.{length-aux}
 use Rattle.records.proofs.Within.{within-limits}
 use Rattle.records.proofs.Accepted.{header-taken, aux-within}

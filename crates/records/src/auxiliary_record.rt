@@ -1,12 +1,12 @@
 // The auxiliary record, 19 bytes.
 use crate::limits::exceeds;
-use octets::bit_of;
 use crate::optional::ieee_at;
 use crate::optional::put_ieee;
 use header::auxiliary::NwkAuxHeader;
 use header::auxiliary::NwkSecurityHeaderControlField;
 use header::auxiliary::NwkSecurityHeaderKeyId;
 use header::auxiliary::NwkSecurityLevel;
+use octets::bit_of;
 use types::OptionEui64;
 ghost use mathlib.Core.Path.{_≡_};
 ghost use mathlib.Core.List.{_++_};

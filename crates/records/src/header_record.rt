@@ -1,6 +1,5 @@
 // The header record, 147 bytes.
 use crate::limits::exceeds;
-use octets::bit_of;
 use crate::optional::ieee_at;
 use crate::optional::multicast_at;
 use crate::optional::put_ieee;
@@ -13,6 +12,7 @@ use header::control::NwkRouteDiscovery;
 use header::nwk::NwkHeader;
 use header::optional::NwkSourceRoute;
 use header::optional::OptionMulticast;
+use octets::bit_of;
 use types::Nwk;
 use types::OptionEui64;
 ghost use mathlib.Core.Path.{_≡_};

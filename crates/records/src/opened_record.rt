@@ -48,12 +48,12 @@ pub fn put_option(out: &mut [u8], aux: OptionAuxHeader)
 }
 
 // Write the number and the length, and zeros up to the header record.
-fn put_front(out: &mut [u8], refusal: u8, length: usize)
+fn put_front(out: &mut [u8], refusal: u8, n: usize)
     requires { ⌜ 16 ≤ length (now out) ⌝ }
-    ensures { λ _. ⌜ now (out .exit) ≡ over (now (out .entry)) 0 (openedFront refusal «length») ⌝ }
+    ensures { λ _. ⌜ now (out .exit) ≡ over (now (out .entry)) 0 (openedFront refusal n) ⌝ }
 {
-    let low = (length % 256) as u8;
-    let high = (length / 256 % 256) as u8;
+    let low = (n % 256) as u8;
+    let high = (n / 256 % 256) as u8;
     let values = [refusal, 0, low, high, 0, 0, 0, 0, 0, 0, 0, 0, 0, 0, 0, 0];
     octets::copy_at(out, 0, &values);
 }

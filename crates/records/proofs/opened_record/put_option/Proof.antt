@@ -1,32 +1,21 @@
+-- `put_option` meets its contract: the record of what is there, or of the blank one. Assumes nothing.
 use borrow.Author.Needs.{needs}
+use mathlib.Core.Path.{_∙_}
 use Rattle.records.proofs.opened_record.put_option.Statement.{statement}
 use Rattle.records.proofs.opened_record.put_option.Tie as tie
-use Rattle.records.proofs.opened_record.put_option.Reads as reads
-use Rattle.records.proofs.opened_record.put_option.Lts as lts
-use Rattle.frame.proofs.OptionAuxHeader.or_blank.Reads as or-blank-reads
-use Rattle.records.proofs.auxiliary_record.put_aux.Reads as put-aux-reads
-use Rattle.records.proofs.opened_record.is_present.Reads as is-present-reads
+use Rattle.octets.specs.Strings.{over}
+use Rattle.records.specs.AuxiliaryRecord.{auxRecord}
+use Rattle.records.specs.OpenedRecord.{optionRecord}
 
--- src/opened_record.rt:45:9
-is-present-requires : tie.Need-is-present-requires
-is-present-requires c κs = search needs
-
--- src/opened_record.rt:46:9
-or-blank-requires : tie.Need-or-blank-requires
-or-blank-requires c κs = search needs
-
--- src/opened_record.rt:47:5
-put-aux-requires : tie.Need-put-aux-requires
-put-aux-requires c κs = search needs
-
--- src/opened_record.rt:41:1
-same-length : tie.Need-same-length
-same-length c = search needs
-
--- src/opened_record.rt:41:1
 returns : tie.Need-returns
-returns c = ?
+unfolding optionRecord
+returns c =
+    let a = c .before .before .before .before .before .before .before .args in
+    let is-present = c .before .before .before .before .before .is-present in
+    let or-blank = c .before .before .before .before .or-blank in
+    c .before .before .put-aux .ensures ∙ (λ i. over (a .out .now) 0 (auxRecord (is-present .ensures i) (or-blank .ensures i)))
 
 pub put-option-spec : {M : Type 1} → statement M
 put-option-spec =
-    tie.close (tie.spec is-present-requires or-blank-requires put-aux-requires same-length returns)
+    tie.close
+    (tie.spec (λ c κs. search needs) (λ c κs. search needs) (λ c κs. search needs) (λ c. search needs) returns)
