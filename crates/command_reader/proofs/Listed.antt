@@ -11,13 +11,13 @@ use Rattle.octets.specs.Numbers.{leAt}
 use Rattle.octets.specs.Fields.{fields}
 use Rattle.commands.specs.Format.{Format, values, announced, summed, plus, headEnd, readFields, readField, kept, partSizes, size, sizes}
 use Rattle.commands.specs.Commands.{routeRecordFormat, linkStatusFormat, networkReportFormat, linkPowerDeltaFormat, relayOf, linkOf, noLink, powerOf, noPower}
-use Rattle.commands.specs.Reading.{places, frame, listOf, listed, typed, unparsed}
+use Rattle.commands.specs.Reading.{places, withLists, listOf, listed, typed, unparsed}
 use Rattle.commands.proofs.Commands.{map-tab}
 use Rattle.commands.proofs.Ranges.{tooBig}
 use Rattle.commands.proofs.Reread.{entryAt, length-read, Good, Writable}
 use Rattle.commands.proofs.RoundTrip.{typed-writable}
 use Rattle.commands.specs.declared.NwkCommand.{NwkCommand}
-use Rattle.commands.specs.declared.NwkCommandFrame.{NwkCommandFrame}
+use Rattle.commands.specs.declared.NwkCommandWithLists.{NwkCommandWithLists}
 use Rattle.commands.specs.declared.NwkCommandList.{NwkCommandList}
 use Rattle.commands.specs.declared.NwkLinkStatus.{NwkLinkStatus}
 use Rattle.commands.specs.declared.NwkPowerListEntry.{NwkPowerListEntry}
@@ -34,11 +34,11 @@ read-list of f s n e = ap (tab (λ (k : ℕ). of (entryAt f s k))) e ∙ sym (ma
 read-count : {A : Type 0} (of : List ℕ → A) (f : Format) (s : List ℕ) (n : ℕ) → n ≡ announced f s → n ≡ length (map of (values f s .entries))
 read-count of f s n e = e ∙ sym (length-read of f s)
 
-module _ (c : NwkCommand) (s : List ℕ) (b : NwkCommandFrame) (blank : b ≡ frame c [] [] [] [] []) where
+module _ (c : NwkCommand) (s : List ℕ) (b : NwkCommandWithLists) (blank : b ≡ withLists c [] [] [] [] []) where
   pub relays-listed : (n : ℕ) (xs : List ℕ) → n ≡ getD s 1 0 → xs ≡ places 0 53 (tab (λ (k : ℕ). leAt 2 s (2 + k * 2)) n)
       → record { command = b .command; «relay_count» = n; relays = xs; «link_statuses_len» = b .«link_statuses_len»; «link_statuses» = b .«link_statuses»; «report_information_count» = b .«report_information_count»; «pan_ids» = b .«pan_ids»; «list_count» = b .«list_count»; «power_list» = b .«power_list»; «unparsed_len» = b .«unparsed_len»; unparsed = b .unparsed }
       ≡ listed NwkCommandList.Relays c s
-  unfolding listed frame relayOf routeRecordFormat announced summed plus readFields readField size sizes headEnd
+  unfolding listed withLists relayOf routeRecordFormat announced summed plus readFields readField size sizes headEnd
   relays-listed n xs e q =
       let es : xs ≡ places 0 53 (map relayOf (values routeRecordFormat s .entries)) = q ∙ ap (places 0 53) (read-list relayOf routeRecordFormat s n e) in
       let count : n ≡ length (map relayOf (values routeRecordFormat s .entries)) = read-count relayOf routeRecordFormat s n e in
@@ -47,7 +47,7 @@ module _ (c : NwkCommand) (s : List ℕ) (b : NwkCommandFrame) (blank : b ≡ fr
   pub links-listed : (n : ℕ) (xs : List NwkLinkStatus) → n ≡ getD s 1 0 % 32 → xs ≡ places noLink 31 (tab (λ (k : ℕ). linkAt s (2 + k * 3)) n)
       → record { command = b .command; «relay_count» = b .«relay_count»; relays = b .relays; «link_statuses_len» = n; «link_statuses» = xs; «report_information_count» = b .«report_information_count»; «pan_ids» = b .«pan_ids»; «list_count» = b .«list_count»; «power_list» = b .«power_list»; «unparsed_len» = b .«unparsed_len»; unparsed = b .unparsed }
       ≡ listed NwkCommandList.LinkStatuses c s
-  unfolding listed frame linkAt linkStatusFormat kept partSizes fields announced summed plus readFields readField size sizes headEnd
+  unfolding listed withLists linkAt linkStatusFormat kept partSizes fields announced summed plus readFields readField size sizes headEnd
   links-listed n xs e q =
       let es : xs ≡ places noLink 31 (map linkOf (values linkStatusFormat s .entries)) = q ∙ ap (places noLink 31) (read-list linkOf linkStatusFormat s n e) in
       let count : n ≡ length (map linkOf (values linkStatusFormat s .entries)) = read-count linkOf linkStatusFormat s n e in
@@ -56,7 +56,7 @@ module _ (c : NwkCommand) (s : List ℕ) (b : NwkCommandFrame) (blank : b ≡ fr
   pub panIds-listed : (n : ℕ) (xs : List ℕ) → n ≡ getD s 1 0 % 32 → xs ≡ places 0 31 (tab (λ (k : ℕ). leAt 2 s (10 + k * 2)) n)
       → record { command = b .command; «relay_count» = b .«relay_count»; relays = b .relays; «link_statuses_len» = b .«link_statuses_len»; «link_statuses» = b .«link_statuses»; «report_information_count» = n; «pan_ids» = xs; «list_count» = b .«list_count»; «power_list» = b .«power_list»; «unparsed_len» = b .«unparsed_len»; unparsed = b .unparsed }
       ≡ listed NwkCommandList.PanIds c s
-  unfolding listed frame relayOf networkReportFormat kept partSizes fields announced summed plus readFields readField size sizes headEnd
+  unfolding listed withLists relayOf networkReportFormat kept partSizes fields announced summed plus readFields readField size sizes headEnd
   panIds-listed n xs e q =
       let es : xs ≡ places 0 31 (map relayOf (values networkReportFormat s .entries)) = q ∙ ap (places 0 31) (read-list relayOf networkReportFormat s n e) in
       let count : n ≡ length (map relayOf (values networkReportFormat s .entries)) = read-count relayOf networkReportFormat s n e in
@@ -65,15 +65,15 @@ module _ (c : NwkCommand) (s : List ℕ) (b : NwkCommandFrame) (blank : b ≡ fr
   pub powers-listed : (n : ℕ) (xs : List NwkPowerListEntry) → n ≡ getD s 2 0 → xs ≡ places noPower 35 (tab (λ (k : ℕ). powerAt s (3 + k * 3)) n)
       → record { command = b .command; «relay_count» = b .«relay_count»; relays = b .relays; «link_statuses_len» = b .«link_statuses_len»; «link_statuses» = b .«link_statuses»; «report_information_count» = b .«report_information_count»; «pan_ids» = b .«pan_ids»; «list_count» = n; «power_list» = xs; «unparsed_len» = b .«unparsed_len»; unparsed = b .unparsed }
       ≡ listed NwkCommandList.PowerList c s
-  unfolding listed frame powerAt linkPowerDeltaFormat kept partSizes fields announced summed plus readFields readField size sizes headEnd
+  unfolding listed withLists powerAt linkPowerDeltaFormat kept partSizes fields announced summed plus readFields readField size sizes headEnd
   powers-listed n xs e q =
       let es : xs ≡ places noPower 35 (map powerOf (values linkPowerDeltaFormat s .entries)) = q ∙ ap (places noPower 35) (read-list powerOf linkPowerDeltaFormat s n e) in
       let count : n ≡ length (map powerOf (values linkPowerDeltaFormat s .entries)) = read-count powerOf linkPowerDeltaFormat s n e in
       λ i. record { command = blank i .command; «relay_count» = blank i .«relay_count»; relays = blank i .relays; «link_statuses_len» = blank i .«link_statuses_len»; «link_statuses» = blank i .«link_statuses»; «report_information_count» = blank i .«report_information_count»; «pan_ids» = blank i .«pan_ids»; «list_count» = count i; «power_list» = es i; «unparsed_len» = blank i .«unparsed_len»; unparsed = blank i .unparsed }
 
-pub unparsed-kept : (s : List ℕ) (b : NwkCommandFrame) → b ≡ frame NwkCommand.Unparsed [] [] [] [] [] → (n : ℕ) (xs : List ℕ) → n ≡ length s → xs ≡ places 0 108 s
+pub unparsed-kept : (s : List ℕ) (b : NwkCommandWithLists) → b ≡ withLists NwkCommand.Unparsed [] [] [] [] [] → (n : ℕ) (xs : List ℕ) → n ≡ length s → xs ≡ places 0 108 s
     → record { command = b .command; «relay_count» = b .«relay_count»; relays = b .relays; «link_statuses_len» = b .«link_statuses_len»; «link_statuses» = b .«link_statuses»; «report_information_count» = b .«report_information_count»; «pan_ids» = b .«pan_ids»; «list_count» = b .«list_count»; «power_list» = b .«power_list»; «unparsed_len» = n; unparsed = xs } ≡ unparsed s
-unfolding unparsed frame
+unfolding unparsed withLists
 unparsed-kept s b blank n xs e q = λ i. record { command = blank i .command; «relay_count» = blank i .«relay_count»; relays = blank i .relays; «link_statuses_len» = blank i .«link_statuses_len»; «link_statuses» = blank i .«link_statuses»; «report_information_count» = blank i .«report_information_count»; «pan_ids» = blank i .«pan_ids»; «list_count» = blank i .«list_count»; «power_list» = blank i .«power_list»; «unparsed_len» = e i; unparsed = q i }
 
 -- ---- a typed list is within its places
@@ -90,9 +90,9 @@ unfolding linkPowerDeltaFormat announced summed plus readFields readField kept p
 power-count s = length-read powerOf linkPowerDeltaFormat s
 
 pub few-relays : (c : NwkCommand) (s : List ℕ) → Below 256 s → length s ≤ 108 → typed s ≡ TypedBody.Typed c → listOf c ≡ NwkCommandList.Relays → getD s 1 0 ≤ 53
-unfolding tooBig listed frame
+unfolding tooBig listed withLists
 few-relays c s b h e l = subst (λ (n : ℕ). n ≤ 53) (relay-count s) (ltb-false 53 _ (good c s NwkCommandList.Relays b h e l .1))
 
 pub few-powers : (c : NwkCommand) (s : List ℕ) → Below 256 s → length s ≤ 108 → typed s ≡ TypedBody.Typed c → listOf c ≡ NwkCommandList.PowerList → getD s 2 0 ≤ 35
-unfolding tooBig listed frame
+unfolding tooBig listed withLists
 few-powers c s b h e l = subst (λ (n : ℕ). n ≤ 35) (power-count s) (ltb-false 35 _ (good c s NwkCommandList.PowerList b h e l .1))

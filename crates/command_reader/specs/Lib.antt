@@ -1,2 +1,3 @@
 -- What the readers of a list's entries give.
 pub mod Entries
+pub mod Capability

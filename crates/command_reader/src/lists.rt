@@ -1,17 +1,16 @@
 // The lists of a command: filled from the bytes, with 0 past the count.
 
 ghost use mathlib.Core.Path.{_≡_};
-ghost use mathlib.Core.List.{[]};
 ghost use Prim.Native.Nat.{ℕ, _+_, _*_, _%_, _≤_};
 ghost use lib.ListN.{length, getD};
 ghost use Rattle.octets.specs.Strings.{tab};
 ghost use Rattle.octets.specs.Numbers.{leAt};
 ghost use Rattle.commands.specs.Commands.{noLink, noPower};
-ghost use Rattle.commands.specs.Reading.{frame, listed, places, unparsed};
+ghost use Rattle.commands.specs.Reading.{listed, places, unparsed};
 ghost use Rattle.commands.specs.declared.NwkCommandList.{NwkCommandList};
 ghost use Rattle.command_reader.specs.Entries.{linkAt, powerAt};
 use commands::NwkCommand;
-use commands::NwkCommandFrame;
+use commands::NwkCommandWithLists;
 use commands::NwkLinkStatus;
 use commands::NwkPowerListEntry;
 
@@ -25,30 +24,6 @@ const NO_POWER: NwkPowerListEntry = NwkPowerListEntry {
     device_address: 0,
     power_delta: 0,
 };
-
-// A command with no list: every count and every place 0.
-pub fn blank(command: NwkCommand) -> NwkCommandFrame
-    ensures { λ r. ⌜ r ≡ frame command [] [] [] [] [] ⌝ }
-{
-    let relays = [0u16; 53];
-    let link_statuses = [NO_LINK; 31];
-    let pan_ids = [0u16; 31];
-    let power_list = [NO_POWER; 35];
-    let unparsed = [0u8; 108];
-    NwkCommandFrame {
-        command,
-        relay_count: 0,
-        relays,
-        link_statuses_len: 0,
-        link_statuses,
-        report_information_count: 0,
-        pan_ids,
-        list_count: 0,
-        power_list,
-        unparsed_len: 0,
-        unparsed,
-    }
-}
 
 // The n relays of a route record.
 fn read_relays(s: &[u8], n: usize) -> [u16; 53]
@@ -131,11 +106,11 @@ fn read_power_list(s: &[u8], n: usize) -> [NwkPowerListEntry; 35]
 }
 
 // A route record with its relays.
-pub fn with_relays(command: NwkCommand, s: &[u8]) -> NwkCommandFrame
+pub fn with_relays(command: NwkCommand, s: &[u8]) -> NwkCommandWithLists
     requires { ⌜ getD (now s) 1 0 ≤ 53 ⌝ }
     ensures { λ r. ⌜ r ≡ listed NwkCommandList.Relays command (now (s .entry)) ⌝ }
 {
-    let mut filled = blank(command);
+    let mut filled = NwkCommandWithLists::blank(command);
     let n = octets::byte_at(s, 1);
     let relays = read_relays(s, n as usize);
     filled.relay_count = n;
@@ -144,10 +119,10 @@ pub fn with_relays(command: NwkCommand, s: &[u8]) -> NwkCommandFrame
 }
 
 // A link status with its entries.
-pub fn with_link_statuses(command: NwkCommand, s: &[u8]) -> NwkCommandFrame
+pub fn with_link_statuses(command: NwkCommand, s: &[u8]) -> NwkCommandWithLists
     ensures { λ r. ⌜ r ≡ listed NwkCommandList.LinkStatuses command (now (s .entry)) ⌝ }
 {
-    let mut filled = blank(command);
+    let mut filled = NwkCommandWithLists::blank(command);
     let n = octets::byte_at(s, 1) % 32;
     let links = read_link_statuses(s, n as usize);
     filled.link_statuses_len = n;
@@ -156,10 +131,10 @@ pub fn with_link_statuses(command: NwkCommand, s: &[u8]) -> NwkCommandFrame
 }
 
 // A network report with its PAN ids.
-pub fn with_pan_ids(command: NwkCommand, s: &[u8]) -> NwkCommandFrame
+pub fn with_pan_ids(command: NwkCommand, s: &[u8]) -> NwkCommandWithLists
     ensures { λ r. ⌜ r ≡ listed NwkCommandList.PanIds command (now (s .entry)) ⌝ }
 {
-    let mut filled = blank(command);
+    let mut filled = NwkCommandWithLists::blank(command);
     let n = octets::byte_at(s, 1) % 32;
     let pan_ids = read_pan_ids(s, n as usize);
     filled.report_information_count = n;
@@ -168,11 +143,11 @@ pub fn with_pan_ids(command: NwkCommand, s: &[u8]) -> NwkCommandFrame
 }
 
 // A link power delta with its power list.
-pub fn with_power_list(command: NwkCommand, s: &[u8]) -> NwkCommandFrame
+pub fn with_power_list(command: NwkCommand, s: &[u8]) -> NwkCommandWithLists
     requires { ⌜ getD (now s) 2 0 ≤ 35 ⌝ }
     ensures { λ r. ⌜ r ≡ listed NwkCommandList.PowerList command (now (s .entry)) ⌝ }
 {
-    let mut filled = blank(command);
+    let mut filled = NwkCommandWithLists::blank(command);
     let n = octets::byte_at(s, 2);
     let powers = read_power_list(s, n as usize);
     filled.list_count = n;
@@ -195,11 +170,11 @@ fn read_bytes(s: &[u8]) -> [u8; 108]
 }
 
 // An unparsed command: all the bytes, as they are.
-pub fn keep_unparsed(s: &[u8]) -> NwkCommandFrame
+pub fn keep_unparsed(s: &[u8]) -> NwkCommandWithLists
     requires { ⌜ length (now s) ≤ 108 ⌝ }
     ensures { λ r. ⌜ r ≡ unparsed (now (s .entry)) ⌝ }
 {
-    let mut kept = blank(NwkCommand::Unparsed);
+    let mut kept = NwkCommandWithLists::blank(NwkCommand::Unparsed);
     let bytes = read_bytes(s);
     kept.unparsed_len = s.len() as u8;
     kept.unparsed = bytes;

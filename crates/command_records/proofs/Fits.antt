@@ -14,10 +14,10 @@ use denote.Array.{each}
 use Rattle.commands.specs.Commands.{noLink, noPower}
 use Rattle.commands.proofs.Ranges.{Ranged}
 use Rattle.commands.proofs.InRange.{InRange, in-range}
-use Rattle.commands.proofs.NwkCommandFrame as nwk-command-frame
+use Rattle.commands.proofs.NwkCommandWithLists as nwk-command-with-lists
 use Rattle.commands.proofs.NwkLinkStatus as nwk-link-status
 use Rattle.commands.proofs.NwkPowerListEntry as nwk-power-list-entry
-use Rattle.commands.specs.declared.NwkCommandFrame.{NwkCommandFrame}
+use Rattle.commands.specs.declared.NwkCommandWithLists.{NwkCommandWithLists}
 use Rattle.commands.specs.declared.NwkLinkStatus.{NwkLinkStatus}
 use Rattle.commands.specs.declared.NwkPowerListEntry.{NwkPowerListEntry}
 
@@ -36,7 +36,7 @@ pub record ListFits {A : Type 0} (Fits : A → Type 0) (d : A) (places count : �
   pub length-is : length xs ≡ places
   pub entries : (k : ℕ) → Fits (getD xs k d)
 
-pub record FrameFits (f : NwkCommandFrame) : Type 0 where
+pub record CommandFits (f : NwkCommandWithLists) : Type 0 where
   pub command : Ranged (f .command)
   pub relays : ListFits Below16 0 53 (f .«relay_count») (f .relays)
   pub links : ListFits LinkFits noLink 31 (f .«link_statuses_len») (f .«link_statuses»)
@@ -54,8 +54,8 @@ links-fit (x ∷ xs) (u ∷ us) s zero = omega arith
 links-fit (x ∷ xs) (u ∷ us) s (suc k) = links-fit xs us (s .1) k
 
 -- every value of the type
-pub frame-fits : (f : NwkCommandFrame) (vs : List Val) → shadow (nwk-command-frame.the-row .own f vs) → FrameFits f
-frame-fits f vs s =
+pub command-fits : (f : NwkCommandWithLists) (vs : List Val) → shadow (nwk-command-with-lists.the-row .own f vs) → CommandFits f
+command-fits f vs s =
     let r : InRange f = in-range f vs s in
     record {
       command = r .command;

@@ -10,9 +10,9 @@ use Rattle.octets.specs.Strings.{over}
 use Rattle.octets.specs.Numbers.{le}
 use Rattle.octets.proofs.Strings.{over-front}
 use Rattle.octets.proofs.Numbers.{length-le}
-use Rattle.commands.specs.declared.MaybeEui64.{MaybeEui64}
+use Rattle.types.specs.declared.OptionEui64.{OptionEui64}
 use Rattle.commands.specs.declared.NwkCommand.{NwkCommand}
-use Rattle.commands.specs.declared.NwkCommandFrame.{NwkCommandFrame}
+use Rattle.commands.specs.declared.NwkCommandWithLists.{NwkCommandWithLists}
 use Rattle.commands.specs.declared.NwkLinkStatus.{NwkLinkStatus}
 use Rattle.commands.specs.declared.NwkPowerListEntry.{NwkPowerListEntry}
 use Rattle.commands.specs.Commands.{capabilityValues}
@@ -33,7 +33,7 @@ pub length-power : (ps : List NwkPowerListEntry) (k : ℕ) → length (powerEntr
 unfolding powerRecord
 length-power ps k = simp (length-append, length-le)
 
-pub length-address : (a : MaybeEui64) → length (addressRecord a) ≡ 9
+pub length-address : (a : OptionEui64) → length (addressRecord a) ≡ 9
 unfolding addressRecord
 length-address a = simp (length-append, length-le)
 
@@ -41,7 +41,7 @@ length-address a = simp (length-append, length-le)
 pub length-counted : (f : ℕ → List ℕ) (m : ℕ) → ((k : ℕ) → length (f k) ≡ m) → (c n : ℕ) → length (le 1 c ++ entries f n) ≡ 1 + m * n
 length-counted f m size c n = rw (length-append (le 1 c) (entries f n), length-le 1 c, entries-length f m size n) refl
 
-pub length-routing : (f : NwkCommandFrame) → length (routingRecord f) ≡ 232
+pub length-routing : (f : NwkCommandWithLists) → length (routingRecord f) ≡ 232
 unfolding routingRecord
 length-routing f =
     rw (
@@ -51,7 +51,7 @@ length-routing f =
     )
     refl
 
-pub length-network : (f : NwkCommandFrame) → length (networkRecord f) ≡ 169
+pub length-network : (f : NwkCommandWithLists) → length (networkRecord f) ≡ 169
 unfolding networkRecord
 length-network f =
     rw (

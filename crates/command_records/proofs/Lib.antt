@@ -4,4 +4,4 @@ pub mod Lengths
 pub mod Fits
 pub mod ListsBack
 pub mod RoundTrip
-pub mod Accepted
+mod Said

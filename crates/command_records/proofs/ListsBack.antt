@@ -13,13 +13,13 @@ use Rattle.octets.specs.Numbers.{le, leAt}
 use Rattle.octets.proofs.Strings.{tab-ext, tab-getD}
 use Rattle.octets.proofs.Numbers.{length-le, leAt-le, leAt-behind}
 use Rattle.commands.specs.Commands.{noLink, noPower}
-use Rattle.commands.specs.declared.NwkCommandFrame.{NwkCommandFrame}
+use Rattle.commands.specs.declared.NwkCommandWithLists.{NwkCommandWithLists}
 use Rattle.command_records.specs.Fields.{fieldsRecord}
-use Rattle.command_records.specs.Lists.{entries, numberEntry, linkRecord, linkEntry, powerRecord, powerEntry, linkAt, powerAt, frameAt}
+use Rattle.command_records.specs.Lists.{entries, numberEntry, linkRecord, linkEntry, powerRecord, powerEntry, linkAt, powerAt, withListsAt}
 use Rattle.command_records.specs.CommandRecord.{routingRecord, networkRecord, commandRecord}
 use Rattle.command_records.proofs.Entries.{entries-back}
 use Rattle.command_records.proofs.Lengths.{length-number, length-counted, length-fieldsRecord, length-routing, length-network}
-use Rattle.command_records.proofs.Fits.{Below16, LinkFits, PowerFits, ListFits, FrameFits}
+use Rattle.command_records.proofs.Fits.{Below16, LinkFits, PowerFits, ListFits, CommandFits}
 
 -- ---- a list with its count
 
@@ -93,7 +93,7 @@ bytes-back p xs i n e l =
 joined-length : (p s : List ℕ) (i n : ℕ) → length p ≡ i → length s ≡ n → length (p ++ s) ≡ i + n
 joined-length p s i n e l = rw (length-append p s, e, l) refl
 
-module _ (f : NwkCommandFrame) (w : FrameFits f) where
+module _ (f : NwkCommandWithLists) (w : CommandFits f) where
   -- the parts of the record
   abbrev fields : List ℕ
   fields = fieldsRecord (f .command)
@@ -160,10 +160,10 @@ module _ (f : NwkCommandFrame) (w : FrameFits f) where
             (bytes-back (front ++ le 1 (f .«unparsed_len»)) (f .unparsed) 427 108 (joined-length front (le 1 (f .«unparsed_len»)) 426 1 before-bytes (length-le 1 (f .«unparsed_len»))) (w .bytes .length-is)),
       )
 
-  -- the frame of a command's record, under the command that it says
-  pub frame-back : frameAt (f .command) (commandRecord f) ≡ f
-  unfolding frameAt
-  frame-back =
+  -- the withLists of a command's record, under the command that it says
+  pub lists-back : withListsAt (f .command) (commandRecord f) ≡ f
+  unfolding withListsAt
+  lists-back =
       λ i. record {
         command = f .command;
         «relay_count» = relays-stand .0 i;

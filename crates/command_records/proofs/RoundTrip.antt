@@ -2,74 +2,95 @@
 -- stands at its own place and is read back by the law of its kind; for the lists that is ListsBack.
 -- Assumes nothing.
 use mathlib.Core.Path.{_≡_, refl, sym, ap, _∙_}
-use mathlib.Core.Bool.{cond}
+use mathlib.Core.Bool.{Bool, true, false, cond}
 use mathlib.Core.List.{List, [], _∷_, _++_}
-use Prim.Native.Nat.{ℕ}
+use Prim.Native.Nat.{ℕ, _%_}
 use native.Mathlib.Nat.{mod-eq-of-lt}
-use lib.ListN.{getD}
+use borrow.Author.Tests.{eq-eqb}
+use lib.Dec.{ltb}
+use lib.ListN.{length, getD, length-append}
 use Rattle.octets.specs.Numbers.{le, leAt}
-use Rattle.octets.proofs.Numbers.{leAt-le}
-use Rattle.commands.specs.Codes.{commandIdOf, commandIds, bit, isSet, statusCode, updateIdentifierCode}
-use Rattle.commands.specs.Commands.{only, addressOf, capabilityOf, capabilityValues, routeRequestOf, routeRequestBy, routeReplyOf, networkStatusValues, leaveValues, routeRecordOf, rejoinRequestOf, rejoinRequestValues, rejoinResponseValues, linkStatusOf, linkStatusValues, networkReportOf, networkReportBy, networkUpdateValues, timeoutRequestValues, timeoutResponseValues, linkPowerDeltaOf, linkPowerDeltaBy, commissioningRequestOf, commissioningRequestBy, commissioningRequestValues, commissioningResponseValues}
-use Rattle.commands.specs.Reading.{places, commandOf}
+use Rattle.octets.proofs.Numbers.{length-le, leAt-le}
+use Rattle.octets.specs.Fields.{bit}
+use Rattle.commands.specs.Codes.{commandIdOf, commandIds, isSet, statusCode, updateIdentifierCode}
+use Rattle.commands.specs.Commands.{has, only, addressOf, capabilityOf, capabilityValues, routeRequestOf, routeRequestBy, routeReplyOf, networkStatusValues, leaveValues, routeRecordOf, rejoinRequestOf, rejoinRequestValues, rejoinResponseValues, linkStatusOf, linkStatusValues, networkReportOf, networkReportBy, networkUpdateValues, timeoutRequestValues, timeoutResponseValues, linkPowerDeltaOf, linkPowerDeltaBy, commissioningRequestOf, commissioningRequestBy, commissioningRequestValues, commissioningResponseValues}
+use Rattle.commands.specs.Reading.{places, commandOf, readAs}
 use Rattle.commands.specs.Writing.{wireOf}
 use Rattle.commands.proofs.CodeLaws.{manyToOne-back, associationStatus-lt, reportIdentifier-back, powerType-back, commissioningType-back}
 use Rattle.commands.proofs.Ranges.{InAddress, Ranged}
 use Rattle.commands.proofs.Commands.{back}
-use Rattle.commands.specs.declared.MaybeEui64.{MaybeEui64}
+use Rattle.types.specs.declared.OptionEui64.{OptionEui64}
 use Rattle.commands.specs.declared.NwkCommand.{NwkCommand}
 use Rattle.commands.specs.declared.NwkCommandId.{NwkCommandId}
-use Rattle.commands.specs.declared.NwkCommandFrame.{NwkCommandFrame}
+use Rattle.commands.specs.declared.NwkCommandIdCode.{NwkCommandIdCode}
+use Rattle.commands.specs.declared.NwkCommandWithLists.{NwkCommandWithLists}
+use Rattle.commands.specs.declared.NwkCommandRead.{NwkCommandRead}
 use Rattle.commands.specs.declared.TypedBody.{TypedBody}
-use Rattle.command_records.specs.Fields.{addressRecord, fieldBytes, fieldsRecord, recordValues, recordedBy, recorded}
-use Rattle.command_records.specs.Lists.{frameAt}
-use Rattle.command_records.specs.CommandRecord.{routingRecord, networkRecord, commandRecord}
-use Rattle.command_records.proofs.Fits.{FrameFits}
-use Rattle.command_records.proofs.ListsBack.{frame-back}
+use Rattle.command_records.specs.Fields.{addressRecord, fieldBytes, fieldsRecord, recordValues, areFlags, flagsFit, saidBy, said}
+use Rattle.command_records.specs.CommandRecord.{routingRecord, networkRecord, commandRecord, recordedBy, readRecord}
+use Rattle.command_records.proofs.Lengths.{length-fieldsRecord, length-routing, length-network}
+use Rattle.command_records.proofs.Fits.{CommandFits}
+use Rattle.command_records.proofs.ListsBack.{lists-back}
+use Rattle.command_records.proofs.Said.{flags}
 
 -- ---- the optional addresses
 
-address-back : (a : MaybeEui64) (rest : List ℕ) → InAddress a → addressOf (getD (addressRecord a ++ rest) 0 0) (leAt 8 (addressRecord a ++ rest) 1) ≡ a
+address-back : (a : OptionEui64) (rest : List ℕ) → InAddress a → addressOf (getD (addressRecord a ++ rest) 0 0) (leAt 8 (addressRecord a ++ rest) 1) ≡ a
 unfolding addressOf addressRecord le leAt
-address-back MaybeEui64.Absent rest h = refl
-address-back (MaybeEui64.Present x) rest h = ap MaybeEui64.Present (leAt-le 8 x [] h)
+address-back OptionEui64.Absent rest h = refl
+address-back (OptionEui64.Present x) rest h = ap OptionEui64.Present (leAt-le 8 x [] h)
 
 -- of a route reply, the second entry is the responder's, and the only one where the originator's is absent
 abbrev replyEntries : List ℕ → List (List ℕ)
 replyEntries s = cond (isSet (getD s 0 0)) ((leAt 8 s 1 ∷ []) ∷ (leAt 8 s 10 ∷ []) ∷ []) ((leAt 8 s 10 ∷ []) ∷ [])
 
-originator-back : (a b : MaybeEui64) (rest : List ℕ) → InAddress a
+originator-back : (a b : OptionEui64) (rest : List ℕ) → InAddress a
     → let s = addressRecord a ++ (addressRecord b ++ rest) in addressOf (bit (isSet (getD s 0 0))) (getD (getD (replyEntries s) 0 []) 0 0) ≡ a
 unfolding addressOf addressRecord le leAt
-originator-back MaybeEui64.Absent b rest h = refl
-originator-back (MaybeEui64.Present x) b rest h = ap MaybeEui64.Present (leAt-le 8 x [] h)
+originator-back OptionEui64.Absent b rest h = refl
+originator-back (OptionEui64.Present x) b rest h = ap OptionEui64.Present (leAt-le 8 x [] h)
 
-responder-back : (a b : MaybeEui64) (rest : List ℕ) → InAddress b
+responder-back : (a b : OptionEui64) (rest : List ℕ) → InAddress b
     → let s = addressRecord a ++ (addressRecord b ++ rest) in addressOf (getD s 9 0) (getD (getD (replyEntries s) (bit (isSet (getD s 0 0))) []) 0 0) ≡ b
 unfolding addressRecord le leAt
-responder-back MaybeEui64.Absent b rest h = address-back b rest h
-responder-back (MaybeEui64.Present x) b rest h = address-back b rest h
+responder-back OptionEui64.Absent b rest h = address-back b rest h
+responder-back (OptionEui64.Present x) b rest h = address-back b rest h
 
 -- ---- the command
 
+-- a record whose flags are 0 or 1 says what its values mean
+flagged : (id : NwkCommandId) (r : List ℕ) {t : TypedBody} → flagsFit id r ≡ true → commandOf id (recordValues id r) ≡ t
+    → saidBy (NwkCommandIdCode.Known id) r ≡ t
+flagged id r e p = sym (flags r id e) ∙ p
+
+bit-flag : (b : Bool) → ltb (bit b) 2 ≡ true
+bit-flag true = refl
+bit-flag false = refl
+
+presence-flag : (a : OptionEui64) → ltb (has a % 256) 2 ≡ true
+presence-flag OptionEui64.Absent = refl
+presence-flag (OptionEui64.Present x) = refl
+
 -- the command that the fields of c say, whatever lists follow
-fields-back : (c : NwkCommand) (f : NwkCommandFrame) (rest : List ℕ) → Ranged c → recorded (fieldsRecord c ++ rest) ≡ TypedBody.Typed c
-unfolding wireOf fieldsRecord places addressRecord fieldBytes recorded recordedBy recordValues commandIdOf commandIds commandOf capabilityOf capabilityValues routeRequestOf routeRequestBy routeReplyOf networkStatusValues leaveValues routeRecordOf rejoinRequestOf rejoinRequestValues rejoinResponseValues linkStatusOf linkStatusValues networkReportOf networkReportBy networkUpdateValues timeoutRequestValues timeoutResponseValues linkPowerDeltaOf linkPowerDeltaBy commissioningRequestOf commissioningRequestBy commissioningRequestValues commissioningResponseValues le leAt
+fields-back : (c : NwkCommand) (f : NwkCommandWithLists) (rest : List ℕ) → Ranged c → said (fieldsRecord c ++ rest) ≡ TypedBody.Typed c
+unfolding wireOf fieldsRecord places addressRecord fieldBytes said saidBy areFlags recordValues commandIdOf commandIds commandOf capabilityOf capabilityValues routeRequestOf routeRequestBy routeReplyOf networkStatusValues leaveValues routeRecordOf rejoinRequestOf rejoinRequestValues rejoinResponseValues linkStatusOf linkStatusValues networkReportOf networkReportBy networkUpdateValues timeoutRequestValues timeoutResponseValues linkPowerDeltaOf linkPowerDeltaBy commissioningRequestOf commissioningRequestBy commissioningRequestValues commissioningResponseValues le leAt
 fields-back (NwkCommand.RouteRequest c) f rest h =
-    ap (λ k. routeRequestBy k (recordValues NwkCommandId.RouteRequest (fieldsRecord (NwkCommand.RouteRequest c) ++ rest))) (manyToOne-back (c .«many_to_one»))
-    ∙ (λ i. TypedBody.Typed (NwkCommand.RouteRequest (record { «many_to_one» = c .«many_to_one»; «route_request_identifier» = c .«route_request_identifier»; «destination_address» = leAt-le 2 (c .«destination_address») [] (h .1) i; «path_cost» = mod-eq-of-lt (h .2) i; «destination_eui64» = address-back (c .«destination_eui64») [] (h .3) i })))
+    flagged NwkCommandId.RouteRequest (fieldsRecord (NwkCommand.RouteRequest c) ++ rest) (presence-flag (c .«destination_eui64»))
+    (ap (λ k. routeRequestBy k (recordValues NwkCommandId.RouteRequest (fieldsRecord (NwkCommand.RouteRequest c) ++ rest))) (manyToOne-back (c .«many_to_one»))
+    ∙ (λ i. TypedBody.Typed (NwkCommand.RouteRequest (record { «many_to_one» = c .«many_to_one»; «route_request_identifier» = c .«route_request_identifier»; «destination_address» = leAt-le 2 (c .«destination_address») [] (h .1) i; «path_cost» = mod-eq-of-lt (h .2) i; «destination_eui64» = address-back (c .«destination_eui64») [] (h .3) i }))))
 fields-back (NwkCommand.RouteReply c) f rest h =
-    λ i. TypedBody.Typed (NwkCommand.RouteReply (record { «route_request_identifier» = c .«route_request_identifier»; «originator_nwk» = leAt-le 2 (c .«originator_nwk») [] (h .1) i; «responder_nwk» = leAt-le 2 (c .«responder_nwk») [] (h .2) i; «path_cost» = mod-eq-of-lt (h .3) i; «originator_eui64» = originator-back (c .«originator_eui64») (c .«responder_eui64») [] (h .4) i; «responder_eui64» = responder-back (c .«originator_eui64») (c .«responder_eui64») [] (h .5) i }))
+    flagged NwkCommandId.RouteReply (fieldsRecord (NwkCommand.RouteReply c) ++ rest) (simp presence-flag)
+    (λ i. TypedBody.Typed (NwkCommand.RouteReply (record { «route_request_identifier» = c .«route_request_identifier»; «originator_nwk» = leAt-le 2 (c .«originator_nwk») [] (h .1) i; «responder_nwk» = leAt-le 2 (c .«responder_nwk») [] (h .2) i; «path_cost» = mod-eq-of-lt (h .3) i; «originator_eui64» = originator-back (c .«originator_eui64») (c .«responder_eui64») [] (h .4) i; «responder_eui64» = responder-back (c .«originator_eui64») (c .«responder_eui64») [] (h .5) i })))
 fields-back (NwkCommand.NetworkStatus c) f rest h =
     (λ i. commandOf NwkCommandId.NetworkStatus (only (statusCode (c .«status_code») ∷ leAt-le 2 (c .«network_address») [] h i ∷ [])))
     ∙ back (NwkCommand.NetworkStatus c) f .command
-fields-back (NwkCommand.Leave c) f rest h = back (NwkCommand.Leave c) f .command
+fields-back (NwkCommand.Leave c) f rest h = flagged NwkCommandId.Leave (fieldsRecord (NwkCommand.Leave c) ++ rest) (simp bit-flag) (back (NwkCommand.Leave c) f .command)
 fields-back NwkCommand.RouteRecord f rest h = refl
-fields-back (NwkCommand.RejoinRequest c) f rest h = back (NwkCommand.RejoinRequest c) f .command
+fields-back (NwkCommand.RejoinRequest c) f rest h = flagged NwkCommandId.RejoinRequest (fieldsRecord (NwkCommand.RejoinRequest c) ++ rest) (simp bit-flag) (back (NwkCommand.RejoinRequest c) f .command)
 fields-back (NwkCommand.RejoinResponse c) f rest h =
     (λ i. commandOf NwkCommandId.RejoinResponse (only (leAt-le 2 (c .«network_address») [] h i ∷ mod-eq-of-lt (associationStatus-lt (c .«rejoin_status»)) i ∷ [])))
     ∙ back (NwkCommand.RejoinResponse c) f .command
-fields-back (NwkCommand.LinkStatus c) f rest h = back (NwkCommand.LinkStatus c) f .command
+fields-back (NwkCommand.LinkStatus c) f rest h = flagged NwkCommandId.LinkStatus (fieldsRecord (NwkCommand.LinkStatus c) ++ rest) (simp bit-flag) (back (NwkCommand.LinkStatus c) f .command)
 fields-back (NwkCommand.NetworkReport c) f rest h =
     ap (λ k. networkReportBy k (recordValues NwkCommandId.NetworkReport (fieldsRecord (NwkCommand.NetworkReport c) ++ rest))) (reportIdentifier-back (c .«report_command_identifier»))
     ∙ (λ i. TypedBody.Typed (NwkCommand.NetworkReport (record { «report_command_identifier» = c .«report_command_identifier»; epid = leAt-le 8 (c .epid) [] h i })))
@@ -77,13 +98,14 @@ fields-back (NwkCommand.NetworkUpdate c) f rest h =
     (λ i. commandOf NwkCommandId.NetworkUpdate (only (c .«update_information_count» ∷ updateIdentifierCode (c .«update_command_identifier») ∷ leAt-le 8 (c .epid) [] (h .0) i ∷ mod-eq-of-lt (h .1) i ∷ leAt-le 2 (c .«new_pan_id») [] (h .2) i ∷ [])))
     ∙ back (NwkCommand.NetworkUpdate c) f .command
 fields-back (NwkCommand.EndDeviceTimeoutRequest c) f rest h = back (NwkCommand.EndDeviceTimeoutRequest c) f .command
-fields-back (NwkCommand.EndDeviceTimeoutResponse c) f rest h = back (NwkCommand.EndDeviceTimeoutResponse c) f .command
+fields-back (NwkCommand.EndDeviceTimeoutResponse c) f rest h = flagged NwkCommandId.EndDeviceTimeoutResponse (fieldsRecord (NwkCommand.EndDeviceTimeoutResponse c) ++ rest) (simp bit-flag) (back (NwkCommand.EndDeviceTimeoutResponse c) f .command)
 fields-back (NwkCommand.LinkPowerDelta c) f rest h =
     ap (λ k. linkPowerDeltaBy k (recordValues NwkCommandId.LinkPowerDelta (fieldsRecord (NwkCommand.LinkPowerDelta c) ++ rest))) (powerType-back (c .«command_type»))
 fields-back (NwkCommand.NetworkCommissioningRequest c) f rest h =
     let known = commissioningType-back (c .«commissioning_type») in
-    ap (λ k. commissioningRequestBy k (recordValues NwkCommandId.NetworkCommissioningRequest (fieldsRecord (NwkCommand.NetworkCommissioningRequest c) ++ rest))) known
-    ∙ sym (ap (λ k. commissioningRequestBy k (commissioningRequestValues c)) known) ∙ back (NwkCommand.NetworkCommissioningRequest c) f .command
+    flagged NwkCommandId.NetworkCommissioningRequest (fieldsRecord (NwkCommand.NetworkCommissioningRequest c) ++ rest) (simp bit-flag)
+    (ap (λ k. commissioningRequestBy k (recordValues NwkCommandId.NetworkCommissioningRequest (fieldsRecord (NwkCommand.NetworkCommissioningRequest c) ++ rest))) known
+    ∙ sym (ap (λ k. commissioningRequestBy k (commissioningRequestValues c)) known) ∙ back (NwkCommand.NetworkCommissioningRequest c) f .command)
 fields-back (NwkCommand.NetworkCommissioningResponse c) f rest h =
     (λ i. commandOf NwkCommandId.NetworkCommissioningResponse (only (leAt-le 2 (c .«network_address») [] h i ∷ mod-eq-of-lt (associationStatus-lt (c .status)) i ∷ [])))
     ∙ back (NwkCommand.NetworkCommissioningResponse c) f .command
@@ -91,17 +113,20 @@ fields-back NwkCommand.Unparsed f rest h = refl
 
 -- ---- the record
 
--- the record of a command says the command
-pub command-back : (f : NwkCommandFrame) → Ranged (f .command) → recorded (commandRecord f) ≡ TypedBody.Typed (f .command)
+pub length-command : (f : NwkCommandWithLists) → length (f .unparsed) ≡ 108 → length (commandRecord f) ≡ 535
 unfolding commandRecord
-command-back f h = fields-back (f .command) f (routingRecord f ++ (networkRecord f ++ (le 1 (f .«unparsed_len») ++ f .unparsed))) h
+length-command f l = simp (length-append, length-fieldsRecord, length-routing, length-network, length-le, l)
+
+-- the record of a command says the command
+said-back : (f : NwkCommandWithLists) → Ranged (f .command) → said (commandRecord f) ≡ TypedBody.Typed (f .command)
+unfolding commandRecord
+said-back f h = fields-back (f .command) f (routingRecord f ++ (networkRecord f ++ (le 1 (f .«unparsed_len») ++ f .unparsed))) h
 
 -- and with the command its lists
-pub record-back : (f : NwkCommandFrame) → FrameFits f → (recorded (commandRecord f) ≡ TypedBody.Typed (f .command)) × (frameAt (f .command) (commandRecord f) ≡ f)
-record-back f w = (command-back f (w .command), frame-back f w)
+pub record-back : (f : NwkCommandWithLists) → CommandFits f → readRecord (commandRecord f) ≡ readAs f
+unfolding readRecord recordedBy
+record-back f w =
+    rw (eq-eqb (length (commandRecord f)) 535 (length-command f (w .bytes .length-is)), said-back f (w .command)) (ap readAs (lists-back f w))
 
-pub record-injective : (f g : NwkCommandFrame) → FrameFits f → FrameFits g → commandRecord f ≡ commandRecord g → f ≡ g
-record-injective f g v w e =
-    let said : TypedBody.Typed (f .command) ≡ TypedBody.Typed (g .command) = sym (command-back f (v .command)) ∙ ap recorded e ∙ command-back g (w .command) in
-    let same : f .command ≡ g .command = cc in
-    sym (frame-back f v) ∙ (λ i. frameAt (same i) (e i)) ∙ frame-back g w
+pub record-injective : (f g : NwkCommandWithLists) → CommandFits f → CommandFits g → commandRecord f ≡ commandRecord g → f ≡ g
+record-injective f g v w e = ap (λ (r : NwkCommandRead). r .command) (sym (record-back f v) ∙ ap readRecord e ∙ record-back g w)

@@ -2,29 +2,30 @@
 -- command's own fields in the declared order, each at a fixed place, then 0. A truth value is a byte 0 or 1, a code its
 -- number, an optional IEEE address a presence byte and eight bytes that are 0 where it is absent.
 -- Assumes nothing.
-use Prim.Native.Nat.{ℕ}
-use mathlib.Core.Bool.{cond}
+use Prim.Native.Nat.{ℕ, zero, suc, _+_}
+use mathlib.Core.Bool.{Bool, true, cond, _&&_}
 use mathlib.Core.List.{List, [], _∷_, _++_}
 use lib.ListN.{getD, drop}
-use lib.Dec.{eqb}
+use lib.Dec.{ltb, eqb}
 use Rattle.octets.specs.Numbers.{le, leAt}
-use Rattle.commands.specs.declared.MaybeEui64.{MaybeEui64}
+use Rattle.types.specs.declared.OptionEui64.{OptionEui64}
+use Rattle.octets.specs.Fields.{bit}
 use Rattle.commands.specs.declared.NwkCommand.{NwkCommand}
 use Rattle.commands.specs.declared.NwkCommandId.{NwkCommandId}
 use Rattle.commands.specs.declared.NwkCommandIdCode.{NwkCommandIdCode}
 use Rattle.commands.specs.declared.TypedBody.{TypedBody}
-use Rattle.commands.specs.Codes.{bit, isSet, commandIdOf, manyToOneCode, statusCode, associationStatusCode, reportIdentifierCode, updateIdentifierCode, timeoutCode, timeoutStatusCode, powerTypeCode, commissioningTypeCode}
+use Rattle.commands.specs.Codes.{isSet, commandIdOf, manyToOneCode, statusCode, associationStatusCode, reportIdentifierCode, updateIdentifierCode, timeoutCode, timeoutStatusCode, powerTypeCode, commissioningTypeCode}
 use Rattle.commands.specs.Format.{Values}
 use Rattle.commands.specs.Commands.{has, capabilityValues, only}
 use Rattle.commands.specs.Reading.{places, commandOf}
 
 -- ---- the record of a command
 
-abbrev pub addressValue : MaybeEui64 → ℕ
-addressValue MaybeEui64.Absent = 0
-addressValue (MaybeEui64.Present x) = x
+abbrev pub addressValue : OptionEui64 → ℕ
+addressValue OptionEui64.Absent = 0
+addressValue (OptionEui64.Present x) = x
 
-unfoldable pub addressRecord : MaybeEui64 → List ℕ
+unfoldable pub addressRecord : OptionEui64 → List ℕ
 addressRecord a = le 1 (has a) ++ le 8 (addressValue a)
 
 -- identifier and fields
@@ -82,10 +83,33 @@ recordValues NwkCommandId.LinkPowerDelta r = only (getD r 1 0 ∷ [])
 recordValues NwkCommandId.NetworkCommissioningRequest r = only (getD r 1 0 ∷ drop 2 r)
 recordValues NwkCommandId.NetworkCommissioningResponse r = only (leAt 2 r 1 ∷ getD r 3 0 ∷ [])
 
-unfoldable pub recordedBy : NwkCommandIdCode → List ℕ → TypedBody
-recordedBy (NwkCommandIdCode.Known id) r = commandOf id (recordValues id r)
-recordedBy NwkCommandIdCode.Unknown r = TypedBody.NotTyped
+-- the n bytes from place i are each 0 or 1
+unfoldable pub areFlags : ℕ → ℕ → List ℕ → Bool
+areFlags i zero r = true
+areFlags i (suc n) r = areFlags i n r && ltb (getD r (i + n) 0) 2
 
--- the command that the record r says, if its identifier and codes are declared
-unfoldable pub recorded : List ℕ → TypedBody
-recorded r = cond (eqb (getD r 0 0) 0) (TypedBody.Typed NwkCommand.Unparsed) (recordedBy (commandIdOf (getD r 0 0)) r)
+-- the truth values and presence bytes of a command are
+abbrev pub flagsFit : NwkCommandId → List ℕ → Bool
+flagsFit NwkCommandId.RouteRequest r = areFlags 6 1 r
+flagsFit NwkCommandId.RouteReply r = areFlags 7 1 r && areFlags 16 1 r
+flagsFit NwkCommandId.NetworkStatus r = true
+flagsFit NwkCommandId.Leave r = areFlags 1 3 r
+flagsFit NwkCommandId.RouteRecord r = true
+flagsFit NwkCommandId.RejoinRequest r = areFlags 1 8 r
+flagsFit NwkCommandId.RejoinResponse r = true
+flagsFit NwkCommandId.LinkStatus r = areFlags 1 2 r
+flagsFit NwkCommandId.NetworkReport r = true
+flagsFit NwkCommandId.NetworkUpdate r = true
+flagsFit NwkCommandId.EndDeviceTimeoutRequest r = true
+flagsFit NwkCommandId.EndDeviceTimeoutResponse r = areFlags 2 3 r
+flagsFit NwkCommandId.LinkPowerDelta r = true
+flagsFit NwkCommandId.NetworkCommissioningRequest r = areFlags 2 8 r
+flagsFit NwkCommandId.NetworkCommissioningResponse r = true
+
+unfoldable pub saidBy : NwkCommandIdCode → List ℕ → TypedBody
+saidBy (NwkCommandIdCode.Known id) r = cond (flagsFit id r) (commandOf id (recordValues id r)) TypedBody.NotTyped
+saidBy NwkCommandIdCode.Unknown r = TypedBody.NotTyped
+
+-- the command that the fields of r say, if its identifier and codes are declared and its flags are 0 or 1
+unfoldable pub said : List ℕ → TypedBody
+said r = cond (eqb (getD r 0 0) 0) (TypedBody.Typed NwkCommand.Unparsed) (saidBy (commandIdOf (getD r 0 0)) r)

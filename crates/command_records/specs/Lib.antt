@@ -1,4 +1,4 @@
--- The record of a command: its layout, the command that a record says, and the bytes that its fields cannot take.
+-- The record of a command: its layout, and the command that a record says.
 pub mod Fields
 pub mod Lists
 pub mod CommandRecord

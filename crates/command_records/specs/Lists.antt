@@ -11,7 +11,7 @@ use Rattle.octets.specs.Numbers.{le, leAt}
 use Rattle.commands.specs.declared.NwkLinkStatus.{NwkLinkStatus}
 use Rattle.commands.specs.declared.NwkPowerListEntry.{NwkPowerListEntry}
 use Rattle.commands.specs.declared.NwkCommand.{NwkCommand}
-use Rattle.commands.specs.declared.NwkCommandFrame.{NwkCommandFrame}
+use Rattle.commands.specs.declared.NwkCommandWithLists.{NwkCommandWithLists}
 use Rattle.commands.specs.Commands.{noLink, noPower}
 
 -- the bytes of n entries, those of entry k being f k
@@ -45,8 +45,8 @@ unfoldable pub powerAt : List ℕ → ℕ → NwkPowerListEntry
 powerAt r i = record { «device_address» = leAt 2 r i; «power_delta» = getD r (i + 2) 0 }
 
 -- the command c with the lists of the record r
-unfoldable pub frameAt : NwkCommand → List ℕ → NwkCommandFrame
-frameAt c r =
+unfoldable pub withListsAt : NwkCommand → List ℕ → NwkCommandWithLists
+withListsAt c r =
     record {
       command = c;
       «relay_count» = getD r 25 0;

@@ -6,11 +6,10 @@ ghost use Prim.Native.Nat.{_+_, _≤_};
 ghost use lib.ListN.{length};
 ghost use Rattle.octets.specs.Strings.{over};
 ghost use Rattle.octets.specs.Numbers.{le};
-ghost use Rattle.commands.specs.Codes.{bit};
+ghost use Rattle.octets.specs.Fields.{bit};
 ghost use Rattle.commands.specs.Commands.{capabilityValues};
 ghost use Rattle.commands.specs.declared.NwkCommand.{NwkCommand};
 ghost use Rattle.command_records.specs.Fields.{addressValue, addressRecord, fieldBytes, fieldsRecord};
-use commands::MaybeEui64;
 use commands::NwkCommand;
 use commands::NwkEndDeviceTimeoutRequestCommand;
 use commands::NwkEndDeviceTimeoutResponseCommand;
@@ -27,41 +26,26 @@ use commands::NwkRejoinRequestCommand;
 use commands::NwkRejoinResponseCommand;
 use commands::NwkRouteReplyCommand;
 use commands::NwkRouteRequestCommand;
-ghost use Rattle.commands.specs.Commands.{has};
-
-// A truth value as a byte.
-fn bit_byte(b: bool) -> u8
-    ensures { λ r. ⌜ r ≡ bit b ⌝ }
-{
-    if b { 1 } else { 0 }
-}
-
-// Whether an address is present, as a byte.
-fn presence(a: MaybeEui64) -> u8
-    ensures { λ r. ⌜ r ≡ has a ⌝ }
-{
-    match a {
-        MaybeEui64::Absent => 0,
-        MaybeEui64::Present(_) => 1,
-    }
-}
+use commands::has_address;
+use octets::bit_of;
+use types::OptionEui64;
 
 // The address as a number, 0 where it is absent.
-fn address_value(a: MaybeEui64) -> u64
+fn address_value(a: OptionEui64) -> u64
     ensures { λ r. ⌜ r ≡ addressValue a ⌝ }
 {
     match a {
-        MaybeEui64::Absent => 0,
-        MaybeEui64::Present(x) => x,
+        OptionEui64::Absent => 0,
+        OptionEui64::Present(x) => x,
     }
 }
 
 // Write the nine bytes of an optional address at place i.
-fn put_address(out: &mut [u8], i: usize, a: MaybeEui64)
+fn put_address(out: &mut [u8], i: usize, a: OptionEui64)
     requires { ⌜ i + 9 ≤ length (now out) ⌝ }
     ensures { λ _. ⌜ now (out .exit) ≡ over (now (out .entry)) i (addressRecord a) ⌝ }
 {
-    octets::put_u8(out, i, presence(a));
+    octets::put_u8(out, i, has_address(a));
     octets::put_u64(out, i + 1, address_value(a));
 }
 
@@ -73,14 +57,14 @@ fn put_capability(out: &mut [u8], i: usize, c: NwkRejoinCapabilityInformation)
     let device_type = c.device_type;
     let power_source = c.power_source;
     let values = [
-        bit_byte(c.alternate_pan_coordinator),
-        bit_byte(device_type.bit()),
-        bit_byte(power_source.bit()),
-        bit_byte(c.receiver_on_when_idle),
-        bit_byte(c.reserved1),
-        bit_byte(c.reserved2),
-        bit_byte(c.security_capability),
-        bit_byte(c.allocate_address),
+        bit_of(c.alternate_pan_coordinator),
+        bit_of(device_type.bit()),
+        bit_of(power_source.bit()),
+        bit_of(c.receiver_on_when_idle),
+        bit_of(c.reserved1),
+        bit_of(c.reserved2),
+        bit_of(c.security_capability),
+        bit_of(c.allocate_address),
     ];
     octets::copy_at(out, i, &values);
 }
@@ -147,9 +131,9 @@ fn put_leave(out: &mut [u8], c: NwkLeaveCommand)
 {
     let values = [
         4,
-        bit_byte(c.rejoin),
-        bit_byte(c.request),
-        bit_byte(c.remove_children),
+        bit_of(c.rejoin),
+        bit_of(c.request),
+        bit_of(c.remove_children),
     ];
     octets::copy_at(out, 0, &values);
 }
@@ -188,7 +172,7 @@ fn put_link_status(out: &mut [u8], c: NwkLinkStatusCommand)
     requires { ⌜ 25 ≤ length (now out) ⌝ }
     ensures { λ _. ⌜ now (out .exit) ≡ over (now (out .entry)) 0 (fieldBytes (NwkCommand.LinkStatus c)) ⌝ }
 {
-    let values = [8, bit_byte(c.is_first_frame), bit_byte(c.is_last_frame)];
+    let values = [8, bit_of(c.is_first_frame), bit_of(c.is_last_frame)];
     octets::copy_at(out, 0, &values);
 }
 
@@ -239,9 +223,9 @@ fn put_timeout_response(out: &mut [u8], c: NwkEndDeviceTimeoutResponseCommand)
     let values = [
         12,
         status.code(),
-        bit_byte(c.mac_data_poll_keepalive_supported),
-        bit_byte(c.end_device_timeout_request_keepalive_supported),
-        bit_byte(c.power_negotation_support),
+        bit_of(c.mac_data_poll_keepalive_supported),
+        bit_of(c.end_device_timeout_request_keepalive_supported),
+        bit_of(c.power_negotation_support),
     ];
     octets::copy_at(out, 0, &values);
 }

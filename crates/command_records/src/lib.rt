@@ -1,20 +1,26 @@
 // Commands as byte records of fixed size and layout, the form in which they cross the C boundary: the record of a
-// command. The command of a record is the crate command_record_reader.
+// command, and the command of a record.
 
-pub mod fields;
-pub mod lists;
+mod fields;
+mod lists;
+mod read_fields;
+mod read_lists;
 
 ghost use mathlib.Core.Path.{_≡_};
 ghost use Prim.Native.Nat.{_≤_};
 ghost use lib.ListN.{length};
 ghost use Rattle.octets.specs.Strings.{over};
-ghost use Rattle.command_records.specs.CommandRecord.{commandRecord};
-use commands::NwkCommandFrame;
+ghost use Rattle.command_records.specs.CommandRecord.{commandRecord, readRecord};
+use commands::NwkCommand;
+use commands::NwkCommandRead;
+use commands::NwkCommandWithLists;
+use commands::TypedBody;
+use octets::refusals;
 
 pub const COMMAND_RECORD_SIZE: usize = 535;
 
 // Write the record of a command to the front of an output that has room for it.
-pub fn put_command(out: &mut [u8], f: NwkCommandFrame)
+pub fn put_command(out: &mut [u8], f: NwkCommandWithLists)
     requires { ⌜ 535 ≤ length (now out) ⌝ }
     ensures { λ _. ⌜ now (out .exit) ≡ over (now (out .entry)) 0 (commandRecord f) ⌝ }
 {
@@ -40,4 +46,30 @@ pub fn put_command(out: &mut [u8], f: NwkCommandFrame)
         power_list,
     );
     lists::put_unparsed(out, f.unparsed_len, unparsed);
+}
+
+// Read a record: the command that it says with its lists, or refusal 13 for another length, an undeclared identifier or
+// code, and a truth value or presence byte above 1.
+pub fn read_record(bytes: &[u8]) -> NwkCommandRead
+    ensures { λ r. ⌜ r ≡ readRecord (now (bytes .entry)) ⌝ }
+{
+    if bytes.len() != COMMAND_RECORD_SIZE {
+        let command = NwkCommandWithLists::blank(NwkCommand::Unparsed);
+        return NwkCommandRead {
+            refusal: refusals::FIELD,
+            command,
+        };
+    }
+    let TypedBody::Typed(said) = read_fields::command_at(bytes) else {
+        let command = NwkCommandWithLists::blank(NwkCommand::Unparsed);
+        return NwkCommandRead {
+            refusal: refusals::FIELD,
+            command,
+        };
+    };
+    let command = read_lists::with_lists_at(bytes, said);
+    NwkCommandRead {
+        refusal: 0,
+        command,
+    }
 }

@@ -1,3 +1,6 @@
--- What a command that is not refused gives its writer, and the tests before it is written.
+-- What is refused, what a command that is not refused gives its writer, and the bytes put one behind the other.
 mod Ready
-mod Tests
+mod LinkCosts
+mod WriteRefusal
+mod Chain
+mod ReplyBytes

@@ -20,16 +20,16 @@ use Rattle.commands.proofs.Ranges.{tooBig}
 use Rattle.commands.proofs.Lengths.{length-wire, or-right}
 use Rattle.commands.proofs.InRange.{InRange, misfits-test}
 use Rattle.commands.proofs.RoundTrip.{Accepted, accepts}
-use Rattle.command_fields.specs.Options.{LowCosts}
-use Rattle.commands.specs.declared.MaybeEui64.{MaybeEui64}
+use Rattle.command_writer.specs.Options.{LowCosts}
+use Rattle.types.specs.declared.OptionEui64.{OptionEui64}
 use Rattle.commands.specs.declared.NwkCommandId.{NwkCommandId}
 use Rattle.commands.specs.declared.NwkCommand.{NwkCommand}
-use Rattle.commands.specs.declared.NwkCommandFrame.{NwkCommandFrame}
+use Rattle.commands.specs.declared.NwkCommandWithLists.{NwkCommandWithLists}
 use Rattle.commands.specs.declared.NwkLinkStatus.{NwkLinkStatus}
 
 -- ---- the length of each command
 
-abbrev pub lengthBy : NwkCommand → NwkCommandFrame → ℕ
+abbrev pub lengthBy : NwkCommand → NwkCommandWithLists → ℕ
 lengthBy (NwkCommand.RouteRequest c) f = 6 + has (c .«destination_eui64») * 8
 lengthBy (NwkCommand.RouteReply c) f = 8 + has (c .«originator_eui64») * 8 + has (c .«responder_eui64») * 8
 lengthBy (NwkCommand.NetworkStatus c) f = 4
@@ -47,15 +47,15 @@ lengthBy (NwkCommand.NetworkCommissioningRequest c) f = 3
 lengthBy (NwkCommand.NetworkCommissioningResponse c) f = 4
 lengthBy NwkCommand.Unparsed f = f .«unparsed_len»
 
-address-length : (a : MaybeEui64) → length (addressEntry a) ≡ has a
-address-length MaybeEui64.Absent = refl
-address-length (MaybeEui64.Present x) = refl
+address-length : (a : OptionEui64) → length (addressEntry a) ≡ has a
+address-length OptionEui64.Absent = refl
+address-length (OptionEui64.Present x) = refl
 
-addresses-length : (a b : MaybeEui64) → length (addressEntry a ++ addressEntry b) ≡ has a + has b
-addresses-length MaybeEui64.Absent b = address-length b ∙ sym (native.Mathlib.Nat.zero-add (has b))
-addresses-length (MaybeEui64.Present x) b = ap suc (address-length b) ∙ sym (native.Mathlib.Numerals.one-add (has b))
+addresses-length : (a b : OptionEui64) → length (addressEntry a ++ addressEntry b) ≡ has a + has b
+addresses-length OptionEui64.Absent b = address-length b ∙ sym (native.Mathlib.Nat.zero-add (has b))
+addresses-length (OptionEui64.Present x) b = ap suc (address-length b) ∙ sym (native.Mathlib.Numerals.one-add (has b))
 
-pub length-by : (c : NwkCommand) (f : NwkCommandFrame) → length (wireBytes (wireOf c f)) ≡ lengthBy c f
+pub length-by : (c : NwkCommand) (f : NwkCommandWithLists) → length (wireBytes (wireOf c f)) ≡ lengthBy c f
 unfolding wireOf formatOf size sizes routeRequestFormat routeRequestValues routeReplyFormat routeReplyValues networkStatusFormat networkStatusValues leaveFormat leaveValues routeRecordFormat routeRecordValues rejoinRequestFormat rejoinRequestValues rejoinResponseFormat rejoinResponseValues linkStatusFormat linkStatusValues networkReportFormat networkReportValues networkUpdateFormat networkUpdateValues timeoutRequestFormat timeoutRequestValues timeoutResponseFormat timeoutResponseValues linkPowerDeltaFormat linkPowerDeltaValues commissioningRequestFormat commissioningRequestValues commissioningResponseFormat commissioningResponseValues capabilityField firsts wireBytes
 length-by (NwkCommand.RouteRequest c) f = length-wire NwkCommandId.RouteRequest _ ∙ (let h = address-length (c .«destination_eui64») in omega arith)
 length-by (NwkCommand.RouteReply c) f = length-wire NwkCommandId.RouteReply _ ∙ (let h = addresses-length (c .«originator_eui64») (c .«responder_eui64») in omega arith)
@@ -93,7 +93,7 @@ all-low links n e k h = costs-low (getD links k noLink) (by-test (heldFields (li
 
 -- ---- what each writer asks
 
-abbrev pub Ready : NwkCommand → NwkCommandFrame → ℕ → Type 0
+abbrev pub Ready : NwkCommand → NwkCommandWithLists → ℕ → Type 0
 Ready (NwkCommand.RouteRequest c) f room = 6 + has (c .«destination_eui64») * 8 ≤ room
 Ready (NwkCommand.RouteReply c) f room = 8 + has (c .«originator_eui64») * 8 + has (c .«responder_eui64») * 8 ≤ room
 Ready (NwkCommand.NetworkStatus c) f room = 4 ≤ room
@@ -115,7 +115,7 @@ or-left : (a b : Bool) → (a || b) ≡ false → a ≡ false
 or-left true b e = e
 or-left false b e = refl
 
-ready : (c : NwkCommand) (f : NwkCommandFrame) (room : ℕ) → tooBig (listOf c) c f ≡ false → lengthBy c f ≤ 108 → lengthBy c f ≤ room → Ready c f room
+ready : (c : NwkCommand) (f : NwkCommandWithLists) (room : ℕ) → tooBig (listOf c) c f ≡ false → lengthBy c f ≤ 108 → lengthBy c f ≤ room → Ready c f room
 unfolding tooBig
 ready (NwkCommand.RouteRequest c) f room e l h = h
 ready (NwkCommand.RouteReply c) f room e l h = h
@@ -135,7 +135,7 @@ ready (NwkCommand.NetworkCommissioningResponse c) f room e l h = h
 ready NwkCommand.Unparsed f room e l h = (l, h)
 
 -- a command that is not refused is ready to be written, by its case
-pub ready-by : (f : NwkCommandFrame) (room : ℕ) → InRange f → writeRefusal f room ≡ 0 → (c : NwkCommand) → f .command ≡ c → Ready c f room
+pub ready-by : (f : NwkCommandWithLists) (room : ℕ) → InRange f → writeRefusal f room ≡ 0 → (c : NwkCommand) → f .command ≡ c → Ready c f room
 unfolding commandBytes wire
 ready-by f room r e c q =
     let a : Accepted f room = accepts f room e in

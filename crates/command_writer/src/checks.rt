@@ -9,24 +9,23 @@ ghost use Rattle.octets.specs.Strings.{tab};
 ghost use Rattle.commands.specs.Format.{heldFields, heldEntries};
 ghost use Rattle.commands.specs.Commands.{has, linkStatusFormat, linkEntry, noLink};
 ghost use Rattle.commands.specs.Reading.{listOf};
-ghost use Rattle.commands.specs.Writing.{wire, misfits, updateCount, commandBytes, writeRefusal};
-use command_fields::puts;
+ghost use Rattle.commands.specs.Writing.{wire, misfits, updateCount, commandBytes, fieldRefusal, writeRefusal};
+use commands::MAX_NSDU_SIZE;
 use commands::NwkCommand;
-use commands::NwkCommandFrame;
 use commands::NwkCommandList;
+use commands::NwkCommandWithLists;
 use commands::NwkLinkStatus;
 use commands::NwkRouteReplyCommand;
 use commands::NwkRouteRequestCommand;
-
-// The most bytes that a command has.
-const MAX_NSDU_SIZE: usize = 108;
+use commands::has_address;
+use octets::refusals;
 
 // The length of a route request.
 fn route_request_length(c: NwkRouteRequestCommand) -> usize
     ensures { λ r. ⌜ r ≡ 6 + has (c .«destination_eui64») * 8 ⌝ }
 {
     let address = c.destination_eui64;
-    6 + (puts::has_address(address) as usize) * 8
+    6 + (has_address(address) as usize) * 8
 }
 
 // The length of a route reply.
@@ -35,31 +34,31 @@ fn route_reply_length(c: NwkRouteReplyCommand) -> usize
 {
     let originator = c.originator_eui64;
     let responder = c.responder_eui64;
-    8 + (puts::has_address(originator) as usize) * 8 + (puts::has_address(responder) as usize) * 8
+    8 + (has_address(originator) as usize) * 8 + (has_address(responder) as usize) * 8
 }
 
 // The exact length of a command's bytes.
-pub fn length_of(frame: NwkCommandFrame) -> usize
-    ensures { λ r. ⌜ r ≡ length (commandBytes frame) ⌝ }
+pub fn length_of(given: NwkCommandWithLists) -> usize
+    ensures { λ r. ⌜ r ≡ length (commandBytes given) ⌝ }
 {
-    let command = frame.command;
+    let command = given.command;
     match command {
         NwkCommand::RouteRequest(c) => route_request_length(c),
         NwkCommand::RouteReply(c) => route_reply_length(c),
         NwkCommand::NetworkStatus(_) => 4,
         NwkCommand::Leave(_) => 2,
-        NwkCommand::RouteRecord => 2 + (frame.relay_count as usize) * 2,
+        NwkCommand::RouteRecord => 2 + (given.relay_count as usize) * 2,
         NwkCommand::RejoinRequest(_) => 2,
         NwkCommand::RejoinResponse(_) => 4,
-        NwkCommand::LinkStatus(_) => 2 + (frame.link_statuses_len as usize) * 3,
-        NwkCommand::NetworkReport(_) => 10 + (frame.report_information_count as usize) * 2,
+        NwkCommand::LinkStatus(_) => 2 + (given.link_statuses_len as usize) * 3,
+        NwkCommand::NetworkReport(_) => 10 + (given.report_information_count as usize) * 2,
         NwkCommand::NetworkUpdate(_) => 13,
         NwkCommand::EndDeviceTimeoutRequest(_) => 3,
         NwkCommand::EndDeviceTimeoutResponse(_) => 3,
-        NwkCommand::LinkPowerDelta(_) => 3 + (frame.list_count as usize) * 3,
+        NwkCommand::LinkPowerDelta(_) => 3 + (given.list_count as usize) * 3,
         NwkCommand::NetworkCommissioningRequest(_) => 3,
         NwkCommand::NetworkCommissioningResponse(_) => 4,
-        NwkCommand::Unparsed => frame.unparsed_len as usize,
+        NwkCommand::Unparsed => given.unparsed_len as usize,
     }
 }
 
@@ -124,37 +123,48 @@ fn link_status_misfits(links: [NwkLinkStatus; 31], n: u8) -> bool
 }
 
 // A field exceeds its bits, or the command's list its places.
-fn misfits(frame: NwkCommandFrame) -> bool
-    ensures { λ r. ⌜ r ≡ misfits (listOf (frame .command)) (wire frame) ⌝ }
+fn misfits(given: NwkCommandWithLists) -> bool
+    ensures { λ r. ⌜ r ≡ misfits (listOf (given .command)) (wire given) ⌝ }
 {
-    let command = frame.command;
+    let command = given.command;
     let list = command.list();
     match list {
         NwkCommandList::NoList => update_count(command) > 31,
-        NwkCommandList::Relays => frame.relay_count > 53,
+        NwkCommandList::Relays => given.relay_count > 53,
         NwkCommandList::LinkStatuses => {
-            let links = frame.link_statuses;
-            link_status_misfits(links, frame.link_statuses_len)
+            let links = given.link_statuses;
+            link_status_misfits(links, given.link_statuses_len)
         }
-        NwkCommandList::PanIds => frame.report_information_count > 31,
-        NwkCommandList::PowerList => frame.list_count > 35,
+        NwkCommandList::PanIds => given.report_information_count > 31,
+        NwkCommandList::PowerList => given.list_count > 35,
         NwkCommandList::Bytes => false,
     }
 }
 
-// The refusal number, or 0: 13, 17 and 18 in this order.
-pub fn refusal(frame: NwkCommandFrame, room: usize) -> u8
-    ensures { λ r. ⌜ r ≡ writeRefusal frame room ⌝ }
+// What the fields are refused by, or 0.
+fn field_refusal(given: NwkCommandWithLists) -> u8
+    ensures { λ r. ⌜ r ≡ fieldRefusal given ⌝ }
 {
-    if misfits(frame) {
-        return 13;
+    if misfits(given) {
+        return refusals::FIELD;
     }
-    let n = length_of(frame);
+    0
+}
+
+// The refusal number, or 0: that of the fields, then 17 and 18 in this order.
+pub fn refusal(given: NwkCommandWithLists, room: usize) -> u8
+    ensures { λ r. ⌜ r ≡ writeRefusal given room ⌝ }
+{
+    let by_fields = field_refusal(given);
+    if by_fields != 0 {
+        return by_fields;
+    }
+    let n = length_of(given);
     if n > MAX_NSDU_SIZE {
-        return 17;
+        return refusals::LENGTH;
     }
     if room < n {
-        return 18;
+        return refusals::NO_ROOM;
     }
     0
 }

@@ -9,7 +9,8 @@ use native.Mathlib.Omega.{arith}
 use borrow.Author.Tests.{lt-ltb, le-ltb, eqb-true}
 use lib.Dec.{eqb, lit<}
 use lib.ListN.{getD}
-use Rattle.commands.specs.Codes.{commandIdCode, commandIdOf, commandIds, manyToOneCode, manyToOneOf, manyToOnes, statusCode, statusOf, statuses, associationStatusCode, associationStatusOf, associationStatuses, reportIdentifierCode, reportIdentifierOf, updateIdentifierCode, updateIdentifierOf, timeoutCode, timeoutOf, timeouts, timeoutStatusCode, timeoutStatusOf, timeoutStatuses, powerTypeCode, powerTypeOf, powerTypes, commissioningTypeCode, commissioningTypeOf, commissioningTypes, isSet, bit, deviceTypeBit, deviceTypeOf, powerSourceBit, powerSourceOf}
+use Rattle.octets.specs.Fields.{bit}
+use Rattle.commands.specs.Codes.{commandIdCode, commandIdOf, commandIds, manyToOneCode, manyToOneOf, manyToOnes, statusCode, statusOf, statuses, associationStatusCode, associationStatusOf, associationStatuses, reportIdentifierCode, reportIdentifierOf, updateIdentifierCode, updateIdentifierOf, timeoutCode, timeoutOf, timeouts, timeoutStatusCode, timeoutStatusOf, timeoutStatuses, powerTypeCode, powerTypeOf, powerTypes, commissioningTypeCode, commissioningTypeOf, commissioningTypes, isSet, deviceTypeBit, deviceTypeOf, powerSourceBit, powerSourceOf}
 use Rattle.commands.specs.Writing.{seconds, timeoutSeconds}
 use Rattle.commands.proofs.Format.{first, second}
 use Rattle.commands.specs.declared.NwkCommandId.{NwkCommandId}

@@ -11,15 +11,15 @@ use Rattle.octets.specs.Strings.{tab}
 use Rattle.octets.proofs.Strings.{length-tab, getD-tab}
 use Rattle.commands.specs.Format.{Field, Values, partSizes, keptCount, size, width, sizes, widths, plus, summed, values}
 use Rattle.commands.specs.Commands.{routeRequestFormat, routeRequestOf, routeRequestValues, routeReplyFormat, routeReplyOf, routeReplyValues, networkStatusFormat, networkStatusOf, networkStatusValues, leaveFormat, leaveOf, leaveValues, routeRecordFormat, routeRecordOf, routeRecordValues, rejoinRequestFormat, rejoinRequestOf, rejoinRequestValues, rejoinResponseFormat, rejoinResponseOf, rejoinResponseValues, linkStatusFormat, linkStatusOf, linkStatusValues, networkReportFormat, networkReportOf, networkReportValues, networkUpdateFormat, networkUpdateOf, networkUpdateValues, timeoutRequestFormat, timeoutRequestOf, timeoutRequestValues, timeoutResponseFormat, timeoutResponseOf, timeoutResponseValues, linkPowerDeltaFormat, linkPowerDeltaOf, linkPowerDeltaValues, commissioningRequestFormat, commissioningRequestOf, commissioningRequestValues, commissioningResponseFormat, commissioningResponseOf, commissioningResponseValues, routeRequestBy, networkStatusBy, rejoinResponseBy, networkReportBy, networkUpdateBy, timeoutRequestBy, timeoutResponseBy, linkPowerDeltaBy, commissioningRequestBy, commissioningResponseBy, capabilityField, capabilityOf, capabilityValues, has, addressEntry, addressOf, firsts, relayOf, relayEntry, linkOf, linkEntry, noLink, powerOf, powerEntry, noPower}
-use Rattle.commands.specs.Reading.{formatOf, commandOf, frame, listOf, listed, clearedBy}
+use Rattle.commands.specs.Reading.{formatOf, commandOf, withLists, listOf, listed, clearedBy}
 use Rattle.commands.specs.Writing.{Wire, wireOf}
 use Rattle.commands.specs.Writing.Wire.{body, raw}
 use Rattle.commands.proofs.Format.{Fit, Shaped}
 use Rattle.commands.proofs.CodeLaws.{manyToOne-back, status-back, associationStatus-back, reportIdentifier-back, updateIdentifier-back, timeout-back, timeoutStatus-back, powerType-back, commissioningType-back, isSet-bit, deviceType-back, powerSource-back}
-use Rattle.commands.specs.declared.MaybeEui64.{MaybeEui64}
+use Rattle.types.specs.declared.OptionEui64.{OptionEui64}
 use Rattle.commands.specs.declared.NwkCommandId.{NwkCommandId}
 use Rattle.commands.specs.declared.NwkCommand.{NwkCommand}
-use Rattle.commands.specs.declared.NwkCommandFrame.{NwkCommandFrame}
+use Rattle.commands.specs.declared.NwkCommandWithLists.{NwkCommandWithLists}
 use Rattle.commands.specs.declared.TypedBody.{TypedBody}
 use Rattle.commands.specs.declared.NwkRejoinCapabilityInformation.{NwkRejoinCapabilityInformation}
 use Rattle.commands.specs.declared.NwkRouteRequestCommand.{NwkRouteRequestCommand}
@@ -59,42 +59,42 @@ tab-shaped fs g n h k l = ap length (getD-tab g n k [] (rw (length-tab g n) at l
 
 -- ---- optional IEEE addresses
 
-address-shaped : (fs : List Field) (a : MaybeEui64) → widths fs ≡ 1 → Shaped fs (addressEntry a)
-address-shaped fs MaybeEui64.Absent w k h = absurd (not-suc-le-zero h)
-address-shaped fs (MaybeEui64.Present x) w zero h = sym w
-address-shaped fs (MaybeEui64.Present x) w (suc k) h = absurd (omega arith)
+address-shaped : (fs : List Field) (a : OptionEui64) → widths fs ≡ 1 → Shaped fs (addressEntry a)
+address-shaped fs OptionEui64.Absent w k h = absurd (not-suc-le-zero h)
+address-shaped fs (OptionEui64.Present x) w zero h = sym w
+address-shaped fs (OptionEui64.Present x) w (suc k) h = absurd (omega arith)
 
-addresses-shaped : (fs : List Field) (a b : MaybeEui64) → widths fs ≡ 1 → Shaped fs (addressEntry a ++ addressEntry b)
-addresses-shaped fs MaybeEui64.Absent b w k h = address-shaped fs b w k h
-addresses-shaped fs (MaybeEui64.Present x) b w zero h = sym w
-addresses-shaped fs (MaybeEui64.Present x) b w (suc k) h = address-shaped fs b w k (omega arith)
+addresses-shaped : (fs : List Field) (a b : OptionEui64) → widths fs ≡ 1 → Shaped fs (addressEntry a ++ addressEntry b)
+addresses-shaped fs OptionEui64.Absent b w k h = address-shaped fs b w k h
+addresses-shaped fs (OptionEui64.Present x) b w zero h = sym w
+addresses-shaped fs (OptionEui64.Present x) b w (suc k) h = address-shaped fs b w k (omega arith)
 
-address-count : (a : MaybeEui64) → has a ≡ length (addressEntry a)
-address-count MaybeEui64.Absent = refl
-address-count (MaybeEui64.Present x) = refl
+address-count : (a : OptionEui64) → has a ≡ length (addressEntry a)
+address-count OptionEui64.Absent = refl
+address-count (OptionEui64.Present x) = refl
 
-addresses-count : (a b : MaybeEui64) → has a + has b ≡ length (addressEntry a ++ addressEntry b)
-addresses-count MaybeEui64.Absent MaybeEui64.Absent = refl
-addresses-count MaybeEui64.Absent (MaybeEui64.Present x) = refl
-addresses-count (MaybeEui64.Present x) MaybeEui64.Absent = refl
-addresses-count (MaybeEui64.Present x) (MaybeEui64.Present y) = refl
+addresses-count : (a b : OptionEui64) → has a + has b ≡ length (addressEntry a ++ addressEntry b)
+addresses-count OptionEui64.Absent OptionEui64.Absent = refl
+addresses-count OptionEui64.Absent (OptionEui64.Present x) = refl
+addresses-count (OptionEui64.Present x) OptionEui64.Absent = refl
+addresses-count (OptionEui64.Present x) (OptionEui64.Present y) = refl
 
-first-address : (a : MaybeEui64) (es : List (List ℕ)) → addressOf (has a) (getD (getD (addressEntry a ++ es) 0 []) 0 0) ≡ a
+first-address : (a : OptionEui64) (es : List (List ℕ)) → addressOf (has a) (getD (getD (addressEntry a ++ es) 0 []) 0 0) ≡ a
 unfolding addressOf
-first-address MaybeEui64.Absent es = refl
-first-address (MaybeEui64.Present x) es = refl
+first-address OptionEui64.Absent es = refl
+first-address (OptionEui64.Present x) es = refl
 
-second-address : (a b : MaybeEui64) → addressOf (has b) (getD (getD (addressEntry a ++ addressEntry b) (has a) []) 0 0) ≡ b
+second-address : (a b : OptionEui64) → addressOf (has b) (getD (getD (addressEntry a ++ addressEntry b) (has a) []) 0 0) ≡ b
 unfolding addressOf
-second-address MaybeEui64.Absent MaybeEui64.Absent = refl
-second-address MaybeEui64.Absent (MaybeEui64.Present y) = refl
-second-address (MaybeEui64.Present x) MaybeEui64.Absent = refl
-second-address (MaybeEui64.Present x) (MaybeEui64.Present y) = refl
+second-address OptionEui64.Absent OptionEui64.Absent = refl
+second-address OptionEui64.Absent (OptionEui64.Present y) = refl
+second-address (OptionEui64.Present x) OptionEui64.Absent = refl
+second-address (OptionEui64.Present x) (OptionEui64.Present y) = refl
 
-only-address : (a : MaybeEui64) → addressOf (has a) (getD (getD (addressEntry a) 0 []) 0 0) ≡ a
+only-address : (a : OptionEui64) → addressOf (has a) (getD (getD (addressEntry a) 0 []) 0 0) ≡ a
 unfolding addressOf
-only-address MaybeEui64.Absent = refl
-only-address (MaybeEui64.Present x) = refl
+only-address OptionEui64.Absent = refl
+only-address (OptionEui64.Present x) = refl
 
 -- ---- capability information
 
@@ -115,16 +115,16 @@ capability-back c =
 -- ---- the fifteen
 
 -- what is written of a command means that command, with its list
-pub record Back (c : NwkCommand) (f : NwkCommandFrame) (id : NwkCommandId) (v : Values) : Type 0 where
+pub record Back (c : NwkCommand) (f : NwkCommandWithLists) (id : NwkCommandId) (v : Values) : Type 0 where
   pub fit : Fit (formatOf id) v
   pub command : commandOf id v ≡ TypedBody.Typed c
   pub list : (s : List ℕ) → values (formatOf id) s ≡ v → listed (listOf c) c s ≡ clearedBy (listOf c) c f
 
-abbrev pub WireBack : NwkCommand → NwkCommandFrame → Wire → Type 0
+abbrev pub WireBack : NwkCommand → NwkCommandWithLists → Wire → Type 0
 WireBack c f (body id v) = Back c f id v
 WireBack c f (raw bs) = c ≡ NwkCommand.Unparsed
 
-routeRequest-back : (c : NwkRouteRequestCommand) (f : NwkCommandFrame) → Back (NwkCommand.RouteRequest c) f NwkCommandId.RouteRequest (routeRequestValues c)
+routeRequest-back : (c : NwkRouteRequestCommand) (f : NwkCommandWithLists) → Back (NwkCommand.RouteRequest c) f NwkCommandId.RouteRequest (routeRequestValues c)
 unfolding formatOf commandOf listed clearedBy routeRequestFormat routeRequestOf routeRequestValues routeRequestBy partSizes keptCount size width sizes widths summed plus
 routeRequest-back c f =
     record {
@@ -135,7 +135,7 @@ routeRequest-back c f =
       list = λ s e. refl;
     }
 
-routeReply-back : (c : NwkRouteReplyCommand) (f : NwkCommandFrame) → Back (NwkCommand.RouteReply c) f NwkCommandId.RouteReply (routeReplyValues c)
+routeReply-back : (c : NwkRouteReplyCommand) (f : NwkCommandWithLists) → Back (NwkCommand.RouteReply c) f NwkCommandId.RouteReply (routeReplyValues c)
 unfolding formatOf commandOf listed clearedBy routeReplyFormat routeReplyOf routeReplyValues partSizes keptCount size width sizes widths summed plus
 routeReply-back c f =
     record {
@@ -145,7 +145,7 @@ routeReply-back c f =
       list = λ s e. refl;
     }
 
-networkStatus-back : (c : NwkNetworkStatusCommand) (f : NwkCommandFrame) → Back (NwkCommand.NetworkStatus c) f NwkCommandId.NetworkStatus (networkStatusValues c)
+networkStatus-back : (c : NwkNetworkStatusCommand) (f : NwkCommandWithLists) → Back (NwkCommand.NetworkStatus c) f NwkCommandId.NetworkStatus (networkStatusValues c)
 unfolding formatOf commandOf listed clearedBy networkStatusFormat networkStatusOf networkStatusValues networkStatusBy partSizes keptCount size width sizes widths summed plus
 networkStatus-back c f =
     record {
@@ -155,7 +155,7 @@ networkStatus-back c f =
       list = λ s e. refl;
     }
 
-leave-back : (c : NwkLeaveCommand) (f : NwkCommandFrame) → Back (NwkCommand.Leave c) f NwkCommandId.Leave (leaveValues c)
+leave-back : (c : NwkLeaveCommand) (f : NwkCommandWithLists) → Back (NwkCommand.Leave c) f NwkCommandId.Leave (leaveValues c)
 unfolding formatOf commandOf listed clearedBy leaveFormat leaveOf leaveValues partSizes keptCount size width sizes widths summed plus
 leave-back c f =
     record {
@@ -165,17 +165,17 @@ leave-back c f =
       list = λ s e. refl;
     }
 
-routeRecord-back : (f : NwkCommandFrame) → Back NwkCommand.RouteRecord f NwkCommandId.RouteRecord (routeRecordValues (f .relays) (f .«relay_count»))
+routeRecord-back : (f : NwkCommandWithLists) → Back NwkCommand.RouteRecord f NwkCommandId.RouteRecord (routeRecordValues (f .relays) (f .«relay_count»))
 unfolding formatOf commandOf listed clearedBy routeRecordFormat routeRecordOf routeRecordValues relayOf relayEntry firsts partSizes keptCount size width sizes widths summed plus
 routeRecord-back f =
     record {
       fit = record { head = refl; count = sym (length-tab (λ (k : ℕ). relayEntry (getD (f .relays) k 0)) (f .«relay_count»)); entries = tab-shaped (routeRecordFormat .entry) (λ (k : ℕ). relayEntry (getD (f .relays) k 0)) (f .«relay_count») (λ k. refl) };
       command =
           refl;
-      list = λ s e. ap (λ (x : List ℕ). frame NwkCommand.RouteRecord x [] [] [] []) (ap (λ (v : Values). map relayOf (v .entries)) e ∙ map-tab relayOf (λ (k : ℕ). relayEntry (getD (f .relays) k 0)) (f .«relay_count»));
+      list = λ s e. ap (λ (x : List ℕ). withLists NwkCommand.RouteRecord x [] [] [] []) (ap (λ (v : Values). map relayOf (v .entries)) e ∙ map-tab relayOf (λ (k : ℕ). relayEntry (getD (f .relays) k 0)) (f .«relay_count»));
     }
 
-rejoinRequest-back : (c : NwkRejoinRequestCommand) (f : NwkCommandFrame) → Back (NwkCommand.RejoinRequest c) f NwkCommandId.RejoinRequest (rejoinRequestValues c)
+rejoinRequest-back : (c : NwkRejoinRequestCommand) (f : NwkCommandWithLists) → Back (NwkCommand.RejoinRequest c) f NwkCommandId.RejoinRequest (rejoinRequestValues c)
 unfolding formatOf commandOf listed clearedBy rejoinRequestFormat rejoinRequestOf rejoinRequestValues capabilityField capabilityValues partSizes keptCount size width sizes widths summed plus
 rejoinRequest-back c f =
     record {
@@ -185,7 +185,7 @@ rejoinRequest-back c f =
       list = λ s e. refl;
     }
 
-rejoinResponse-back : (c : NwkRejoinResponseCommand) (f : NwkCommandFrame) → Back (NwkCommand.RejoinResponse c) f NwkCommandId.RejoinResponse (rejoinResponseValues c)
+rejoinResponse-back : (c : NwkRejoinResponseCommand) (f : NwkCommandWithLists) → Back (NwkCommand.RejoinResponse c) f NwkCommandId.RejoinResponse (rejoinResponseValues c)
 unfolding formatOf commandOf listed clearedBy rejoinResponseFormat rejoinResponseOf rejoinResponseValues rejoinResponseBy partSizes keptCount size width sizes widths summed plus
 rejoinResponse-back c f =
     record {
@@ -195,27 +195,27 @@ rejoinResponse-back c f =
       list = λ s e. refl;
     }
 
-linkStatus-back : (c : NwkLinkStatusCommand) (f : NwkCommandFrame) → Back (NwkCommand.LinkStatus c) f NwkCommandId.LinkStatus (linkStatusValues c (f .«link_statuses») (f .«link_statuses_len»))
+linkStatus-back : (c : NwkLinkStatusCommand) (f : NwkCommandWithLists) → Back (NwkCommand.LinkStatus c) f NwkCommandId.LinkStatus (linkStatusValues c (f .«link_statuses») (f .«link_statuses_len»))
 unfolding formatOf commandOf listed clearedBy linkStatusFormat linkStatusOf linkStatusValues linkOf linkEntry firsts partSizes keptCount size width sizes widths summed plus
 linkStatus-back c f =
     record {
       fit = record { head = refl; count = sym (length-tab (λ (k : ℕ). linkEntry (getD (f .«link_statuses») k noLink)) (f .«link_statuses_len»)); entries = tab-shaped (linkStatusFormat .entry) (λ (k : ℕ). linkEntry (getD (f .«link_statuses») k noLink)) (f .«link_statuses_len») (λ k. refl) };
       command =
           λ i. TypedBody.Typed (NwkCommand.LinkStatus (record { «is_first_frame» = isSet-bit (c .«is_first_frame») i; «is_last_frame» = isSet-bit (c .«is_last_frame») i }));
-      list = λ s e. ap (λ (x : List NwkLinkStatus). frame (NwkCommand.LinkStatus c) [] x [] [] []) (ap (λ (v : Values). map linkOf (v .entries)) e ∙ map-tab linkOf (λ (k : ℕ). linkEntry (getD (f .«link_statuses») k noLink)) (f .«link_statuses_len»));
+      list = λ s e. ap (λ (x : List NwkLinkStatus). withLists (NwkCommand.LinkStatus c) [] x [] [] []) (ap (λ (v : Values). map linkOf (v .entries)) e ∙ map-tab linkOf (λ (k : ℕ). linkEntry (getD (f .«link_statuses») k noLink)) (f .«link_statuses_len»));
     }
 
-networkReport-back : (c : NwkNetworkReportCommand) (f : NwkCommandFrame) → Back (NwkCommand.NetworkReport c) f NwkCommandId.NetworkReport (networkReportValues c (f .«pan_ids») (f .«report_information_count»))
+networkReport-back : (c : NwkNetworkReportCommand) (f : NwkCommandWithLists) → Back (NwkCommand.NetworkReport c) f NwkCommandId.NetworkReport (networkReportValues c (f .«pan_ids») (f .«report_information_count»))
 unfolding formatOf commandOf listed clearedBy networkReportFormat networkReportOf networkReportValues networkReportBy relayOf relayEntry firsts partSizes keptCount size width sizes widths summed plus
 networkReport-back c f =
     record {
       fit = record { head = refl; count = sym (length-tab (λ (k : ℕ). relayEntry (getD (f .«pan_ids») k 0)) (f .«report_information_count»)); entries = tab-shaped (networkReportFormat .entry) (λ (k : ℕ). relayEntry (getD (f .«pan_ids») k 0)) (f .«report_information_count») (λ k. refl) };
       command =
           ap (λ k. networkReportBy k (networkReportValues c (f .«pan_ids») (f .«report_information_count»))) (reportIdentifier-back (c .«report_command_identifier»));
-      list = λ s e. ap (λ (x : List ℕ). frame (NwkCommand.NetworkReport c) [] [] x [] []) (ap (λ (v : Values). map relayOf (v .entries)) e ∙ map-tab relayOf (λ (k : ℕ). relayEntry (getD (f .«pan_ids») k 0)) (f .«report_information_count»));
+      list = λ s e. ap (λ (x : List ℕ). withLists (NwkCommand.NetworkReport c) [] [] x [] []) (ap (λ (v : Values). map relayOf (v .entries)) e ∙ map-tab relayOf (λ (k : ℕ). relayEntry (getD (f .«pan_ids») k 0)) (f .«report_information_count»));
     }
 
-networkUpdate-back : (c : NwkNetworkUpdateCommand) (f : NwkCommandFrame) → Back (NwkCommand.NetworkUpdate c) f NwkCommandId.NetworkUpdate (networkUpdateValues c)
+networkUpdate-back : (c : NwkNetworkUpdateCommand) (f : NwkCommandWithLists) → Back (NwkCommand.NetworkUpdate c) f NwkCommandId.NetworkUpdate (networkUpdateValues c)
 unfolding formatOf commandOf listed clearedBy networkUpdateFormat networkUpdateOf networkUpdateValues networkUpdateBy partSizes keptCount size width sizes widths summed plus
 networkUpdate-back c f =
     record {
@@ -225,7 +225,7 @@ networkUpdate-back c f =
       list = λ s e. refl;
     }
 
-timeoutRequest-back : (c : NwkEndDeviceTimeoutRequestCommand) (f : NwkCommandFrame) → Back (NwkCommand.EndDeviceTimeoutRequest c) f NwkCommandId.EndDeviceTimeoutRequest (timeoutRequestValues c)
+timeoutRequest-back : (c : NwkEndDeviceTimeoutRequestCommand) (f : NwkCommandWithLists) → Back (NwkCommand.EndDeviceTimeoutRequest c) f NwkCommandId.EndDeviceTimeoutRequest (timeoutRequestValues c)
 unfolding formatOf commandOf listed clearedBy timeoutRequestFormat timeoutRequestOf timeoutRequestValues timeoutRequestBy partSizes keptCount size width sizes widths summed plus
 timeoutRequest-back c f =
     record {
@@ -235,7 +235,7 @@ timeoutRequest-back c f =
       list = λ s e. refl;
     }
 
-timeoutResponse-back : (c : NwkEndDeviceTimeoutResponseCommand) (f : NwkCommandFrame) → Back (NwkCommand.EndDeviceTimeoutResponse c) f NwkCommandId.EndDeviceTimeoutResponse (timeoutResponseValues c)
+timeoutResponse-back : (c : NwkEndDeviceTimeoutResponseCommand) (f : NwkCommandWithLists) → Back (NwkCommand.EndDeviceTimeoutResponse c) f NwkCommandId.EndDeviceTimeoutResponse (timeoutResponseValues c)
 unfolding formatOf commandOf listed clearedBy timeoutResponseFormat timeoutResponseOf timeoutResponseValues timeoutResponseBy partSizes keptCount size width sizes widths summed plus
 timeoutResponse-back c f =
     record {
@@ -246,17 +246,17 @@ timeoutResponse-back c f =
       list = λ s e. refl;
     }
 
-linkPowerDelta-back : (c : NwkLinkPowerDeltaCommand) (f : NwkCommandFrame) → Back (NwkCommand.LinkPowerDelta c) f NwkCommandId.LinkPowerDelta (linkPowerDeltaValues c (f .«power_list») (f .«list_count»))
+linkPowerDelta-back : (c : NwkLinkPowerDeltaCommand) (f : NwkCommandWithLists) → Back (NwkCommand.LinkPowerDelta c) f NwkCommandId.LinkPowerDelta (linkPowerDeltaValues c (f .«power_list») (f .«list_count»))
 unfolding formatOf commandOf listed clearedBy linkPowerDeltaFormat linkPowerDeltaOf linkPowerDeltaValues linkPowerDeltaBy powerOf powerEntry firsts partSizes keptCount size width sizes widths summed plus
 linkPowerDelta-back c f =
     record {
       fit = record { head = refl; count = sym (length-tab (λ (k : ℕ). powerEntry (getD (f .«power_list») k noPower)) (f .«list_count»)); entries = tab-shaped (linkPowerDeltaFormat .entry) (λ (k : ℕ). powerEntry (getD (f .«power_list») k noPower)) (f .«list_count») (λ k. refl) };
       command =
           ap (λ k. linkPowerDeltaBy k (linkPowerDeltaValues c (f .«power_list») (f .«list_count»))) (powerType-back (c .«command_type»));
-      list = λ s e. ap (λ (x : List NwkPowerListEntry). frame (NwkCommand.LinkPowerDelta c) [] [] [] x []) (ap (λ (v : Values). map powerOf (v .entries)) e ∙ map-tab powerOf (λ (k : ℕ). powerEntry (getD (f .«power_list») k noPower)) (f .«list_count»));
+      list = λ s e. ap (λ (x : List NwkPowerListEntry). withLists (NwkCommand.LinkPowerDelta c) [] [] [] x []) (ap (λ (v : Values). map powerOf (v .entries)) e ∙ map-tab powerOf (λ (k : ℕ). powerEntry (getD (f .«power_list») k noPower)) (f .«list_count»));
     }
 
-commissioningRequest-back : (c : NwkNetworkCommissioningRequestCommand) (f : NwkCommandFrame) → Back (NwkCommand.NetworkCommissioningRequest c) f NwkCommandId.NetworkCommissioningRequest (commissioningRequestValues c)
+commissioningRequest-back : (c : NwkNetworkCommissioningRequestCommand) (f : NwkCommandWithLists) → Back (NwkCommand.NetworkCommissioningRequest c) f NwkCommandId.NetworkCommissioningRequest (commissioningRequestValues c)
 unfolding formatOf commandOf listed clearedBy commissioningRequestFormat commissioningRequestOf commissioningRequestValues commissioningRequestBy capabilityField capabilityValues partSizes keptCount size width sizes widths summed plus
 commissioningRequest-back c f =
     record {
@@ -267,7 +267,7 @@ commissioningRequest-back c f =
       list = λ s e. refl;
     }
 
-commissioningResponse-back : (c : NwkNetworkCommissioningResponseCommand) (f : NwkCommandFrame) → Back (NwkCommand.NetworkCommissioningResponse c) f NwkCommandId.NetworkCommissioningResponse (commissioningResponseValues c)
+commissioningResponse-back : (c : NwkNetworkCommissioningResponseCommand) (f : NwkCommandWithLists) → Back (NwkCommand.NetworkCommissioningResponse c) f NwkCommandId.NetworkCommissioningResponse (commissioningResponseValues c)
 unfolding formatOf commandOf listed clearedBy commissioningResponseFormat commissioningResponseOf commissioningResponseValues commissioningResponseBy partSizes keptCount size width sizes widths summed plus
 commissioningResponse-back c f =
     record {
@@ -277,7 +277,7 @@ commissioningResponse-back c f =
       list = λ s e. refl;
     }
 
-pub back : (c : NwkCommand) (f : NwkCommandFrame) → WireBack c f (wireOf c f)
+pub back : (c : NwkCommand) (f : NwkCommandWithLists) → WireBack c f (wireOf c f)
 unfolding wireOf
 back (NwkCommand.RouteRequest c) f = routeRequest-back c f
 back (NwkCommand.RouteReply c) f = routeReply-back c f

@@ -14,19 +14,19 @@ use Rattle.commands.specs.Commands.{noPower}
 use Rattle.commands.specs.Reading.{listOf}
 use Rattle.commands.specs.Writing.{wire, misfits}
 use Rattle.commands.proofs.Ranges.{InAddress, Ranged, RangedList, tooBig, misfits-is}
-use Rattle.commands.proofs.MaybeEui64 as maybe-eui64
+use Rattle.types.proofs.OptionEui64 as option-eui64
 use Rattle.commands.proofs.NwkCommand as nwk-command
-use Rattle.commands.proofs.NwkCommandFrame as nwk-command-frame
+use Rattle.commands.proofs.NwkCommandWithLists as nwk-command-with-lists
 use Rattle.commands.proofs.NwkPowerListEntry as nwk-power-list-entry
-use Rattle.commands.specs.declared.MaybeEui64.{MaybeEui64}
+use Rattle.types.specs.declared.OptionEui64.{OptionEui64}
 use Rattle.commands.specs.declared.NwkCommand.{NwkCommand}
-use Rattle.commands.specs.declared.NwkCommandFrame.{NwkCommandFrame}
+use Rattle.commands.specs.declared.NwkCommandWithLists.{NwkCommandWithLists}
 use Rattle.commands.specs.declared.NwkCommandList.{NwkCommandList}
 use Rattle.commands.specs.declared.NwkPowerListEntry.{NwkPowerListEntry}
 
-address-in : (a : MaybeEui64) (vs : List Val) → shadow (maybe-eui64.the-row .own a vs) → InAddress a
-address-in MaybeEui64.Absent vs s = tt
-address-in (MaybeEui64.Present x) vs s = omega arith
+address-in : (a : OptionEui64) (vs : List Val) → shadow (option-eui64.the-row .own a vs) → InAddress a
+address-in OptionEui64.Absent vs s = tt
+address-in (OptionEui64.Present x) vs s = omega arith
 
 command-in : (c : NwkCommand) (vs : List Val) → shadow (nwk-command.the-row .own c vs) → Ranged c
 command-in (NwkCommand.RouteRequest c) vs s = (omega arith, omega arith, omega arith, search address-in)
@@ -56,14 +56,14 @@ powers-in (x ∷ xs) (u ∷ us) s zero = omega arith
 powers-in (x ∷ xs) (u ∷ us) s (suc k) = powers-in xs us (s .1) k
 
 -- a command's numbers and lists are within their types
-pub record InRange (f : NwkCommandFrame) : Type 0 where
+pub record InRange (f : NwkCommandWithLists) : Type 0 where
   pub command : Ranged (f .command)
   pub relays : (k : ℕ) → getD (f .relays) k 0 < 65536
   pub panIds : (k : ℕ) → getD (f .«pan_ids») k 0 < 65536
   pub powers : (k : ℕ) → (getD (f .«power_list») k noPower .«device_address» < 65536) × (getD (f .«power_list») k noPower .«power_delta» < 256)
   pub bytes : length (f .unparsed) ≡ 108
 
-pub in-range : (f : NwkCommandFrame) (vs : List Val) → shadow (nwk-command-frame.the-row .own f vs) → InRange f
+pub in-range : (f : NwkCommandWithLists) (vs : List Val) → shadow (nwk-command-with-lists.the-row .own f vs) → InRange f
 in-range f vs s =
     record {
       command = search command-in;
@@ -73,7 +73,7 @@ in-range f vs s =
       bytes = search needs;
     }
 
-listed-in : (k : NwkCommandList) (f : NwkCommandFrame) → InRange f → RangedList k f
+listed-in : (k : NwkCommandList) (f : NwkCommandWithLists) → InRange f → RangedList k f
 listed-in NwkCommandList.NoList f r = tt
 listed-in NwkCommandList.Relays f r = λ k l. r .relays k
 listed-in NwkCommandList.LinkStatuses f r = tt
@@ -82,6 +82,6 @@ listed-in NwkCommandList.PowerList f r = λ k l. r .powers k
 listed-in NwkCommandList.Bytes f r = tt
 
 -- of a value of the type, a field misfits exactly if one of the tests says so
-pub misfits-test : (f : NwkCommandFrame) → InRange f → misfits (listOf (f .command)) (wire f) ≡ tooBig (listOf (f .command)) (f .command) f
+pub misfits-test : (f : NwkCommandWithLists) → InRange f → misfits (listOf (f .command)) (wire f) ≡ tooBig (listOf (f .command)) (f .command) f
 unfolding wire
 misfits-test f r = misfits-is (f .command) f (r .command) (listed-in (listOf (f .command)) f r)

@@ -16,10 +16,10 @@ use Rattle.commands.specs.Reading.{formatOf, listOf}
 use Rattle.commands.specs.Writing.{wireOf, wireBytes, overPlaces, misfits}
 use Rattle.commands.specs.Writing.Wire.{body}
 use Rattle.commands.proofs.Format.{length-bodyBytes}
-use Rattle.commands.specs.declared.MaybeEui64.{MaybeEui64}
+use Rattle.types.specs.declared.OptionEui64.{OptionEui64}
 use Rattle.commands.specs.declared.NwkCommandId.{NwkCommandId}
 use Rattle.commands.specs.declared.NwkCommand.{NwkCommand}
-use Rattle.commands.specs.declared.NwkCommandFrame.{NwkCommandFrame}
+use Rattle.commands.specs.declared.NwkCommandWithLists.{NwkCommandWithLists}
 use Rattle.commands.specs.declared.NwkCommandList.{NwkCommandList}
 
 -- the length of a body behind its identifier
@@ -30,11 +30,11 @@ pub length-wire : (id : NwkCommandId) (v : Values) → length (wireBytes (body i
 unfolding wireBytes
 length-wire id v = rw (length-bodyBytes (formatOf id) v) (sym (native.Mathlib.Numerals.one-add _))
 
-address-few : (a : MaybeEui64) → length (addressEntry a) ≤ 1
-address-few MaybeEui64.Absent = omega arith
-address-few (MaybeEui64.Present x) = omega arith
+address-few : (a : OptionEui64) → length (addressEntry a) ≤ 1
+address-few OptionEui64.Absent = omega arith
+address-few (OptionEui64.Present x) = omega arith
 
-addresses-few : (a b : MaybeEui64) → length (addressEntry a ++ addressEntry b) ≤ 2
+addresses-few : (a b : OptionEui64) → length (addressEntry a ++ addressEntry b) ≤ 2
 addresses-few a b = rw (length-append (addressEntry a) (addressEntry b)) (let p = address-few a in let q = address-few b in omega arith)
 
 -- a list with its places not exceeded
@@ -58,7 +58,7 @@ Typed NwkCommandList.PanIds = Unit {0}
 Typed NwkCommandList.PowerList = Unit {0}
 Typed NwkCommandList.Bytes = ⊥
 
-pub typed-short : (c : NwkCommand) (f : NwkCommandFrame) → Typed (listOf c) → misfits (listOf c) (wireOf c f) ≡ false
+pub typed-short : (c : NwkCommand) (f : NwkCommandWithLists) → Typed (listOf c) → misfits (listOf c) (wireOf c f) ≡ false
     → length (wireBytes (wireOf c f)) ≤ 108
 unfolding wireOf misfits overPlaces formatOf size sizes routeRequestFormat routeRequestValues routeReplyFormat routeReplyValues networkStatusFormat networkStatusValues leaveFormat leaveValues routeRecordFormat routeRecordValues rejoinRequestFormat rejoinRequestValues rejoinResponseFormat rejoinResponseValues linkStatusFormat linkStatusValues networkReportFormat networkReportValues networkUpdateFormat networkUpdateValues timeoutRequestFormat timeoutRequestValues timeoutResponseFormat timeoutResponseValues linkPowerDeltaFormat linkPowerDeltaValues commissioningRequestFormat commissioningRequestValues commissioningResponseFormat commissioningResponseValues capabilityField
 typed-short (NwkCommand.RouteRequest c) f t e = rw (length-wire NwkCommandId.RouteRequest _) (let p = address-few (c .«destination_eui64») in omega arith)

@@ -21,10 +21,10 @@ use Rattle.commands.specs.Writing.{wireOf, overPlaces, misfits, updateCo
 use Rattle.commands.specs.Writing.Wire.{body}
 use Rattle.commands.proofs.Format.{both, held-all}
 use Rattle.commands.proofs.CodeLaws.{manyToOne-lt, status-lt, associationStatus-lt, reportIdentifier-lt, updateIdentifier-lt, timeout-lt, timeoutStatus-lt, powerType-lt, commissioningType-lt, bit-lt}
-use Rattle.commands.specs.declared.MaybeEui64.{MaybeEui64}
+use Rattle.types.specs.declared.OptionEui64.{OptionEui64}
 use Rattle.commands.specs.declared.NwkCommandId.{NwkCommandId}
 use Rattle.commands.specs.declared.NwkCommand.{NwkCommand}
-use Rattle.commands.specs.declared.NwkCommandFrame.{NwkCommandFrame}
+use Rattle.commands.specs.declared.NwkCommandWithLists.{NwkCommandWithLists}
 use Rattle.commands.specs.declared.NwkCommandList.{NwkCommandList}
 use Rattle.commands.specs.declared.NwkRejoinCapabilityInformation.{NwkRejoinCapabilityInformation}
 use Rattle.commands.specs.declared.NwkRouteRequestCommand.{NwkRouteRequestCommand}
@@ -44,9 +44,9 @@ use Rattle.commands.specs.declared.NwkNetworkCommissioningResponseComman
 
 -- ---- what the types give
 
-abbrev pub InAddress : MaybeEui64 → Type 0
-InAddress MaybeEui64.Absent = Unit {0}
-InAddress (MaybeEui64.Present x) = x < 2 ^ 64
+abbrev pub InAddress : OptionEui64 → Type 0
+InAddress OptionEui64.Absent = Unit {0}
+InAddress (OptionEui64.Present x) = x < 2 ^ 64
 
 -- the numbers of a command are within their types
 abbrev pub Ranged : NwkCommand → Type 0
@@ -69,7 +69,7 @@ Ranged (NwkCommand.NetworkCommissioningResponse c) = c .«network_address» < 65
 Ranged NwkCommand.Unparsed = Unit {0}
 
 -- the entries of a command's own list are within theirs
-abbrev pub RangedList : NwkCommandList → NwkCommandFrame → Type 0
+abbrev pub RangedList : NwkCommandList → NwkCommandWithLists → Type 0
 RangedList NwkCommandList.NoList f = Unit {0}
 RangedList NwkCommandList.Relays f = (k : ℕ) → k < f .«relay_count» → getD (f .relays) k 0 < 65536
 RangedList NwkCommandList.LinkStatuses f = Unit {0}
@@ -81,10 +81,10 @@ RangedList NwkCommandList.Bytes f = Unit {0}
 -- ---- what is left to test
 
 -- the link status entries as values
-abbrev pub linkEntries : NwkCommandFrame → List (List ℕ)
+abbrev pub linkEntries : NwkCommandWithLists → List (List ℕ)
 linkEntries f = tab (λ (k : ℕ). linkEntry (getD (f .«link_statuses») k noLink)) (f .«link_statuses_len»)
 
-unfoldable pub tooBig : NwkCommandList → NwkCommand → NwkCommandFrame → Bool
+unfoldable pub tooBig : NwkCommandList → NwkCommand → NwkCommandWithLists → Bool
 tooBig NwkCommandList.NoList c f = ltb 31 (updateCount c)
 tooBig NwkCommandList.Relays c f = ltb 53 (f .«relay_count»)
 tooBig NwkCommandList.LinkStatuses c f = ltb 31 (f .«link_statuses_len») || not (heldEntries (linkStatusFormat .entry) (linkEntries f))
@@ -94,19 +94,19 @@ tooBig NwkCommandList.Bytes c f = false
 
 -- ---- the fields of each command
 
-has-lt : (a : MaybeEui64) → has a < 2
-has-lt MaybeEui64.Absent = lit< tt
-has-lt (MaybeEui64.Present x) = lit< tt
+has-lt : (a : OptionEui64) → has a < 2
+has-lt OptionEui64.Absent = lit< tt
+has-lt (OptionEui64.Present x) = lit< tt
 
-address-held : (a : MaybeEui64) → InAddress a → heldEntries (routeRequestFormat .entry) (addressEntry a) ≡ true
+address-held : (a : OptionEui64) → InAddress a → heldEntries (routeRequestFormat .entry) (addressEntry a) ≡ true
 unfolding routeRequestFormat heldValues heldFields heldField heldParts heldEntries width keptCount
-address-held MaybeEui64.Absent r = refl
-address-held (MaybeEui64.Present x) r = both (both (lt-ltb _ _ r) refl) refl
+address-held OptionEui64.Absent r = refl
+address-held (OptionEui64.Present x) r = both (both (lt-ltb _ _ r) refl) refl
 
-addresses-held : (a b : MaybeEui64) → InAddress a → InAddress b → heldEntries (routeReplyFormat .entry) (addressEntry a ++ addressEntry b) ≡ true
+addresses-held : (a b : OptionEui64) → InAddress a → InAddress b → heldEntries (routeReplyFormat .entry) (addressEntry a ++ addressEntry b) ≡ true
 unfolding routeRequestFormat routeReplyFormat heldValues heldFields heldField heldParts heldEntries width keptCount
-addresses-held MaybeEui64.Absent b q r = address-held b r
-addresses-held (MaybeEui64.Present x) b q r = both (both (lt-ltb _ _ q) refl) (address-held b r)
+addresses-held OptionEui64.Absent b q r = address-held b r
+addresses-held (OptionEui64.Present x) b q r = both (both (lt-ltb _ _ q) refl) (address-held b r)
 
 capability-held : (c : NwkRejoinCapabilityInformation) → heldField capabilityField (capabilityValues c) ≡ true
 unfolding capabilityField capabilityValues heldField heldParts
@@ -191,7 +191,7 @@ networkUpdate-misfits c r =
     (λ h. both (both (both (lt-ltb (c .«update_information_count») 32 (omega arith)) (both (lt-ltb _ _ (updateIdentifier-lt (c .«update_command_identifier»))) refl)) (both (lt-ltb _ _ (r .0)) (both (lt-ltb _ _ (r .1)) (both (lt-ltb _ _ (r .2)) refl)))) refl)
     (λ h. rw (le-ltb (c .«update_information_count») 32 (omega arith)) refl)
 
-routeRecord-misfits : (f : NwkCommandFrame) → RangedList NwkCommandList.Relays f
+routeRecord-misfits : (f : NwkCommandWithLists) → RangedList NwkCommandList.Relays f
     → misfits NwkCommandList.Relays (body NwkCommandId.RouteRecord (routeRecordValues (f .relays) (f .«relay_count»))) ≡ ltb 53 (f .«relay_count»)
 unfolding misfits overPlaces formatOf routeRecordFormat routeRecordValues relayEntry heldValues heldFields heldField heldParts heldEntries width keptCount
 routeRecord-misfits f r =
@@ -199,7 +199,7 @@ routeRecord-misfits f r =
     (over-places 53 (f .«relay_count») (heldValues routeRecordFormat (routeRecordValues (f .relays) (f .«relay_count»)))
     (λ h. both (both (lt-ltb (f .«relay_count») 256 (omega arith)) refl) (held-all (routeRecordFormat .entry) (λ (k : ℕ). relayEntry (getD (f .relays) k 0)) (f .«relay_count») (λ k l. (both (lt-ltb _ _ (r k l)) refl)))))
 
-networkReport-misfits : (c : NwkNetworkReportCommand) (f : NwkCommandFrame) → c .epid < 2 ^ 64 → RangedList NwkCommandList.PanIds f
+networkReport-misfits : (c : NwkNetworkReportCommand) (f : NwkCommandWithLists) → c .epid < 2 ^ 64 → RangedList NwkCommandList.PanIds f
     → misfits NwkCommandList.PanIds (body NwkCommandId.NetworkReport (networkReportValues c (f .«pan_ids») (f .«report_information_count»)))
     ≡ ltb 31 (f .«report_information_count»)
 unfolding misfits overPlaces formatOf networkReportFormat networkReportValues relayEntry heldValues heldFields heldField heldParts heldEntries width keptCount
@@ -209,7 +209,7 @@ networkReport-misfits c f e r =
     (λ h. both (both (both (lt-ltb (f .«report_information_count») 32 (omega arith)) (both (lt-ltb _ _ (reportIdentifier-lt (c .«report_command_identifier»))) refl)) (both (lt-ltb _ _ (e)) refl))
     (held-all (networkReportFormat .entry) (λ (k : ℕ). relayEntry (getD (f .«pan_ids») k 0)) (f .«report_information_count») (λ k l. (both (lt-ltb _ _ (r k l)) refl)))))
 
-linkPowerDelta-misfits : (c : NwkLinkPowerDeltaCommand) (f : NwkCommandFrame) → RangedList NwkCommandList.PowerList f
+linkPowerDelta-misfits : (c : NwkLinkPowerDeltaCommand) (f : NwkCommandWithLists) → RangedList NwkCommandList.PowerList f
     → misfits NwkCommandList.PowerList (body NwkCommandId.LinkPowerDelta (linkPowerDeltaValues c (f .«power_list») (f .«list_count»)))
     ≡ ltb 35 (f .«list_count»)
 unfolding misfits overPlaces formatOf linkPowerDeltaFormat linkPowerDeltaValues powerEntry heldValues heldFields heldField heldParts heldEntries width keptCount
@@ -219,7 +219,7 @@ linkPowerDelta-misfits c f r =
     (λ h. both (both (both (lt-ltb _ _ (powerType-lt (c .«command_type»))) refl) (both (lt-ltb (f .«list_count») 256 (omega arith)) refl))
     (held-all (linkPowerDeltaFormat .entry) (λ (k : ℕ). powerEntry (getD (f .«power_list») k noPower)) (f .«list_count») (λ k l. (both (lt-ltb _ _ (r k l .0)) (both (lt-ltb _ _ (r k l .1)) refl))))))
 
-linkStatus-misfits : (c : NwkLinkStatusCommand) (f : NwkCommandFrame)
+linkStatus-misfits : (c : NwkLinkStatusCommand) (f : NwkCommandWithLists)
     → misfits NwkCommandList.LinkStatuses (body NwkCommandId.LinkStatus (linkStatusValues c (f .«link_statuses») (f .«link_statuses_len»)))
     ≡ (ltb 31 (f .«link_statuses_len») || not (heldEntries (linkStatusFormat .entry) (linkEntries f)))
 unfolding misfits overPlaces formatOf linkStatusValues linkStatusFormat heldValues heldFields heldField heldParts heldEntries width keptCount
@@ -232,7 +232,7 @@ linkStatus-misfits c f =
     and-held {a} {b} p = ap (λ (x : Bool). x && b) p
 
 -- a field misfits exactly if one of the tests says so
-pub misfits-is : (c : NwkCommand) (f : NwkCommandFrame) → Ranged c → RangedList (listOf c) f
+pub misfits-is : (c : NwkCommand) (f : NwkCommandWithLists) → Ranged c → RangedList (listOf c) f
     → misfits (listOf c) (wireOf c f) ≡ tooBig (listOf c) c f
 unfolding misfits overPlaces wireOf tooBig formatOf
 misfits-is (NwkCommand.RouteRequest c) f r q = not-true (routeRequest-held c r)

@@ -18,12 +18,12 @@ use Rattle.octets.proofs.Strings.{length-tab, getD-tab, tab-ext, tab-getD}
 use Rattle.octets.proofs.Numbers.{leAt-lt}
 use Rattle.commands.specs.Format.{Format, partSizes, kept, size, sizes, readField, readFields, summed, plus, headEnd, announced, bodyEnd, values, heldEntries, heldFields, heldValues}
 use Rattle.commands.specs.Commands.{routeRequestFormat, routeRequestOf, routeReplyFormat, routeReplyOf, networkStatusFormat, networkStatusOf, leaveFormat, leaveOf, routeRecordFormat, routeRecordOf, rejoinRequestFormat, rejoinRequestOf, rejoinResponseFormat, rejoinResponseOf, linkStatusFormat, linkStatusOf, networkReportFormat, networkReportOf, networkUpdateFormat, networkUpdateOf, timeoutRequestFormat, timeoutRequestOf, timeoutResponseFormat, timeoutResponseOf, linkPowerDeltaFormat, linkPowerDeltaOf, commissioningRequestFormat, commissioningRequestOf, commissioningResponseFormat, commissioningResponseOf, routeRequestBy, networkStatusBy, rejoinResponseBy, networkReportBy, networkUpdateBy, timeoutRequestBy, timeoutResponseBy, linkPowerDeltaBy, commissioningRequestBy, commissioningResponseBy, addressOf, firsts, relayOf, linkOf, linkEntry, noLink, powerOf, noPower}
-use Rattle.commands.specs.Reading.{formatOf, commandOf, places, frame, listOf, listed, clearedBy}
+use Rattle.commands.specs.Reading.{formatOf, commandOf, places, withLists, listOf, listed, clearedBy}
 use Rattle.commands.proofs.Format.{values-held, length-entries, second}
 use Rattle.commands.proofs.Commands.{map-tab}
 use Rattle.commands.proofs.Ranges.{InAddress, Ranged, RangedList, linkEntries, tooBig}
 use Rattle.commands.proofs.Lengths.{Typed}
-use Rattle.commands.specs.declared.MaybeEui64.{MaybeEui64}
+use Rattle.types.specs.declared.OptionEui64.{OptionEui64}
 use Rattle.commands.specs.declared.NwkCommandId.{NwkCommandId}
 use Rattle.commands.specs.declared.NwkCommand.{NwkCommand}
 use Rattle.commands.specs.declared.NwkCommandList.{NwkCommandList}
@@ -65,16 +65,16 @@ length-read of f s = length-map (values f s .entries) of ∙ length-entries f s
 
 -- what was read is cleared already
 pub cleared-read : (k : NwkCommandList) (c : NwkCommand) (s : List ℕ) → clearedBy k c (listed k c s) ≡ listed k c s
-unfolding clearedBy listed frame firsts tab
+unfolding clearedBy listed withLists firsts tab
 cleared-read NwkCommandList.NoList c s = refl
 cleared-read NwkCommandList.Relays c s =
-    ap (λ (x : List ℕ). frame c x [] [] [] []) (firsts-places 0 53 (map relayOf (values routeRecordFormat s .entries)))
+    ap (λ (x : List ℕ). withLists c x [] [] [] []) (firsts-places 0 53 (map relayOf (values routeRecordFormat s .entries)))
 cleared-read NwkCommandList.LinkStatuses c s =
-    ap (λ (x : List NwkLinkStatus). frame c [] x [] [] []) (firsts-places noLink 31 (map linkOf (values linkStatusFormat s .entries)))
+    ap (λ (x : List NwkLinkStatus). withLists c [] x [] [] []) (firsts-places noLink 31 (map linkOf (values linkStatusFormat s .entries)))
 cleared-read NwkCommandList.PanIds c s =
-    ap (λ (x : List ℕ). frame c [] [] x [] []) (firsts-places 0 31 (map relayOf (values networkReportFormat s .entries)))
+    ap (λ (x : List ℕ). withLists c [] [] x [] []) (firsts-places 0 31 (map relayOf (values networkReportFormat s .entries)))
 cleared-read NwkCommandList.PowerList c s =
-    ap (λ (x : List NwkPowerListEntry). frame c [] [] [] x []) (firsts-places noPower 35 (map powerOf (values linkPowerDeltaFormat s .entries)))
+    ap (λ (x : List NwkPowerListEntry). withLists c [] [] [] x []) (firsts-places noPower 35 (map powerOf (values linkPowerDeltaFormat s .entries)))
 cleared-read NwkCommandList.Bytes c s = refl
 
 -- ---- the lists
@@ -120,21 +120,21 @@ abbrev pub Good : NwkCommandList → NwkCommand → List ℕ → Type 0
 Good k c s = RangedList k (listed k c s) × (tooBig k c (listed k c s) ≡ false)
 
 relays-read : (c : NwkCommand) (s : List ℕ) → Below 256 s → length s ≤ 108 → bodyEnd routeRecordFormat s ≤ length s → Good NwkCommandList.Relays c s
-unfolding listed frame values tooBig
+unfolding listed withLists values tooBig
 relays-read c s b short whole = (
   (λ k h. rw (entry-read relayOf (entryAt routeRecordFormat s) (announced routeRecordFormat s) 0 53 k h) (number-read routeRecordFormat s k b refl)),
   rw (length-read relayOf routeRecordFormat s) (le-ltb 53 _ (few-relays s whole short)),
 )
 
 panIds-read : (c : NwkCommand) (s : List ℕ) → Below 256 s → Good NwkCommandList.PanIds c s
-unfolding listed frame values tooBig networkReportFormat routeRecordFormat
+unfolding listed withLists values tooBig networkReportFormat routeRecordFormat
 panIds-read c s b = (
   (λ k h. rw (entry-read relayOf (entryAt networkReportFormat s) (announced networkReportFormat s) 0 31 k h) (number-read networkReportFormat s k b refl)),
   rw (length-read relayOf networkReportFormat s) (le-ltb 31 _ (few-panIds s)),
 )
 
 powers-read : (c : NwkCommand) (s : List ℕ) → Below 256 s → length s ≤ 108 → bodyEnd linkPowerDeltaFormat s ≤ length s → Good NwkCommandList.PowerList c s
-unfolding listed frame values tooBig
+unfolding listed withLists values tooBig
 powers-read c s b short whole = (
   (λ k h. rw (entry-read powerOf (entryAt linkPowerDeltaFormat s) (announced linkPowerDeltaFormat s) noPower 35 k h) (power-read s k b)),
   rw (length-read powerOf linkPowerDeltaFormat s) (le-ltb 35 _ (few-powers s whole short)),
@@ -142,7 +142,7 @@ powers-read c s b short whole = (
 
 -- the entries to write are those that were read
 links-same : (c : NwkCommand) (s : List ℕ) → linkEntries (listed NwkCommandList.LinkStatuses c s) ≡ values linkStatusFormat s .entries
-unfolding listed frame values
+unfolding listed withLists values
 links-same c s =
     tab-ext _ (entryAt linkStatusFormat s) (length (map linkOf (tab (entryAt linkStatusFormat s) (announced linkStatusFormat s))))
     (λ k h. ap linkEntry (entry-read linkOf (entryAt linkStatusFormat s) (announced linkStatusFormat s) noLink 31 k h) ∙ link-same s k)
@@ -153,7 +153,7 @@ unfolding heldValues
 held-entries f s b = second (heldFields (f .head) (values f s .head)) _ (values-held f s b)
 
 links-few : (c : NwkCommand) (s : List ℕ) → ltb 31 (listed NwkCommandList.LinkStatuses c s .«link_statuses_len») ≡ false
-unfolding listed frame
+unfolding listed withLists
 links-few c s = rw (length-read linkOf linkStatusFormat s) (le-ltb 31 _ (few-links s))
 
 links-read : (c : NwkCommand) (s : List ℕ) → Below 256 s → Good NwkCommandList.LinkStatuses c s
@@ -176,7 +176,7 @@ addressOf-in : (h x : ℕ) → x < 2 ^ 64 → InAddress (addressOf h x)
 unfolding addressOf
 addressOf-in h x l = by-bit (eqb h 1)
   where
-    by-bit : (t : Bool) → InAddress (mathlib.Core.Bool.cond t (MaybeEui64.Present x) MaybeEui64.Absent)
+    by-bit : (t : Bool) → InAddress (mathlib.Core.Bool.cond t (OptionEui64.Present x) OptionEui64.Absent)
     by-bit true = l
     by-bit false = tt
 

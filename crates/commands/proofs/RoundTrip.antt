@@ -6,18 +6,19 @@
 use mathlib.Core.Path.{_≡_, refl, sym, ap, subst, _∙_}
 use mathlib.Core.Bool.{Bool, true, false, cond, not}
 use mathlib.Core.List.{List, [], _∷_, _++_, append-nil}
-use Prim.Native.Nat.{ℕ, _≤_}
-use borrow.Author.Tests.{le-leb, le-ltb, ltb-false, leb-true, not-false}
+use Prim.Native.Nat.{ℕ, _≤_, _<_}
+use borrow.Author.Tests.{le-leb, lt-ltb, le-ltb, ltb-false, leb-true, not-false}
 use lib.Dec.{ltb, leb}
 use lib.ListN.{length, getD, take}
 use Rattle.octets.specs.Strings.{Below}
-use Rattle.octets.specs.Refusals.{on, orElse, firstOf}
-use Rattle.octets.proofs.Refusals.{none-split, not-on}
+use Rattle.octets.specs.Refusals.{on, by, firstOf, unless}
+use Rattle.octets.proofs.Conditions.{accepted, none, none-refuse, stop, skip, skip-by}
+use Rattle.octets.proofs.Writing.{write-accepted}
 use Rattle.octets.proofs.Strings.{take-over}
 use Rattle.commands.specs.Codes.{commandIdCode, commandIdOf}
 use Rattle.commands.specs.Format.{Values, bodyEnd, values, bodyBytes, heldValues}
-use Rattle.commands.specs.Reading.{formatOf, commandOf, frame, listOf, listed, clearedBy, cleared, bodyOf, typedBy, typed, unparsed, frameOf, accepted, readCommand}
-use Rattle.commands.specs.Writing.{Wire, wireOf, wire, wireBytes, commandBytes, overPlaces, misfits, writeRefusal, written, outputBy, writeAnswer, writeBuffer}
+use Rattle.commands.specs.Reading.{formatOf, commandOf, withLists, listOf, listed, clearedBy, cleared, bodyOf, typedBy, typed, unparsed, parsed, readAs, readNothing, readRefusal, readCommand}
+use Rattle.commands.specs.Writing.{Wire, wireOf, wire, wireBytes, commandBytes, overPlaces, misfits, fieldRefusal, writeRefusal, writeCommand}
 use Rattle.commands.specs.Writing.Wire.{body, raw}
 use Rattle.commands.proofs.Format.{Fit, values-back, end-back}
 use Rattle.commands.proofs.CodeLaws.{commandId-back}
@@ -28,7 +29,7 @@ use Rattle.commands.proofs.Reread.{firsts-places, cleared-read, Writabl
 use Rattle.commands.specs.declared.NwkCommandId.{NwkCommandId}
 use Rattle.commands.specs.declared.NwkCommandIdCode.{NwkCommandIdCode}
 use Rattle.commands.specs.declared.NwkCommand.{NwkCommand}
-use Rattle.commands.specs.declared.NwkCommandFrame.{NwkCommandFrame}
+use Rattle.commands.specs.declared.NwkCommandWithLists.{NwkCommandWithLists}
 use Rattle.commands.specs.declared.NwkCommandList.{NwkCommandList}
 use Rattle.commands.specs.declared.NwkCommandRead.{NwkCommandRead}
 use Rattle.commands.specs.declared.TypedBody.{TypedBody}
@@ -50,48 +51,46 @@ fits : (k : NwkCommandList) (id : NwkCommandId) (v : Values) → misfits k (body
 unfolding misfits
 fits k id v e = not-false _ (or-right (overPlaces k (length (v .entries))) (not (heldValues (formatOf id) v)) e)
 
-wire-back : (c : NwkCommand) (f : NwkCommandFrame) (w : Wire) (rest : List ℕ) → WireBack c f w → Typed (listOf c) → misfits (listOf c) w ≡ false
-    → frameOf (typed (wireBytes w ++ rest)) (wireBytes w ++ rest) ≡ clearedBy (listOf c) c f
-unfolding wireBytes frameOf
+wire-back : (c : NwkCommand) (f : NwkCommandWithLists) (w : Wire) (rest : List ℕ) → WireBack c f w → Typed (listOf c) → misfits (listOf c) w ≡ false
+    → parsed (typed (wireBytes w ++ rest)) (wireBytes w ++ rest) ≡ clearedBy (listOf c) c f
+unfolding wireBytes parsed
 wire-back c f (body id v) rest w t e =
     let ok : heldValues (formatOf id) v ≡ true = fits (listOf c) id v e in
     let s : List ℕ = commandIdCode id ∷ (bodyBytes (formatOf id) v ++ rest) in
-    ap (λ (b : TypedBody). frameOf b s) (typed-back id v rest (w .fit) ok ∙ w .command)
+    ap (λ (b : TypedBody). parsed b s) (typed-back id v rest (w .fit) ok ∙ w .command)
     ∙ w .list s (values-back (formatOf id) v (commandIdCode id) rest (w .fit) ok)
 wire-back c f (raw bs) rest w t e = absurd (subst (λ (d : NwkCommand). Typed (listOf d)) w t)
 
-pub read-accepts : (s : List ℕ) → length s ≤ 108 → readCommand s ≡ accepted (frameOf (typed s) s)
-unfolding readCommand
-read-accepts s h = rw (le-ltb 108 (length s) h) refl
+pub read-accepts : (s : List ℕ) → length s ≤ 108 → readCommand s ≡ readAs (parsed (typed s) s)
+unfolding readCommand readRefusal
+read-accepts s h = accepted _ (readAs (parsed (typed s) s)) _ (none-refuse _ (le-ltb 108 (length s) h, tt))
+
+pub read-refuses : (s : List ℕ) → 108 < length s → readCommand s ≡ readNothing 12
+unfolding readCommand readRefusal unless
+read-refuses s h = rw (stop 12 (ltb 108 (length s)) [] (lt-ltb 108 (length s) h)) refl
 
 -- bytes after a typed command are dropped
-pub read-trailing : (f : NwkCommandFrame) (rest : List ℕ) → Typed (listOf (f .command)) → misfits (listOf (f .command)) (wire f) ≡ false
-    → length (commandBytes f ++ rest) ≤ 108 → readCommand (commandBytes f ++ rest) ≡ accepted (cleared f)
+pub read-trailing : (f : NwkCommandWithLists) (rest : List ℕ) → Typed (listOf (f .command)) → misfits (listOf (f .command)) (wire f) ≡ false
+    → length (commandBytes f ++ rest) ≤ 108 → readCommand (commandBytes f ++ rest) ≡ readAs (cleared f)
 unfolding commandBytes wire cleared
 read-trailing f rest t e h =
-    read-accepts (commandBytes f ++ rest) h ∙ ap accepted (wire-back (f .command) f (wireOf (f .command) f) rest (back (f .command) f) t e)
+    read-accepts (commandBytes f ++ rest) h ∙ ap readAs (wire-back (f .command) f (wireOf (f .command) f) rest (back (f .command) f) t e)
 
 -- writing accepts
-pub record Accepted (f : NwkCommandFrame) (room : ℕ) : Type 0 where
+pub record Accepted (f : NwkCommandWithLists) (room : ℕ) : Type 0 where
   pub fields-fit : misfits (listOf (f .command)) (wire f) ≡ false
   pub short : length (commandBytes f) ≤ 108
   pub room-enough : length (commandBytes f) ≤ room
 
-pub accepts : (f : NwkCommandFrame) (room : ℕ) → writeRefusal f room ≡ 0 → Accepted f room
-unfolding writeRefusal
+pub accepts : (f : NwkCommandWithLists) (room : ℕ) → writeRefusal f room ≡ 0 → Accepted f room
+unfolding fieldRefusal writeRefusal
 accepts f room e =
-    let a = none-split _ _ e in
-    let b = none-split _ _ (a .1) in
-    let d = none-split _ _ (b .1) in
-    record {
-      fields-fit = not-on 12 _ (a .0);
-      short = ltb-false _ _ (not-on 16 _ (b .0));
-      room-enough = ltb-false _ _ (not-on 17 _ (d .0));
-    }
+    let h = none _ e in
+    record { fields-fit = none _ (h .0) .0; short = ltb-false _ _ (h .1 .0); room-enough = ltb-false _ _ (h .1 .1 .0) }
 
 -- every typed command that writing accepts reads back from its bytes as the same command with the same list
-pub write-read : (f : NwkCommandFrame) (room : ℕ) → Typed (listOf (f .command)) → writeRefusal f room ≡ 0
-    → readCommand (commandBytes f) ≡ accepted (cleared f)
+pub write-read : (f : NwkCommandWithLists) (room : ℕ) → Typed (listOf (f .command)) → writeRefusal f room ≡ 0
+    → readCommand (commandBytes f) ≡ readAs (cleared f)
 write-read f room t e =
     let a : Accepted f room = accepts f room e in
     let n : commandBytes f ++ [] ≡ commandBytes f = append-nil (commandBytes f) in
@@ -99,23 +98,23 @@ write-read f room t e =
     ∙ read-trailing f [] t (a .fields-fit) (subst (λ (l : List ℕ). length l ≤ 108) (sym n) (a .short))
 
 -- the bytes written are the output's first ones
-pub written-bytes : (f : NwkCommandFrame) (o : List ℕ) → writeRefusal f (length o) ≡ 0
-    → take (writeAnswer f (length o) .length) (writeBuffer f o) ≡ commandBytes f
-unfolding writeAnswer writeBuffer written outputBy
-written-bytes f o e = rw e (take-over o (commandBytes f))
+pub written-bytes : (f : NwkCommandWithLists) (o : List ℕ) → writeRefusal f (length o) ≡ 0
+    → take (writeCommand f o .answer .length) (writeCommand f o .out) ≡ commandBytes f
+unfolding writeCommand
+written-bytes f o e = rw (write-accepted (writeRefusal f (length o)) (commandBytes f) o e) (take-over o (commandBytes f))
 
 -- ---- an unparsed command is its bytes
 
 pub unparsed-bytes : (s : List ℕ) → commandBytes (unparsed s) ≡ s
-unfolding commandBytes wire wireOf wireBytes unparsed frame
+unfolding commandBytes wire wireOf wireBytes unparsed withLists
 unparsed-bytes s = firsts-places 0 108 s
 
 -- whatever was read and not typed is written as exactly the bytes that were read
-pub read-unparsed : (s : List ℕ) → typed s ≡ TypedBody.NotTyped → length s ≤ 108 → commandBytes (readCommand s .frame) ≡ s
-unfolding accepted frameOf
+pub read-unparsed : (s : List ℕ) → typed s ≡ TypedBody.NotTyped → length s ≤ 108 → commandBytes (readCommand s .command) ≡ s
+unfolding parsed
 read-unparsed s e h =
-    ap (λ (r : NwkCommandRead). commandBytes (r .frame)) (read-accepts s h)
-    ∙ ap (λ (b : TypedBody). commandBytes (frameOf b s)) e ∙ unparsed-bytes s
+    ap (λ (r : NwkCommandRead). commandBytes (r .command)) (read-accepts s h)
+    ∙ ap (λ (b : TypedBody). commandBytes (parsed b s)) e ∙ unparsed-bytes s
 
 -- ---- what was read is read again
 
@@ -135,7 +134,7 @@ unfolding typed
 typed-writable s b short = id-writable (commandIdOf (getD s 0 0)) s b short
 
 listed-command : (k : NwkCommandList) (c : NwkCommand) (s : List ℕ) → listed k c s .command ≡ c
-unfolding listed frame
+unfolding listed withLists
 listed-command NwkCommandList.NoList c s = refl
 listed-command NwkCommandList.Relays c s = refl
 listed-command NwkCommandList.LinkStatuses c s = refl
@@ -149,61 +148,57 @@ read-fits c s w = misfits-is c (listed (listOf c) c s) (w .1) (w .2 .0) ∙ w .2
 
 -- its bytes read as itself
 listed-again : (c : NwkCommand) (s : List ℕ) → Writable s (TypedBody.Typed c)
-    → readCommand (wireBytes (wireOf c (listed (listOf c) c s))) ≡ accepted (listed (listOf c) c s)
+    → readCommand (wireBytes (wireOf c (listed (listOf c) c s))) ≡ readAs (listed (listOf c) c s)
 listed-again c s w =
-    let f : NwkCommandFrame = listed (listOf c) c s in
+    let f : NwkCommandWithLists = listed (listOf c) c s in
     let bs : List ℕ = wireBytes (wireOf c f) in
     let n : bs ++ [] ≡ bs = append-nil bs in
     let e : misfits (listOf c) (wireOf c f) ≡ false = read-fits c s w in
     read-accepts bs (typed-short c f (w .0) e)
-    ∙ ap accepted
-    (ap (λ (l : List ℕ). frameOf (typed l) l) (sym n) ∙ wire-back c f (wireOf c f) [] (back c f) (w .0) e ∙ cleared-read (listOf c) c s)
+    ∙ ap readAs
+    (ap (λ (l : List ℕ). parsed (typed l) l) (sym n) ∙ wire-back c f (wireOf c f) [] (back c f) (w .0) e ∙ cleared-read (listOf c) c s)
 
 -- by what the bytes hold
 again : (s : List ℕ) (t : TypedBody) → Writable s t → length s ≤ 108 → typed s ≡ t
-    → readCommand (commandBytes (frameOf t s)) ≡ accepted (frameOf t s)
-unfolding frameOf commandBytes wire
+    → readCommand (commandBytes (parsed t s)) ≡ readAs (parsed t s)
+unfolding parsed commandBytes wire
 again s (TypedBody.Typed c) w h e =
     ap (λ (d : NwkCommand). readCommand (wireBytes (wireOf d (listed (listOf c) c s)))) (listed-command (listOf c) c s) ∙ listed-again c s w
 again s TypedBody.NotTyped w h e =
-    ap readCommand (unparsed-bytes s) ∙ read-accepts s h ∙ ap (λ (t : TypedBody). accepted (frameOf t s)) e
+    ap readCommand (unparsed-bytes s) ∙ read-accepts s h ∙ ap (λ (t : TypedBody). readAs (parsed t s)) e
 
 -- whatever bytes were read, writing the command and reading again gives the same command
-pub read-write-read : (s : List ℕ) → Below 256 s → length s ≤ 108 → readCommand (commandBytes (readCommand s .frame)) ≡ readCommand s
-unfolding accepted
+pub read-write-read : (s : List ℕ) → Below 256 s → length s ≤ 108 → readCommand (commandBytes (readCommand s .command)) ≡ readCommand s
 read-write-read s b h =
-    let r : readCommand s ≡ accepted (frameOf (typed s) s) = read-accepts s h in
-    ap (λ (a : NwkCommandRead). readCommand (commandBytes (a .frame))) r
+    let r : readCommand s ≡ readAs (parsed (typed s) s) = read-accepts s h in
+    ap (λ (a : NwkCommandRead). readCommand (commandBytes (a .command))) r
     ∙ again s (typed s) (typed-writable s b h) h refl ∙ sym r
 
 -- ---- what was read can be written
 
-only-room : (a b c : Bool) → a ≡ false → b ≡ false → firstOf (on 13 a ∷ on 17 b ∷ on 18 c ∷ []) ≡ on 18 c
-unfolding firstOf orElse
-only-room a b true p q = rw (p, q) refl
-only-room a b false p q = rw (p, q) refl
+-- the output lent to a command is too short
+abbrev pub noRoom : NwkCommandWithLists → ℕ → ℕ
+noRoom f room = firstOf (on 18 (ltb room (length (commandBytes f))) ∷ [])
 
-writes : (f : NwkCommandFrame) (room : ℕ) → misfits (listOf (f .command)) (wire f) ≡ false → length (commandBytes f) ≤ 108
-    → writeRefusal f room ≡ on 18 (ltb room (length (commandBytes f)))
-unfolding writeRefusal
-writes f room e h = only-room _ _ (ltb room (length (commandBytes f))) e (le-ltb 108 _ h)
+writes : (f : NwkCommandWithLists) (room : ℕ) → misfits (listOf (f .command)) (wire f) ≡ false → length (commandBytes f) ≤ 108
+    → writeRefusal f room ≡ noRoom f room
+unfolding fieldRefusal writeRefusal
+writes f room e h = skip-by _ _ (none-refuse _ (e, tt)) ∙ skip 17 _ _ (le-ltb 108 _ h)
 
-frame-writes : (s : List ℕ) (t : TypedBody) (room : ℕ) → Writable s t → length s ≤ 108
-    → writeRefusal (frameOf t s) room ≡ on 18 (ltb room (length (commandBytes (frameOf t s))))
-unfolding frameOf unparsed frame misfits wire wireOf commandBytes
-frame-writes s (TypedBody.Typed c) room w h =
-    let f : NwkCommandFrame = listed (listOf c) c s in
+parsed-writes : (s : List ℕ) (t : TypedBody) (room : ℕ) → Writable s t → length s ≤ 108 → writeRefusal (parsed t s) room ≡ noRoom (parsed t s) room
+unfolding parsed unparsed withLists misfits wire wireOf commandBytes
+parsed-writes s (TypedBody.Typed c) room w h =
+    let f : NwkCommandWithLists = listed (listOf c) c s in
     let same : f .command ≡ c = listed-command (listOf c) c s in
     let e : misfits (listOf c) (wireOf c f) ≡ false = read-fits c s w in
     writes f room
     (subst (λ (d : NwkCommand). misfits (listOf d) (wireOf d f) ≡ false) (sym same) e)
     (subst (λ (d : NwkCommand). length (wireBytes (wireOf d f)) ≤ 108) (sym same) (typed-short c f (w .0) e))
-frame-writes s TypedBody.NotTyped room w h = writes (unparsed s) room refl (subst (λ (l : List ℕ). length l ≤ 108) (sym (unparsed-bytes s)) h)
+parsed-writes s TypedBody.NotTyped room w h = writes (unparsed s) room refl (subst (λ (l : List ℕ). length l ≤ 108) (sym (unparsed-bytes s)) h)
 
 -- of what was read only the room can be missing
 pub read-writes : (s : List ℕ) (room : ℕ) → Below 256 s → length s ≤ 108
-    → writeRefusal (readCommand s .frame) room ≡ on 18 (ltb room (length (commandBytes (readCommand s .frame))))
-unfolding accepted
+    → writeRefusal (readCommand s .command) room ≡ noRoom (readCommand s .command) room
 read-writes s room b h =
-    let r : readCommand s ≡ accepted (frameOf (typed s) s) = read-accepts s h in
-    rw r (frame-writes s (typed s) room (typed-writable s b h) h)
+    let r : readCommand s ≡ readAs (parsed (typed s) s) = read-accepts s h in
+    rw r (parsed-writes s (typed s) room (typed-writable s b h) h)

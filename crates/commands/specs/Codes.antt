@@ -194,12 +194,9 @@ commissioningTypes =
 unfoldable pub commissioningTypeOf : ℕ → NwkCommissioningTypeCode
 commissioningTypeOf n = cond (ltb n 2) (NwkCommissioningTypeCode.Known (getD commissioningTypes n NwkCommissioningType.InitialJoin)) NwkCommissioningTypeCode.Unknown
 
--- a bit as a truth value, and back
+-- a bit as a truth value
 abbrev pub isSet : ℕ → Bool
 isSet b = eqb b 1
-
-abbrev pub bit : Bool → ℕ
-bit b = cond b 1 0
 
 -- 3.4.6: device type and power source, one bit each
 abbrev pub deviceTypeBit : NwkRejoinCapabilityInformationDeviceType → Bool

@@ -8,11 +8,12 @@ use mathlib.Core.List.{List, [], _∷_, _++_}
 use lib.ListN.{getD, drop}
 use lib.Dec.{eqb}
 use Rattle.octets.specs.Strings.{tab}
-use Rattle.commands.specs.Codes.{manyToOneCode, manyToOneOf, statusCode, statusOf, associationStatusCode, associationStatusOf, reportIdentifierCode, reportIdentifierOf, updateIdentifierCode, updateIdentifierOf, timeoutCode, timeoutOf, timeoutStatusCode, timeoutStatusOf, powerTypeCode, powerTypeOf, commissioningTypeCode, commissioningTypeOf, isSet, bit, deviceTypeBit, deviceTypeOf, powerSourceBit, powerSourceOf}
+use Rattle.octets.specs.Fields.{bit}
+use Rattle.commands.specs.Codes.{manyToOneCode, manyToOneOf, statusCode, statusOf, associationStatusCode, associationStatusOf, reportIdentifierCode, reportIdentifierOf, updateIdentifierCode, updateIdentifierOf, timeoutCode, timeoutOf, timeoutStatusCode, timeoutStatusOf, powerTypeCode, powerTypeOf, commissioningTypeCode, commissioningTypeOf, isSet, deviceTypeBit, deviceTypeOf, powerSourceBit, powerSourceOf}
 use Rattle.commands.specs.Format.{Field, Format, Values}
 use Rattle.commands.specs.Format.Part.{keep, skip}
 use Rattle.commands.specs.Format.Field.{byte, number, bits}
-use Rattle.commands.specs.declared.MaybeEui64.{MaybeEui64}
+use Rattle.types.specs.declared.OptionEui64.{OptionEui64}
 use Rattle.commands.specs.declared.NwkRouteRequestCommand.{NwkRouteRequestCommand}
 use Rattle.commands.specs.declared.NwkRouteReplyCommand.{NwkRouteReplyCommand}
 use Rattle.commands.specs.declared.NwkNetworkStatusCommand.{NwkNetworkStatusCommand}
@@ -58,16 +59,16 @@ abbrev pub only : List ℕ → Values
 only hs = record { head = hs; entries = [] }
 
 -- an optional IEEE address: its presence bit, its entry, and back
-abbrev pub has : MaybeEui64 → ℕ
-has MaybeEui64.Absent = 0
-has (MaybeEui64.Present x) = 1
+abbrev pub has : OptionEui64 → ℕ
+has OptionEui64.Absent = 0
+has (OptionEui64.Present x) = 1
 
-abbrev pub addressEntry : MaybeEui64 → List (List ℕ)
-addressEntry MaybeEui64.Absent = []
-addressEntry (MaybeEui64.Present x) = (x ∷ []) ∷ []
+abbrev pub addressEntry : OptionEui64 → List (List ℕ)
+addressEntry OptionEui64.Absent = []
+addressEntry (OptionEui64.Present x) = (x ∷ []) ∷ []
 
-unfoldable pub addressOf : ℕ → ℕ → MaybeEui64
-addressOf b x = cond (eqb b 1) (MaybeEui64.Present x) MaybeEui64.Absent
+unfoldable pub addressOf : ℕ → ℕ → OptionEui64
+addressOf b x = cond (eqb b 1) (OptionEui64.Present x) OptionEui64.Absent
 
 -- the first n entries of an array, by index, d past its end
 unfoldable pub firsts : {A : Type 0} → A → List A → ℕ → List A
@@ -234,7 +235,7 @@ linkStatusFormat =
       entry = number 2 ∷ bits (keep 3 ∷ skip 1 ∷ keep 3 ∷ skip 1 ∷ []) ∷ [];
     }
 
--- the values: entry count, is first frame, is last frame; an entry is an address, an incoming and an outgoing cost
+-- the values: entry count, is first withLists, is last withLists; an entry is an address, an incoming and an outgoing cost
 unfoldable pub linkStatusOf : Values → TypedBody
 linkStatusOf v =
     TypedBody.Typed (NwkCommand.LinkStatus (record { «is_first_frame» = isSet (at v 1); «is_last_frame» = isSet (at v 2) }))

@@ -4,16 +4,17 @@
 -- Assumes nothing.
 use Prim.Native.Nat.{ℕ}
 use mathlib.Core.Bool.{cond}
-use mathlib.Core.List.{List, [], _++_, map}
+use mathlib.Core.List.{List, [], _∷_, _++_, map}
 use lib.ListN.{length, getD, drop, replicate}
 use lib.Dec.{ltb, leb}
+use Rattle.octets.specs.Refusals.{on, firstOf, unless}
 use Rattle.commands.specs.Codes.{commandIdOf}
 use Rattle.commands.specs.Format.{Format, Values, bodyEnd, values}
 use Rattle.commands.specs.Commands.{routeRequestFormat, routeRequestOf, routeReplyFormat, routeReplyOf, networkStatusFormat, networkStatusOf, leaveFormat, leaveOf, routeRecordFormat, routeRecordOf, rejoinRequestFormat, rejoinRequestOf, rejoinResponseFormat, rejoinResponseOf, linkStatusFormat, linkStatusOf, networkReportFormat, networkReportOf, networkUpdateFormat, networkUpdateOf, timeoutRequestFormat, timeoutRequestOf, timeoutResponseFormat, timeoutResponseOf, linkPowerDeltaFormat, linkPowerDeltaOf, commissioningRequestFormat, commissioningRequestOf, commissioningResponseFormat, commissioningResponseOf, relayOf, linkOf, noLink, powerOf, noPower, firsts}
 use Rattle.commands.specs.declared.NwkCommandId.{NwkCommandId}
 use Rattle.commands.specs.declared.NwkCommandIdCode.{NwkCommandIdCode}
 use Rattle.commands.specs.declared.NwkCommand.{NwkCommand}
-use Rattle.commands.specs.declared.NwkCommandFrame.{NwkCommandFrame}
+use Rattle.commands.specs.declared.NwkCommandWithLists.{NwkCommandWithLists}
 use Rattle.commands.specs.declared.NwkCommandList.{NwkCommandList}
 use Rattle.commands.specs.declared.NwkCommandRead.{NwkCommandRead}
 use Rattle.commands.specs.declared.TypedBody.{TypedBody}
@@ -67,8 +68,8 @@ unfoldable pub places : {A : Type 0} → A → ℕ → List A → List A
 places d m xs = xs ++ drop (length xs) (replicate m d)
 
 -- a command with its five lists
-unfoldable pub frame : NwkCommand → List ℕ → List NwkLinkStatus → List ℕ → List NwkPowerListEntry → List ℕ → NwkCommandFrame
-frame c relays links panIds powers bytes =
+unfoldable pub withLists : NwkCommand → List ℕ → List NwkLinkStatus → List ℕ → List NwkPowerListEntry → List ℕ → NwkCommandWithLists
+withLists c relays links panIds powers bytes =
     record {
       command = c;
       «relay_count» = length relays;
@@ -103,24 +104,24 @@ listOf (NwkCommand.NetworkCommissioningResponse c) = NwkCommandList.NoList
 listOf NwkCommand.Unparsed = NwkCommandList.Bytes
 
 -- a typed command with the list that the bytes s hold
-unfoldable pub listed : NwkCommandList → NwkCommand → List ℕ → NwkCommandFrame
-listed NwkCommandList.NoList c s = frame c [] [] [] [] []
-listed NwkCommandList.Relays c s = frame c (map relayOf (values routeRecordFormat s .entries)) [] [] [] []
-listed NwkCommandList.LinkStatuses c s = frame c [] (map linkOf (values linkStatusFormat s .entries)) [] [] []
-listed NwkCommandList.PanIds c s = frame c [] [] (map relayOf (values networkReportFormat s .entries)) [] []
-listed NwkCommandList.PowerList c s = frame c [] [] [] (map powerOf (values linkPowerDeltaFormat s .entries)) []
-listed NwkCommandList.Bytes c s = frame c [] [] [] [] []
+unfoldable pub listed : NwkCommandList → NwkCommand → List ℕ → NwkCommandWithLists
+listed NwkCommandList.NoList c s = withLists c [] [] [] [] []
+listed NwkCommandList.Relays c s = withLists c (map relayOf (values routeRecordFormat s .entries)) [] [] [] []
+listed NwkCommandList.LinkStatuses c s = withLists c [] (map linkOf (values linkStatusFormat s .entries)) [] [] []
+listed NwkCommandList.PanIds c s = withLists c [] [] (map relayOf (values networkReportFormat s .entries)) [] []
+listed NwkCommandList.PowerList c s = withLists c [] [] [] (map powerOf (values linkPowerDeltaFormat s .entries)) []
+listed NwkCommandList.Bytes c s = withLists c [] [] [] [] []
 
 -- the same command with the same list, the places past its count and the other lists cleared
-unfoldable pub clearedBy : NwkCommandList → NwkCommand → NwkCommandFrame → NwkCommandFrame
-clearedBy NwkCommandList.NoList c f = frame c [] [] [] [] []
-clearedBy NwkCommandList.Relays c f = frame c (firsts 0 (f .relays) (f .«relay_count»)) [] [] [] []
-clearedBy NwkCommandList.LinkStatuses c f = frame c [] (firsts noLink (f .«link_statuses») (f .«link_statuses_len»)) [] [] []
-clearedBy NwkCommandList.PanIds c f = frame c [] [] (firsts 0 (f .«pan_ids») (f .«report_information_count»)) [] []
-clearedBy NwkCommandList.PowerList c f = frame c [] [] [] (firsts noPower (f .«power_list») (f .«list_count»)) []
-clearedBy NwkCommandList.Bytes c f = frame c [] [] [] [] (firsts 0 (f .unparsed) (f .«unparsed_len»))
+unfoldable pub clearedBy : NwkCommandList → NwkCommand → NwkCommandWithLists → NwkCommandWithLists
+clearedBy NwkCommandList.NoList c f = withLists c [] [] [] [] []
+clearedBy NwkCommandList.Relays c f = withLists c (firsts 0 (f .relays) (f .«relay_count»)) [] [] [] []
+clearedBy NwkCommandList.LinkStatuses c f = withLists c [] (firsts noLink (f .«link_statuses») (f .«link_statuses_len»)) [] [] []
+clearedBy NwkCommandList.PanIds c f = withLists c [] [] (firsts 0 (f .«pan_ids») (f .«report_information_count»)) [] []
+clearedBy NwkCommandList.PowerList c f = withLists c [] [] [] (firsts noPower (f .«power_list») (f .«list_count»)) []
+clearedBy NwkCommandList.Bytes c f = withLists c [] [] [] [] (firsts 0 (f .unparsed) (f .«unparsed_len»))
 
-unfoldable pub cleared : NwkCommandFrame → NwkCommandFrame
+unfoldable pub cleared : NwkCommandWithLists → NwkCommandWithLists
 cleared f = clearedBy (listOf (f .command)) (f .command) f
 
 -- ---- reading
@@ -138,20 +139,23 @@ unfoldable pub typed : List ℕ → TypedBody
 typed s = typedBy (commandIdOf (getD s 0 0)) s
 
 -- all the bytes, kept as they are
-unfoldable pub unparsed : List ℕ → NwkCommandFrame
-unparsed s = frame NwkCommand.Unparsed [] [] [] [] s
+unfoldable pub unparsed : List ℕ → NwkCommandWithLists
+unparsed s = withLists NwkCommand.Unparsed [] [] [] [] s
 
-unfoldable pub frameOf : TypedBody → List ℕ → NwkCommandFrame
-frameOf (TypedBody.Typed c) s = listed (listOf c) c s
-frameOf TypedBody.NotTyped s = unparsed s
+unfoldable pub parsed : TypedBody → List ℕ → NwkCommandWithLists
+parsed (TypedBody.Typed c) s = listed (listOf c) c s
+parsed TypedBody.NotTyped s = unparsed s
 
-unfoldable pub accepted : NwkCommandFrame → NwkCommandRead
-accepted f = record { refusal = 0; frame = f }
+abbrev pub readAs : NwkCommandWithLists → NwkCommandRead
+readAs f = record { refusal = 0; command = f }
 
 -- after a refusal the command is blank: unparsed, with no bytes
-unfoldable pub refused : ℕ → NwkCommandRead
-refused n = record { refusal = n; frame = unparsed [] }
+abbrev pub readNothing : ℕ → NwkCommandRead
+readNothing n = record { refusal = n; command = unparsed [] }
 
 -- reading a command: document 01, number 12
+unfoldable pub readRefusal : List ℕ → ℕ
+readRefusal s = firstOf (on 12 (ltb maxNsduSize (length s)) ∷ [])
+
 unfoldable pub readCommand : List ℕ → NwkCommandRead
-readCommand s = cond (ltb maxNsduSize (length s)) (refused 12) (accepted (frameOf (typed s) s))
+readCommand s = unless (readRefusal s) (readAs (parsed (typed s) s)) (readNothing (readRefusal s))

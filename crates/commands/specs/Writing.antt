@@ -1,12 +1,12 @@
 -- Writing a command (document 01, "Commands"; refusals 13, 17 and 18), its identifier, and a timeout's seconds.
 -- Assumes nothing.
-use Prim.Native.Nat.{ℕ, zero, suc, _*_, _^_}
+use Prim.Native.Nat.{ℕ, _*_, _^_}
 use mathlib.Core.Bool.{Bool, false, cond, not, _||_}
 use mathlib.Core.List.{List, [], _∷_}
 use lib.ListN.{length, getD}
 use lib.Dec.{ltb, eqb}
-use Rattle.octets.specs.Strings.{over}
-use Rattle.octets.specs.Refusals.{on, firstOf}
+use Rattle.octets.specs.Refusals.{on, by, firstOf}
+use Rattle.octets.specs.Writing.{Run, written}
 use Rattle.commands.specs.Codes.{commandIdCode, commandIdOf}
 use Rattle.commands.specs.Format.{Values, bodyBytes, heldValues}
 use Rattle.commands.specs.Commands.{routeRequestValues, routeReplyValues, networkStatusValues, leaveValues, routeRecordValues, rejoinRequestValues, rejoinResponseValues, linkStatusValues, networkReportValues, networkUpdateValues, timeoutRequestValues, timeoutResponseValues, linkPowerDeltaValues, commissioningRequestValues, commissioningResponseValues, firsts}
@@ -14,9 +14,8 @@ use Rattle.commands.specs.Reading.{maxNsduSize, formatOf, listOf}
 use Rattle.commands.specs.declared.NwkCommandId.{NwkCommandId}
 use Rattle.commands.specs.declared.NwkCommandIdCode.{NwkCommandIdCode}
 use Rattle.commands.specs.declared.NwkCommand.{NwkCommand}
-use Rattle.commands.specs.declared.NwkCommandFrame.{NwkCommandFrame}
+use Rattle.commands.specs.declared.NwkCommandWithLists.{NwkCommandWithLists}
 use Rattle.commands.specs.declared.NwkCommandList.{NwkCommandList}
-use Rattle.commands.specs.declared.NwkCommandWritten.{NwkCommandWritten}
 use Rattle.commands.specs.declared.EndDeviceTimeoutSeconds.{EndDeviceTimeoutSeconds}
 
 -- a command as it goes out: an identifier with the values of its body, or bytes
@@ -24,7 +23,7 @@ pub data Wire : Type 0 where
   body : NwkCommandId → Values → Wire
   raw : List ℕ → Wire
 
-unfoldable pub wireOf : NwkCommand → NwkCommandFrame → Wire
+unfoldable pub wireOf : NwkCommand → NwkCommandWithLists → Wire
 wireOf (NwkCommand.RouteRequest c) f = body NwkCommandId.RouteRequest (routeRequestValues c)
 wireOf (NwkCommand.RouteReply c) f = body NwkCommandId.RouteReply (routeReplyValues c)
 wireOf (NwkCommand.NetworkStatus c) f = body NwkCommandId.NetworkStatus (networkStatusValues c)
@@ -42,7 +41,7 @@ wireOf (NwkCommand.NetworkCommissioningRequest c) f = body NwkCommandId.NetworkC
 wireOf (NwkCommand.NetworkCommissioningResponse c) f = body NwkCommandId.NetworkCommissioningResponse (commissioningResponseValues c)
 wireOf NwkCommand.Unparsed f = raw (firsts 0 (f .unparsed) (f .«unparsed_len»))
 
-unfoldable pub wire : NwkCommandFrame → Wire
+unfoldable pub wire : NwkCommandWithLists → Wire
 wire f = wireOf (f .command) f
 
 -- the bytes of a command; those of an unparsed one are its own
@@ -50,7 +49,7 @@ unfoldable pub wireBytes : Wire → List ℕ
 wireBytes (body id v) = commandIdCode id ∷ bodyBytes (formatOf id) v
 wireBytes (raw bs) = bs
 
-unfoldable pub commandBytes : NwkCommandFrame → List ℕ
+unfoldable pub commandBytes : NwkCommandWithLists → List ℕ
 commandBytes f = wireBytes (wire f)
 
 -- the stored count of a network update, 0 for the others
@@ -86,28 +85,20 @@ unfoldable pub misfits : NwkCommandList → Wire → Bool
 misfits k (body id v) = overPlaces k (length (v .entries)) || not (heldValues (formatOf id) v)
 misfits k (raw bs) = false
 
--- writing a command: document 01, numbers 13, 17 and 18
-unfoldable pub writeRefusal : NwkCommandFrame → ℕ → ℕ
+-- what its fields are refused by: document 01, number 13
+unfoldable pub fieldRefusal : NwkCommandWithLists → ℕ
+fieldRefusal f = firstOf (on 13 (misfits (listOf (f .command)) (wire f)) ∷ [])
+
+-- writing a command: its fields, then document 01, numbers 17 and 18
+unfoldable pub writeRefusal : NwkCommandWithLists → ℕ → ℕ
 writeRefusal f room =
     firstOf
-    (on 13 (misfits (listOf (f .command)) (wire f)) ∷ on 17 (ltb maxNsduSize (length (commandBytes f)))
+    (by (fieldRefusal f) ∷ on 17 (ltb maxNsduSize (length (commandBytes f)))
     ∷ on 18 (ltb room (length (commandBytes f))) ∷ [])
 
--- the answer by the refusal number r, where n bytes are to be written
-unfoldable pub written : ℕ → ℕ → NwkCommandWritten
-written zero n = record { refusal = 0; length = n }
-written (suc r) n = record { refusal = suc r; length = 0 }
-
--- the output o by the refusal number, where the bytes bs are to be written
-unfoldable pub outputBy : ℕ → List ℕ → List ℕ → List ℕ
-outputBy zero bs o = over o 0 bs
-outputBy (suc r) bs o = o
-
-unfoldable pub writeAnswer : NwkCommandFrame → ℕ → NwkCommandWritten
-writeAnswer f room = written (writeRefusal f room) (length (commandBytes f))
-
-unfoldable pub writeBuffer : NwkCommandFrame → List ℕ → List ℕ
-writeBuffer f o = outputBy (writeRefusal f (length o)) (commandBytes f) o
+-- what writing a command to the output o leaves
+unfoldable pub writeCommand : NwkCommandWithLists → List ℕ → Run
+writeCommand f o = written (writeRefusal f (length o)) (commandBytes f) o
 
 -- the identifier of a typed command
 abbrev pub typedId : NwkCommand → NwkCommandIdCode
@@ -133,7 +124,7 @@ unfoldable pub wireId : Wire → NwkCommandIdCode
 wireId (body id v) = NwkCommandIdCode.Known id
 wireId (raw bs) = commandIdOf (getD bs 0 0)
 
-unfoldable pub commandId : NwkCommandFrame → NwkCommandIdCode
+unfoldable pub commandId : NwkCommandWithLists → NwkCommandIdCode
 commandId f = wireId (wire f)
 
 -- 3.4.11, Table 3-58: code 0 is 10 seconds, any other code n is 2 to the power n minutes

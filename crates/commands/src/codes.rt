@@ -485,7 +485,7 @@ pub fn timeout_seconds(code: u8) -> EndDeviceTimeoutSeconds
 {
     let EndDeviceTimeoutCode::Known(timeout) = EndDeviceTimeout::try_from(code) else {
         return EndDeviceTimeoutSeconds {
-            refusal: 13,
+            refusal: octets::refusals::FIELD,
             seconds: 0,
         };
     };

@@ -4,8 +4,15 @@
 pub mod codes;
 
 ghost use mathlib.Core.Path.{_≡_};
-ghost use Rattle.commands.specs.Reading.{listOf};
+ghost use mathlib.Core.List.{[]};
+ghost use Prim.Native.Nat.{_≤_};
+ghost use Rattle.commands.specs.Commands.{has};
+ghost use Rattle.commands.specs.Reading.{listOf, withLists};
 ghost use Rattle.commands.specs.Writing.{typedId, commandId};
+use types::OptionEui64;
+
+// The most bytes that a command has.
+pub const MAX_NSDU_SIZE: usize = 108;
 
 // Zigbee 3.4: the command identifier, the first byte of a command.
 pub enum NwkCommandId {
@@ -26,12 +33,6 @@ pub enum NwkCommandId {
     NetworkCommissioningResponse = 0x0f,
 }
 
-// An optional IEEE address, as a number whose first wire byte is the lowest.
-pub enum MaybeEui64 {
-    Absent,
-    Present(u64),
-}
-
 // Zigbee 3.4.1.3.1.1.
 pub enum NwkRouteRequestManyToOne {
     NotManyToOne = 0,
@@ -46,7 +47,7 @@ pub struct NwkRouteRequestCommand {
     pub route_request_identifier: u8,
     pub destination_address: u16,
     pub path_cost: u8,
-    pub destination_eui64: MaybeEui64,
+    pub destination_eui64: OptionEui64,
 }
 
 // Zigbee 3.4.2: Route Reply.
@@ -55,8 +56,8 @@ pub struct NwkRouteReplyCommand {
     pub originator_nwk: u16,
     pub responder_nwk: u16,
     pub path_cost: u8,
-    pub originator_eui64: MaybeEui64,
-    pub responder_eui64: MaybeEui64,
+    pub originator_eui64: OptionEui64,
+    pub responder_eui64: OptionEui64,
 }
 
 // Zigbee 3.4.3: the status codes.
@@ -256,7 +257,7 @@ pub struct NwkNetworkCommissioningResponseCommand {
     pub status: Nwk802154AssociationStatus,
 }
 
-// A decoded command, or one kept as its bytes. Lists and bytes stand beside it, in NwkCommandFrame.
+// A decoded command, or one kept as its bytes. Lists and bytes stand beside it, in NwkCommandWithLists.
 pub enum NwkCommand {
     RouteRequest(NwkRouteRequestCommand),
     RouteReply(NwkRouteReplyCommand),
@@ -279,7 +280,7 @@ pub enum NwkCommand {
 // A command with its lists. Only the command's own list counts: a route record's relays, a link status's entries, a
 // network report's PAN ids, a link power delta's power list, or the bytes of an unparsed command. Places past a count
 // are 0 on reading and mean nothing on writing.
-pub struct NwkCommandFrame {
+pub struct NwkCommandWithLists {
     pub command: NwkCommand,
     pub relay_count: u8,
     pub relays: [u16; 53],
@@ -293,7 +294,7 @@ pub struct NwkCommandFrame {
     pub unparsed: [u8; 108],
 }
 
-// Which list of NwkCommandFrame is a command's own.
+// Which list of NwkCommandWithLists is a command's own.
 pub enum NwkCommandList {
     NoList,
     Relays,
@@ -313,13 +314,7 @@ pub enum TypedBody {
 // blank one: unparsed, with no bytes.
 pub struct NwkCommandRead {
     pub refusal: u8,
-    pub frame: NwkCommandFrame,
-}
-
-// What writing a command gives: the refusal number, 0 for none, and how many bytes were written.
-pub struct NwkCommandWritten {
-    pub refusal: u8,
-    pub length: usize,
+    pub command: NwkCommandWithLists,
 }
 
 // What a number means as a code: a declared value, or none.
@@ -437,7 +432,52 @@ impl NwkCommand {
     }
 }
 
-impl NwkCommandFrame {
+const NO_LINK: NwkLinkStatus = NwkLinkStatus {
+    address: 0,
+    incoming_cost: 0,
+    outgoing_cost: 0,
+};
+
+const NO_POWER: NwkPowerListEntry = NwkPowerListEntry {
+    device_address: 0,
+    power_delta: 0,
+};
+
+// The presence bit of an optional IEEE address.
+pub fn has_address(address: OptionEui64) -> u8
+    ensures { λ r. ⌜ (r ≡ has address) × (r ≤ 1) ⌝ }
+{
+    match address {
+        OptionEui64::Absent => 0,
+        OptionEui64::Present(_) => 1,
+    }
+}
+
+impl NwkCommandWithLists {
+    // A command with no list: every count and every place 0.
+    pub fn blank(command: NwkCommand) -> Self
+        ensures { λ r. ⌜ r ≡ withLists command [] [] [] [] [] ⌝ }
+    {
+        let relays = [0u16; 53];
+        let link_statuses = [NO_LINK; 31];
+        let pan_ids = [0u16; 31];
+        let power_list = [NO_POWER; 35];
+        let unparsed = [0u8; 108];
+        NwkCommandWithLists {
+            command,
+            relay_count: 0,
+            relays,
+            link_statuses_len: 0,
+            link_statuses,
+            report_information_count: 0,
+            pan_ids,
+            list_count: 0,
+            power_list,
+            unparsed_len: 0,
+            unparsed,
+        }
+    }
+
     // The command identifier; of an unparsed command that of its first byte, if it is known.
     pub fn command_id(self) -> NwkCommandIdCode
         ensures { λ r. ⌜ r ≡ commandId self ⌝ }

@@ -2,34 +2,33 @@
 -- the bytes. Assumes nothing.
 use borrow.Author.Needs.{needs}
 use mathlib.Core.Path.{sym, ap, _∙_}
-use borrow.Author.Tests.{lt-ltb}
 use native.Mathlib.Omega.{arith}
 use Rattle.command_reader.proofs.from_bytes.Statement.{statement}
 use Rattle.command_reader.proofs.from_bytes.Tie as tie
-use Rattle.commands.specs.Reading.{readCommand, refused, accepted, unparsed, frameOf}
+use Rattle.commands.specs.Reading.{readAs, unparsed, parsed}
 use Rattle.commands.specs.declared.TypedBody.{TypedBody}
-use Rattle.commands.proofs.RoundTrip.{read-accepts}
+use Rattle.commands.proofs.RoundTrip.{read-accepts, read-refuses}
 
 returns : tie.Need-returns
-unfolding readCommand refused unparsed
-returns c = rw (c .blank .ensures, lt-ltb _ _ (c .before .if1 .taken))
+unfolding unparsed
+returns c = (λ i. record { refusal = 12; command = c .blank .ensures i }) ∙ sym (read-refuses _ (c .before .if1 .taken))
 
 returns-2 : tie.Need-returns-2
-unfolding accepted frameOf
+unfolding parsed
 returns-2 c =
     let s = c .before .before .before .before .before .before .args .s .now in
-    ap accepted (c .keep-unparsed .ensures ∙ ap (λ (b : TypedBody). frameOf b s) (sym (c .before .enum-told .given .1) ∙ c .before .before .before .try-parse .ensures))
+    ap readAs (c .keep-unparsed .ensures ∙ ap (λ (b : TypedBody). parsed b s) (sym (c .before .enum-told .given .1) ∙ c .before .before .before .try-parse .ensures))
     ∙ sym (read-accepts s (c .before .before .before .before .if1 .left))
 
 with-list-requires : tie.Need-with-list-requires
 with-list-requires c κs =
-    (sym (c .before .before .before .try-parse .ensures) ∙ c .before .command .given .1, omega arith)
+    (sym (c .before .before .before .try-parse .ensures) ∙ c .before .typed .given .1, omega arith)
 
 returns-3 : tie.Need-returns-3
-unfolding accepted frameOf
+unfolding parsed
 returns-3 c =
     let s = c .before .before .before .before .before .before .before .args .s .now in
-    ap accepted (c .with-list .ensures ∙ ap (λ (b : TypedBody). frameOf b s) (sym (c .before .before .command .given .1) ∙ c .before .before .before .before .try-parse .ensures))
+    ap readAs (c .with-list .ensures ∙ ap (λ (b : TypedBody). parsed b s) (sym (c .before .before .typed .given .1) ∙ c .before .before .before .before .try-parse .ensures))
     ∙ sym (read-accepts s (c .before .before .before .before .before .if1 .left))
 
 pub from-bytes-spec : {M : Type 1} → statement M

@@ -2,35 +2,34 @@
 -- Assumes nothing.
 use borrow.Author.Needs.{needs}
 use mathlib.Core.Path.{_≡_, sym, ap, _∙_}
-use Prim.Native.Nat.{ℕ}
 use lib.ListN.{length}
 use Rattle.command_writer.proofs.serialize.Statement.{statement}
 use Rattle.command_writer.proofs.serialize.Tie as tie
-use Rattle.commands.specs.Writing.{commandBytes, writeRefusal, written, outputBy, writeAnswer, writeBuffer}
-use Rattle.command_writer.proofs.Tests.{written-not, output-not}
+use Rattle.octets.specs.Writing.{Run}
+use Rattle.octets.proofs.Writing.{write-accepted, write-refused}
+use Rattle.commands.specs.Writing.{commandBytes, writeRefusal, writeCommand}
 
 returns : tie.Need-returns
-unfolding writeAnswer writeBuffer
+unfolding writeCommand
 returns c =
-    let f = c .before .before .before .args .frame in
-    let o = c .before .before .before .args .out .now in
+    let a = c .before .before .before .args in
     let r = c .before .refusal in
-    let n = c .if1 .taken in (
-      written-not (r .result) (length (commandBytes f)) n ∙ ap (λ (k : ℕ). written k (length (commandBytes f))) (r .ensures),
-      output-not (r .result) (commandBytes f) o n ∙ ap (λ (k : ℕ). outputBy k (commandBytes f) o) (r .ensures),
+    let w = write-refused _ (commandBytes (a .given)) (a .out .now) (λ z. c .if1 .taken (r .ensures ∙ z)) in (
+      (λ i. record { refusal = r .ensures i; length = 0 }) ∙ ap (λ (x : Run). x .answer) (sym w),
+      ap (λ (x : Run). x .out) (sym w),
     )
 
 write-command-requires : tie.Need-write-command-requires
 write-command-requires c κs = sym (c .before .before .refusal .ensures) ∙ c .before .if1 .left
 
 returns-2 : tie.Need-returns-2
-unfolding writeAnswer writeBuffer written outputBy
+unfolding writeCommand
 returns-2 c =
-    let f = c .before .before .before .before .before .before .before .before .args .frame in
-    let o = c .before .before .before .before .before .before .before .before .args .out .now in
-    let none : 0 ≡ writeRefusal f (length o) = sym (c .before .before .before .before .before .if1 .left) ∙ c .before .before .before .before .before .before .refusal .ensures in (
-      (λ i. record { refusal = 0; length = c .length-of .ensures i }) ∙ ap (λ (k : ℕ). written k (length (commandBytes f))) none,
-      c .before .before .before .write-command .ensures ∙ ap (λ (k : ℕ). outputBy k (commandBytes f) o) none,
+    let d = c .before .before .before .before .before in
+    let a = d .before .before .before .args in
+    let w = write-accepted _ (commandBytes (a .given)) (a .out .now) (sym (d .before .refusal .ensures) ∙ d .if1 .left) in (
+      (λ i. record { refusal = 0; length = c .length-of .ensures i }) ∙ ap (λ (x : Run). x .answer) (sym w),
+      c .before .before .before .write-command .ensures ∙ ap (λ (x : Run). x .out) (sym w),
     )
 
 pub serialize-spec : {M : Type 1} → statement M

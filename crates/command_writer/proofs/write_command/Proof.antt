@@ -18,23 +18,23 @@ use Rattle.commands.proofs.InRange.{in-range}
 use Rattle.command_writer.proofs.Ready.{Ready, ready-by}
 
 -- a command that is not refused is ready for its writer
-ready-in : (s : tie.Start) (d : NwkCommand) → s .args .frame .command ≡ d → Ready d (s .args .frame) (length (s .args .out .now))
+ready-in : (s : tie.Start) (d : NwkCommand) → s .args .given .command ≡ d → Ready d (s .args .given) (length (s .args .out .now))
 ready-in s d q =
-    ready-by (s .args .frame) (length (s .args .out .now)) (in-range (s .args .frame) _ (s .good .0)) (s .pre) d q
+    ready-by (s .args .given) (length (s .args .out .now)) (in-range (s .args .given) _ (s .good .0)) (s .pre) d q
 
 -- an unparsed command has its bytes
-unparsed-in : (s : tie.Start) → s .args .frame .command ≡ NwkCommand.Unparsed
-    → (s .args .frame .«unparsed_len» ≤ length (s .args .frame .unparsed)) × (s .args .frame .«unparsed_len» ≤ length (s .args .out .now))
+unparsed-in : (s : tie.Start) → s .args .given .command ≡ NwkCommand.Unparsed
+    → (s .args .given .«unparsed_len» ≤ length (s .args .given .unparsed)) × (s .args .given .«unparsed_len» ≤ length (s .args .out .now))
 unparsed-in s q =
     let r = ready-in s NwkCommand.Unparsed q in
-    let n = in-range (s .args .frame) _ (s .good .0) .bytes in
+    let n = in-range (s .args .given) _ (s .good .0) .bytes in
     (omega arith, r .1)
 
 -- the bytes by the command's case
-bytes-in : (s : tie.Start) (d : NwkCommand) → s .args .frame .command ≡ d
-    → over (s .args .out .now) 0 (wireBytes (wireOf d (s .args .frame))) ≡ over (s .args .out .now) 0 (commandBytes (s .args .frame))
+bytes-in : (s : tie.Start) (d : NwkCommand) → s .args .given .command ≡ d
+    → over (s .args .out .now) 0 (wireBytes (wireOf d (s .args .given))) ≡ over (s .args .out .now) 0 (commandBytes (s .args .given))
 unfolding commandBytes wire
-bytes-in s d e = ap (λ (k : NwkCommand). over (s .args .out .now) 0 (wireBytes (wireOf k (s .args .frame)))) (sym e)
+bytes-in s d e = ap (λ (k : NwkCommand). over (s .args .out .now) 0 (wireBytes (wireOf k (s .args .given)))) (sym e)
 
 write-route-request-requires : tie.Need-write-route-request-requires
 write-route-request-requires c κs =
@@ -102,13 +102,13 @@ array-share-prefix-bytes c =
 
 slice-aggregate-copy-at : tie.Need-slice-aggregate-copy-at
 slice-aggregate-copy-at c =
-    let f = c .before .before .before .before .before .before .before .args .frame in
+    let f = c .before .before .before .before .before .before .before .args .given in
     let h = unparsed-in (c .before .before .before .before .before .before .before) (c .before .before .before .before .enum-told2 .given .1) in
     sym (length-take-le (f .«unparsed_len») (f .unparsed) (h .0))
 
 copy-at-requires : tie.Need-copy-at-requires
 copy-at-requires c κs =
-    let f = c .before .before .before .before .before .before .before .args .frame in
+    let f = c .before .before .before .before .before .before .before .args .given in
     let h = unparsed-in (c .before .before .before .before .before .before .before) (c .before .before .before .before .enum-told2 .given .1) in
     rw (zero-add, length-take-le (f .«unparsed_len») (f .unparsed) (h .0)) (h .1)
 
@@ -193,7 +193,7 @@ returns-16 c =
     let s = c .before .before .before .before .before .before .before .before .before .before in
     let e = c .before .before .before .before .before .before .before .enum-told2 .given .1 in
     c .before .before .copy-at .ensures
-    ∙ ap (over (s .args .out .now) 0) (sym (tab-getD (s .args .frame .unparsed) 0 (s .args .frame .«unparsed_len») (unparsed-in s e .0)))
+    ∙ ap (over (s .args .out .now) 0) (sym (tab-getD (s .args .given .unparsed) 0 (s .args .given .«unparsed_len») (unparsed-in s e .0)))
     ∙ bytes-in s _ e
 
 pub write-command-spec : {M : Type 1} → statement M

@@ -16,7 +16,7 @@ unfolding addressRecord
 returns c =
     let a = c .before .before .before .before .before .before .before .before .before .before .before .args in
     over-then (a .out .now) _ _ (a .i) (a .i + 1) _ _ (omega (arith, c .before .before .before .before .before .before .before .before .before .before .before .pre)) (ap (λ (n : ℕ). a .i + n) (sym (length-le 1 _)))
-    (c .before .before .before .before .before .before .before .put-u8 .ensures ∙ ap (λ (x : ℕ). over (a .out .now) (a .i) (le 1 x)) (c .before .before .before .before .before .before .before .before .presence .ensures))
+    (c .before .before .before .before .before .before .before .put-u8 .ensures ∙ ap (λ (x : ℕ). over (a .out .now) (a .i) (le 1 x)) (c .before .before .before .before .before .before .before .before .has-address .ensures .0))
     (c .before .before .put-u64 .ensures ∙ ap (λ (x : ℕ). over (c .before .before .before .before .before .before .before .put-u8 .last .0) (a .i + 1) (le 8 x)) (c .before .before .before .address-value .ensures))
 
 pub put-address-spec : {M : Type 1} → statement M

@@ -5,7 +5,7 @@ use mathlib.Core.List.{[], _∷_}
 use Rattle.command_records.proofs.fields.put_capability.Statement.{statement}
 use Rattle.command_records.proofs.fields.put_capability.Tie as tie
 use Rattle.octets.specs.Strings.{over}
-use Rattle.commands.specs.Codes.{bit}
+use Rattle.octets.specs.Fields.{bit}
 use Rattle.commands.specs.Commands.{capabilityValues}
 
 returns : tie.Need-returns
@@ -14,8 +14,8 @@ returns c =
     let a = c .before .before .before .before .before .before .before .before .before .before .before .before .before .before .before .before .args in
     c .before .before .copy-at .ensures
     ∙ (λ i. over (a .out .now) (a .i)
-    (c .before .before .before .before .before .before .before .before .before .before .before .before .before .before .bit-byte .ensures i ∷ (c .before .before .before .before .before .before .before .before .before .before .before .before .bit-byte2 .ensures ∙ ap bit (c .before .before .before .before .before .before .before .before .before .before .before .before .before .bit .ensures)) i ∷ (c .before .before .before .before .before .before .before .before .before .before .bit-byte3 .ensures ∙ ap bit (c .before .before .before .before .before .before .before .before .before .before .before .bit2 .ensures)) i ∷ c .before .before .before .before .before .before .before .before .before .bit-byte4 .ensures i
-    ∷ c .before .before .before .before .before .before .before .before .bit-byte5 .ensures i ∷ c .before .before .before .before .before .before .before .bit-byte6 .ensures i ∷ c .before .before .before .before .before .before .bit-byte7 .ensures i ∷ c .before .before .before .before .before .bit-byte8 .ensures i ∷ []))
+    (c .before .before .before .before .before .before .before .before .before .before .before .before .before .before .bit-of .ensures .0 i ∷ (c .before .before .before .before .before .before .before .before .before .before .before .before .bit-of2 .ensures .0 ∙ ap bit (c .before .before .before .before .before .before .before .before .before .before .before .before .before .bit .ensures)) i ∷ (c .before .before .before .before .before .before .before .before .before .before .bit-of3 .ensures .0 ∙ ap bit (c .before .before .before .before .before .before .before .before .before .before .before .bit2 .ensures)) i ∷ c .before .before .before .before .before .before .before .before .before .bit-of4 .ensures .0 i
+    ∷ c .before .before .before .before .before .before .before .before .bit-of5 .ensures .0 i ∷ c .before .before .before .before .before .before .before .bit-of6 .ensures .0 i ∷ c .before .before .before .before .before .before .bit-of7 .ensures .0 i ∷ c .before .before .before .before .before .bit-of8 .ensures .0 i ∷ []))
 
 pub put-capability-spec : {M : Type 1} → statement M
 put-capability-spec =

@@ -11,7 +11,7 @@ returns : tie.Need-returns
 unfolding fieldBytes
 returns c =
     let a = c .before .before .before .before .before .before .before .before .args in
-    c .before .before .copy-at .ensures ∙ (λ i. over (a .out .now) 0 (8 ∷ c .before .before .before .before .before .before .bit-byte .ensures i ∷ c .before .before .before .before .before .bit-byte2 .ensures i ∷ []))
+    c .before .before .copy-at .ensures ∙ (λ i. over (a .out .now) 0 (8 ∷ c .before .before .before .before .before .before .bit-of .ensures .0 i ∷ c .before .before .before .before .before .bit-of2 .ensures .0 i ∷ []))
 
 pub put-link-status-spec : {M : Type 1} → statement M
 put-link-status-spec =

@@ -10,18 +10,18 @@ use Rattle.octets.specs.Numbers.{le}
 use Rattle.octets.proofs.Numbers.{length-le}
 use Rattle.commands.specs.Codes.{manyToOneCode}
 use Rattle.command_records.specs.Fields.{fieldBytes}
-use Rattle.records.proofs.Writes.{over-four}
+use Rattle.octets.proofs.Strings.{over-then, over-three}
 
 returns : tie.Need-returns
 unfolding fieldBytes
 returns c =
     let a = c .before .before .before .before .before .before .before .before .before .before .before .before .before .before .before .before .before .before .before .args in
-    over-four (a .out .now) _ _ _ _ 0 3 5 6 (1 ∷ manyToOneCode (a .c .«many_to_one») ∷ a .c .«route_request_identifier» ∷ []) (le 2 (a .c .«destination_address»)) (le 1 (a .c .«path_cost»)) _
-    (omega arith) refl (rw (length-le 2 (a .c .«destination_address»)) refl) (rw (length-le 1 (a .c .«path_cost»)) refl)
+    over-three (a .out .now) _ _ _ 0 3 5 (1 ∷ manyToOneCode (a .c .«many_to_one») ∷ a .c .«route_request_identifier» ∷ []) (le 2 (a .c .«destination_address»)) _
+    (omega arith) refl (rw (length-le 2 (a .c .«destination_address»)) refl)
     (c .before .before .before .before .before .before .before .before .before .before .before .before .before .before .copy-at .ensures ∙ (λ i. over (a .out .now) 0 (1 ∷ c .before .before .before .before .before .before .before .before .before .before .before .before .before .before .before .before .before .code .ensures i ∷ a .c .«route_request_identifier» ∷ [])))
     (c .before .before .before .before .before .before .before .before .before .before .put-u16 .ensures)
-    (c .before .before .before .before .before .before .put-u8 .ensures)
-    (c .before .before .put-address .ensures)
+    (over-then _ _ _ 5 6 (le 1 (a .c .«path_cost»)) _ (omega arith) (rw (length-le 1 (a .c .«path_cost»)) refl)
+    (c .before .before .before .before .before .before .put-u8 .ensures) (c .before .before .put-address .ensures))
 
 pub put-route-request-spec : {M : Type 1} → statement M
 put-route-request-spec =

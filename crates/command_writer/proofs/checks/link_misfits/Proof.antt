@@ -2,7 +2,7 @@
 use native.Mathlib.Omega.{arith}
 use Rattle.command_writer.proofs.checks.link_misfits.Statement.{statement}
 use Rattle.command_writer.proofs.checks.link_misfits.Tie as tie
-use Rattle.command_writer.proofs.Tests.{cost-over, cost-test}
+use Rattle.command_writer.proofs.LinkCosts.{cost-over, cost-test}
 
 returns : tie.Need-returns
 returns c = cost-over (c .before .before .args .link) (omega arith) (c .if1 .taken)

@@ -1,29 +1,25 @@
 -- `command_writer::checks::refusal` meets its contract: the first test that holds gives the number. Assumes nothing.
 use borrow.Author.Needs.{needs}
-use mathlib.Core.Path.{sym, subst, _∙_}
-use Prim.Native.Nat.{ℕ, _<_, _≤_}
 use Rattle.command_writer.proofs.checks.refusal.Statement.{statement}
 use Rattle.command_writer.proofs.checks.refusal.Tie as tie
-use Rattle.command_writer.proofs.Tests.{refuse-13, refuse-17, refuse-18, accept}
+use Rattle.command_writer.proofs.WriteRefusal.{by-fields, too-long, no-room, not-refused}
 
 returns : tie.Need-returns
-returns c =
-    refuse-13 (c .before .before .args .frame) (c .before .before .args .room) (sym (c .before .misfits .ensures) ∙ c .if1 .taken)
+returns c = by-fields _ _ _ (c .before .field-refusal .ensures) (c .if1 .taken)
 
 returns-2 : tie.Need-returns-2
 returns-2 c =
-    let l = c .before .length-of in
-    refuse-17 (c .before .before .before .before .args .frame) (c .before .before .before .before .args .room) (sym (c .before .before .before .misfits .ensures) ∙ c .before .before .if1 .left) (subst (λ (n : ℕ). 108 < n) (l .ensures) (c .if2 .taken))
+    too-long _ _ (c .before .before .before .field-refusal .ensures) (c .before .before .if1 .left) (c .before .length-of .ensures) (c .if2 .taken)
 
 returns-3 : tie.Need-returns-3
 returns-3 c =
-    let l = c .before .before .length-of in
-    refuse-18 (c .before .before .before .before .before .args .frame) (c .before .before .before .before .before .args .room) (sym (c .before .before .before .before .misfits .ensures) ∙ c .before .before .before .if1 .left) (subst (λ (n : ℕ). n ≤ 108) (l .ensures) (c .before .if2 .left)) (subst (λ (n : ℕ). c .before .before .before .before .before .args .room < n) (l .ensures) (c .if3 .taken))
+    let d = c .before .before in
+    no-room _ _ (d .before .before .field-refusal .ensures) (d .before .if1 .left) (d .length-of .ensures) (c .before .if2 .left) (c .if3 .taken)
 
 returns-4 : tie.Need-returns-4
 returns-4 c =
-    let l = c .before .before .length-of in
-    accept (c .before .before .before .before .before .args .frame) (c .before .before .before .before .before .args .room) (sym (c .before .before .before .before .misfits .ensures) ∙ c .before .before .before .if1 .left) (subst (λ (n : ℕ). n ≤ 108) (l .ensures) (c .before .if2 .left)) (subst (λ (n : ℕ). n ≤ c .before .before .before .before .before .args .room) (l .ensures) (c .if3 .left))
+    let d = c .before .before in
+    not-refused _ _ (d .before .before .field-refusal .ensures) (d .before .if1 .left) (d .length-of .ensures) (c .before .if2 .left) (c .if3 .left)
 
 pub refusal-spec : {M : Type 1} → statement M
 refusal-spec = tie.close (tie.spec (λ c κs. search needs) returns (λ c κs. search needs) returns-2 returns-3 returns-4)

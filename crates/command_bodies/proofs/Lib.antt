@@ -1,3 +1,0 @@
--- The answers of the typed body readers.
-mod Whole
-mod Entries

@@ -1,2 +1,0 @@
--- What the readers of parts of a body give.
-pub mod Capability

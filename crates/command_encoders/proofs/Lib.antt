@@ -1,2 +1,0 @@
--- The laws of a route reply's bytes.
-mod ReplyBytes

@@ -1,2 +1,0 @@
--- A part of a command's bytes.
-pub mod Reply

@@ -1,2 +1,0 @@
--- The laws of fields and entries put one behind the other.
-pub mod Chain

@@ -1,2 +1,0 @@
--- What the parts of a command's bytes are.
-pub mod Options

@@ -1,0 +1,76 @@
+-- `pan_ids_at` meets its contract. The loop's invariant: the first i entries stand at their places.
+-- The measure is what is left of the places. Assumes nothing.
+use mathlib.Core.Path.{_≡_, refl, ap, _∙_}
+use native.Mathlib.Omega.{arith}
+use mathlib.Core.List.{_++_}
+use Prim.Native.Nat.{ℕ, _+_, _-_, _*_, _≤_, _<_}
+use lib.ListN.{length, drop, length-set}
+use Rattle.command_records.proofs.read_lists.pan_ids_at.Statement.{statement}
+use Rattle.command_records.proofs.read_lists.pan_ids_at.Tie as tie
+use Rattle.octets.specs.Strings.{tab}
+use Rattle.octets.proofs.Strings.{fill-turn, filled}
+use Rattle.octets.specs.Numbers.{leAt}
+
+abbrev Inv-loop : tie.InvT-loop
+Inv-loop bytes pan-ids₀ i₀ pan-ids i =
+    (i ≤ 31) × (length pan-ids ≡ 31) × (pan-ids ≡ tab (λ (k : ℕ). leAt 2 bytes (258 + 2 * k)) i ++ drop i pan-ids₀)
+
+abbrev μ-loop : tie.MeasureT-loop
+μ-loop bytes pan-ids₀ i₀ pan-ids i = 31 - i
+
+loop-holds : tie.Need-loop-holds Inv-loop μ-loop
+unfolding tab
+loop-holds c = (omega arith, refl, refl)
+
+mul-read-u16 : tie.Need-mul-read-u16 Inv-loop μ-loop
+mul-read-u16 c = omega arith
+
+add-read-u16 : tie.Need-add-read-u16 Inv-loop μ-loop
+add-read-u16 c = omega arith
+
+read-u16-requires : tie.Need-read-u16-requires Inv-loop μ-loop
+read-u16-requires c κs = tt
+
+mul-pan-ids : tie.Need-mul-pan-ids Inv-loop μ-loop
+mul-pan-ids c = omega arith
+
+array-write-pan-ids : tie.Need-array-write-pan-ids Inv-loop μ-loop
+array-write-pan-ids c = omega arith
+
+add-i : tie.Need-add-i Inv-loop μ-loop
+add-i c = omega arith
+
+loop-less : tie.Need-loop-less Inv-loop μ-loop
+loop-less c = omega arith
+
+loop-again : tie.Need-loop-again Inv-loop μ-loop
+loop-again c =
+    let l = c .before .before .loop in
+    let below : l .i < 31 = c .before .loop-test .taken in (
+      omega arith,
+      simp length-set (l .inv .1),
+      fill-turn _ (l .i) _ (l .pan-ids) (c .read-u16 .result) below (c .read-u16 .ensures) (l .inv .2),
+    )
+
+returns : tie.Need-returns Inv-loop μ-loop
+returns c =
+    let l = c .before .loop in
+    let done : l .i ≡ 31 = omega arith in
+    filled _ (l .i) _ (l .pan-ids) (omega arith) (l .inv .2) ∙ ap (tab _) done
+
+pub pan-ids-at-spec : {M : Type 1} → statement M
+pan-ids-at-spec =
+    tie.close
+    (tie.spec
+    Inv-loop
+    μ-loop
+    loop-holds
+    mul-read-u16
+    add-read-u16
+    read-u16-requires
+    mul-pan-ids
+    array-write-pan-ids
+    add-i
+    loop-less
+    loop-again
+    returns)

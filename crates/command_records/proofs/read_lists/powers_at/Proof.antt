@@ -1,0 +1,76 @@
+-- `powers_at` meets its contract. The loop's invariant: the first i entries stand at their places.
+-- The measure is what is left of the places. Assumes nothing.
+use mathlib.Core.Path.{_≡_, refl, ap, _∙_}
+use native.Mathlib.Omega.{arith}
+use mathlib.Core.List.{_++_}
+use Prim.Native.Nat.{ℕ, _+_, _-_, _*_, _≤_, _<_}
+use lib.ListN.{length, drop, length-set}
+use Rattle.command_records.proofs.read_lists.powers_at.Statement.{statement}
+use Rattle.command_records.proofs.read_lists.powers_at.Tie as tie
+use Rattle.octets.specs.Strings.{tab}
+use Rattle.octets.proofs.Strings.{fill-turn, filled}
+use Rattle.command_records.specs.Lists.{powerAt}
+
+abbrev Inv-loop : tie.InvT-loop
+Inv-loop bytes powers₀ i₀ powers i =
+    (i ≤ 35) × (length powers ≡ 35) × (powers ≡ tab (λ (k : ℕ). powerAt bytes (321 + 3 * k)) i ++ drop i powers₀)
+
+abbrev μ-loop : tie.MeasureT-loop
+μ-loop bytes powers₀ i₀ powers i = 35 - i
+
+loop-holds : tie.Need-loop-holds Inv-loop μ-loop
+unfolding tab
+loop-holds c = (omega arith, refl, refl)
+
+mul-power-at : tie.Need-mul-power-at Inv-loop μ-loop
+mul-power-at c = omega arith
+
+add-power-at : tie.Need-add-power-at Inv-loop μ-loop
+add-power-at c = omega arith
+
+power-at-requires : tie.Need-power-at-requires Inv-loop μ-loop
+power-at-requires c κs = omega arith
+
+mul-powers : tie.Need-mul-powers Inv-loop μ-loop
+mul-powers c = omega arith
+
+array-set-from-powers : tie.Need-array-set-from-powers Inv-loop μ-loop
+array-set-from-powers c = omega arith
+
+add-i : tie.Need-add-i Inv-loop μ-loop
+add-i c = omega arith
+
+loop-less : tie.Need-loop-less Inv-loop μ-loop
+loop-less c = omega arith
+
+loop-again : tie.Need-loop-again Inv-loop μ-loop
+loop-again c =
+    let l = c .before .before .loop in
+    let below : l .i < 35 = c .before .loop-test .taken in (
+      omega arith,
+      simp length-set (l .inv .1),
+      fill-turn _ (l .i) _ (l .powers) (c .power-at .result) below (c .power-at .ensures) (l .inv .2),
+    )
+
+returns : tie.Need-returns Inv-loop μ-loop
+returns c =
+    let l = c .before .loop in
+    let done : l .i ≡ 35 = omega arith in
+    filled _ (l .i) _ (l .powers) (omega arith) (l .inv .2) ∙ ap (tab _) done
+
+pub powers-at-spec : {M : Type 1} → statement M
+powers-at-spec =
+    tie.close
+    (tie.spec
+    Inv-loop
+    μ-loop
+    loop-holds
+    mul-power-at
+    add-power-at
+    power-at-requires
+    mul-powers
+    array-set-from-powers
+    add-i
+    loop-less
+    loop-again
+    returns)

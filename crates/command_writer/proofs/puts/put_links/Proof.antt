@@ -1,0 +1,84 @@
+-- `command_writer::puts::put_links` meets its contract. The loop's invariant: the first k entries stand one behind the other.
+-- Assumes nothing.
+use native.Mathlib.Omega.{arith}
+use mathlib.Core.Path.{_≡_, refl}
+use Prim.Native.Nat.{ℕ, _-_, _≤_}
+use lib.ListN.{length, getD}
+use Rattle.command_writer.proofs.puts.put_links.Statement.{statement}
+use Rattle.command_writer.proofs.puts.put_links.Tie as tie
+use Rattle.octets.specs.Strings.{over, tab}
+use Rattle.commands.specs.Format.{size, sizes, writeEntries}
+use Rattle.command_writer.proofs.Chain.{entries-none, entries-turn, entries-end}
+use Rattle.commands.specs.Commands.{linkStatusFormat, linkEntry, noLink}
+
+abbrev Inv-loop : tie.InvT-loop
+Inv-loop out₀ i n links k₀ out k =
+    (k ≤ n) × (length out ≡ length out₀) × (out ≡ over out₀ i (writeEntries (linkStatusFormat .entry) (tab (λ (j : ℕ). linkEntry (getD (links) j noLink)) k)))
+
+abbrev μ-loop : tie.MeasureT-loop
+μ-loop out₀ i n links k₀ out k = n - k
+
+loop-holds : tie.Need-loop-holds Inv-loop μ-loop
+loop-holds c =
+    let a = c .before .args in
+    (omega arith, refl, entries-none (linkStatusFormat .entry) (λ (j : ℕ). linkEntry (getD (a .t3) j noLink)) (a .out .now) (a .i))
+
+mul-link : tie.Need-mul-link Inv-loop μ-loop
+mul-link c = omega arith
+
+array-copy-out-link : tie.Need-array-copy-out-link Inv-loop μ-loop
+array-copy-out-link c = omega arith
+
+mul-put-link : tie.Need-mul-put-link Inv-loop μ-loop
+mul-put-link c = omega arith
+
+add-put-link : tie.Need-add-put-link Inv-loop μ-loop
+add-put-link c = omega arith
+
+put-link-requires : tie.Need-put-link-requires Inv-loop μ-loop
+put-link-requires c κs =
+    let low = c .before .before .before .before .before .pre .2 (c .before .before .before .loop .k) (c .before .before .loop-test .taken) in
+    (omega arith, low .0, low .1)
+
+add-k : tie.Need-add-k Inv-loop μ-loop
+add-k c = omega arith
+
+loop-less : tie.Need-loop-less Inv-loop μ-loop
+loop-less c = omega arith
+
+loop-again : tie.Need-loop-again Inv-loop μ-loop
+unfolding linkStatusFormat size sizes
+loop-again c =
+    let a = c .before .before .before .before .before .before .before .before .args in
+    let l = c .before .before .before .before .before .before .loop in (
+      omega arith,
+      omega arith,
+      entries-turn (linkStatusFormat .entry) (λ (j : ℕ). linkEntry (getD (a .t3) j noLink)) (l .k) (a .out .now) (l .out) (c .before .before .put-link .last .0) (a .i) (omega arith) (l .inv .2) (c .before .before .put-link .ensures),
+    )
+
+same-length : tie.Need-same-length Inv-loop μ-loop
+same-length c = c .before .loop .inv .1
+
+returns : tie.Need-returns Inv-loop μ-loop
+returns c =
+    let a = c .before .before .before .args in
+    let l = c .before .loop in
+    entries-end (linkStatusFormat .entry) (λ (j : ℕ). linkEntry (getD (a .t3) j noLink)) (l .k) (a .n) (a .out .now) (l .out) (a .i) (l .inv .0) (c .loop-test .left) (l .inv .2)
+
+pub put-links-spec : {M : Type 1} → statement M
+put-links-spec =
+    tie.close
+    (tie.spec
+    Inv-loop
+    μ-loop
+    loop-holds
+    mul-link
+    array-copy-out-link
+    mul-put-link
+    add-put-link
+    put-link-requires
+    add-k
+    loop-less
+    loop-again
+    same-length
+    returns)

@@ -1,0 +1,86 @@
+-- `command_writer::puts::put_numbers` meets its contract. The loop's invariant: the first k entries stand one behind the other.
+-- Assumes nothing.
+use native.Mathlib.Omega.{arith}
+use mathlib.Core.Path.{_≡_, refl, sym, ap, _∙_}
+use mathlib.Core.List.{append-nil}
+use Prim.Native.Nat.{ℕ, _+_, _-_, _*_, _≤_}
+use lib.ListN.{length, getD}
+use Rattle.command_writer.proofs.puts.put_numbers.Statement.{statement}
+use Rattle.command_writer.proofs.puts.put_numbers.Tie as tie
+use Rattle.octets.specs.Strings.{over, tab}
+use Rattle.commands.specs.Format.{size, sizes, width, writeField, writeFields, writeEntries}
+use Rattle.command_writer.proofs.Chain.{entries-none, entries-turn, entries-end}
+use Rattle.octets.specs.Numbers.{le}
+use Rattle.commands.specs.Commands.{routeRecordFormat, relayEntry}
+
+abbrev Inv-loop : tie.InvT-loop
+Inv-loop out₀ i xs n k₀ out k =
+    (k ≤ n) × (length out ≡ length out₀) × (out ≡ over out₀ i (writeEntries (routeRecordFormat .entry) (tab (λ (j : ℕ). relayEntry (getD (xs) j 0)) k)))
+
+abbrev μ-loop : tie.MeasureT-loop
+μ-loop out₀ i xs n k₀ out k = n - k
+
+loop-holds : tie.Need-loop-holds Inv-loop μ-loop
+loop-holds c =
+    let a = c .before .before .args in
+    (omega arith, refl, entries-none (routeRecordFormat .entry) (λ (j : ℕ). relayEntry (getD (a .xs .now) j 0)) (a .out .now) (a .i))
+
+mul-put-u16 : tie.Need-mul-put-u16 Inv-loop μ-loop
+mul-put-u16 c = omega arith
+
+add-put-u16 : tie.Need-add-put-u16 Inv-loop μ-loop
+add-put-u16 c = omega arith
+
+mul-put-u16-2 : tie.Need-mul-put-u16-2 Inv-loop μ-loop
+mul-put-u16-2 c = omega arith
+
+shared-slice-read-put-u16 : tie.Need-shared-slice-read-put-u16 Inv-loop μ-loop
+shared-slice-read-put-u16 c = omega arith
+
+put-u16-requires : tie.Need-put-u16-requires Inv-loop μ-loop
+put-u16-requires c κs = omega arith
+
+add-k : tie.Need-add-k Inv-loop μ-loop
+add-k c = omega arith
+
+loop-less : tie.Need-loop-less Inv-loop μ-loop
+loop-less c = omega arith
+
+loop-again : tie.Need-loop-again Inv-loop μ-loop
+unfolding routeRecordFormat relayEntry size sizes width writeField writeFields
+loop-again c =
+    let a = c .before .before .before .before .before .before .before .before .before .args in
+    let l = c .before .before .before .before .before .before .loop in
+    let x = getD (a .xs .now) (l .k) 0 in (
+      omega arith,
+      omega arith,
+      entries-turn (routeRecordFormat .entry) (λ (j : ℕ). relayEntry (getD (a .xs .now) j 0)) (l .k) (a .out .now) (l .out) (c .before .before .put-u16 .last .0) (a .i) (omega arith) (l .inv .2)
+          (c .before .before .put-u16 .ensures ∙ ap (over (l .out) (a .i + l .k * 2)) (sym (append-nil (le 2 x)))),
+    )
+
+same-length : tie.Need-same-length Inv-loop μ-loop
+same-length c = c .before .loop .inv .1
+
+returns : tie.Need-returns Inv-loop μ-loop
+returns c =
+    let a = c .before .before .before .before .args in
+    let l = c .before .loop in
+    entries-end (routeRecordFormat .entry) (λ (j : ℕ). relayEntry (getD (a .xs .now) j 0)) (l .k) (a .n) (a .out .now) (l .out) (a .i) (l .inv .0) (c .loop-test .left) (l .inv .2)
+
+pub put-numbers-spec : {M : Type 1} → statement M
+put-numbers-spec =
+    tie.close
+    (tie.spec
+    Inv-loop
+    μ-loop
+    loop-holds
+    mul-put-u16
+    add-put-u16
+    mul-put-u16-2
+    shared-slice-read-put-u16
+    put-u16-requires
+    add-k
+    loop-less
+    loop-again
+    same-length
+    returns)

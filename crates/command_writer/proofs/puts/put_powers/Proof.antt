@@ -1,0 +1,82 @@
+-- `command_writer::puts::put_powers` meets its contract. The loop's invariant: the first k entries stand one behind the other.
+-- Assumes nothing.
+use native.Mathlib.Omega.{arith}
+use mathlib.Core.Path.{_≡_, refl}
+use Prim.Native.Nat.{ℕ, _-_, _≤_}
+use lib.ListN.{length, getD}
+use Rattle.command_writer.proofs.puts.put_powers.Statement.{statement}
+use Rattle.command_writer.proofs.puts.put_powers.Tie as tie
+use Rattle.octets.specs.Strings.{over, tab}
+use Rattle.commands.specs.Format.{size, sizes, writeEntries}
+use Rattle.command_writer.proofs.Chain.{entries-none, entries-turn, entries-end}
+use Rattle.commands.specs.Commands.{linkPowerDeltaFormat, powerEntry, noPower}
+
+abbrev Inv-loop : tie.InvT-loop
+Inv-loop out₀ i n powers k₀ out k =
+    (k ≤ n) × (length out ≡ length out₀) × (out ≡ over out₀ i (writeEntries (linkPowerDeltaFormat .entry) (tab (λ (j : ℕ). powerEntry (getD (powers) j noPower)) k)))
+
+abbrev μ-loop : tie.MeasureT-loop
+μ-loop out₀ i n powers k₀ out k = n - k
+
+loop-holds : tie.Need-loop-holds Inv-loop μ-loop
+loop-holds c =
+    let a = c .before .args in
+    (omega arith, refl, entries-none (linkPowerDeltaFormat .entry) (λ (j : ℕ). powerEntry (getD (a .t3) j noPower)) (a .out .now) (a .i))
+
+mul-power : tie.Need-mul-power Inv-loop μ-loop
+mul-power c = omega arith
+
+array-copy-out-power : tie.Need-array-copy-out-power Inv-loop μ-loop
+array-copy-out-power c = omega arith
+
+mul-put-power : tie.Need-mul-put-power Inv-loop μ-loop
+mul-put-power c = omega arith
+
+add-put-power : tie.Need-add-put-power Inv-loop μ-loop
+add-put-power c = omega arith
+
+put-power-requires : tie.Need-put-power-requires Inv-loop μ-loop
+put-power-requires c κs = omega arith
+
+add-k : tie.Need-add-k Inv-loop μ-loop
+add-k c = omega arith
+
+loop-less : tie.Need-loop-less Inv-loop μ-loop
+loop-less c = omega arith
+
+loop-again : tie.Need-loop-again Inv-loop μ-loop
+unfolding linkPowerDeltaFormat size sizes
+loop-again c =
+    let a = c .before .before .before .before .before .before .before .before .args in
+    let l = c .before .before .before .before .before .before .loop in (
+      omega arith,
+      omega arith,
+      entries-turn (linkPowerDeltaFormat .entry) (λ (j : ℕ). powerEntry (getD (a .t3) j noPower)) (l .k) (a .out .now) (l .out) (c .before .before .put-power .last .0) (a .i) (omega arith) (l .inv .2) (c .before .before .put-power .ensures),
+    )
+
+same-length : tie.Need-same-length Inv-loop μ-loop
+same-length c = c .before .loop .inv .1
+
+returns : tie.Need-returns Inv-loop μ-loop
+returns c =
+    let a = c .before .before .before .args in
+    let l = c .before .loop in
+    entries-end (linkPowerDeltaFormat .entry) (λ (j : ℕ). powerEntry (getD (a .t3) j noPower)) (l .k) (a .n) (a .out .now) (l .out) (a .i) (l .inv .0) (c .loop-test .left) (l .inv .2)
+
+pub put-powers-spec : {M : Type 1} → statement M
+put-powers-spec =
+    tie.close
+    (tie.spec
+    Inv-loop
+    μ-loop
+    loop-holds
+    mul-power
+    array-copy-out-power
+    mul-put-power
+    add-put-power
+    put-power-requires
+    add-k
+    loop-less
+    loop-again
+    same-length
+    returns)
