@@ -11,7 +11,8 @@ use Rattle.ccm.specs.Operations.{micLength}
 use Rattle.frame.specs.Sealing.{sealRefusal, sealFrame}
 use Rattle.records.specs.HeaderRecord.{badHeaderRecord, headerOf}
 use Rattle.records.specs.AuxiliaryRecord.{badAuxRecord}
-use Rattle.nwk.specs.Frames.{auxGiven, sealRecordsRefusal, sealedRecords}
+use Rattle.records.specs.OpenedRecord.{optionOf}
+use Rattle.nwk.specs.Frames.{sealRecordsRefusal, sealedRecords}
 use Rattle.nwk.proofs.Calls.{refused-by, written-by}
 use Rattle.nwk.proofs.Refusals.{write-good}
 
@@ -37,10 +38,10 @@ returns-3 c =
     let e = sym (c .before .before .before .before .before .before .before .before .before .before .before .is-bad .ensures) ∙ c .before .before .before .before .before .before .before .before .before .before .if1 .left in
     let d = sym (c .before .before .before .before .before .before .before .before .before .is-bad2 .ensures) ∙ c .before .before .before .before .before .before .before .before .if2 .left in
     let h = c .before .before .before .before .before .before .header-of .ensures in
-    let x = c .before .before .before .before .before .aux-given .ensures in
+    let x = c .before .before .before .before .before .option-of .ensures in
     let k = c .before .before .before .before .before .before .before .from-halves .ensures in
     let s = c .before .before .before .seal in
-    written-by _ (sealRefusal micLength (headerOf (a .header .now)) (auxGiven (a .auxiliary .now)) (a .payload .now) (length (a .out .now))) (sealedRecords (keyBytes (a .key-first) (a .key-second)) (a .header .now) (a .auxiliary .now) (a .payload .now)) (a .out .now) _ (s .result) _
+    written-by _ (sealRefusal micLength (headerOf (a .header .now)) (optionOf (a .auxiliary .now)) (a .payload .now) (length (a .out .now))) (sealedRecords (keyBytes (a .key-first) (a .key-second)) (a .header .now) (a .auxiliary .now) (a .payload .now)) (a .out .now) _ (s .result) _
     (write-good (badAuxRecord (a .auxiliary .now)) _ d ∙ sym (skip 13 (badHeaderRecord (a .header .now)) _ e))
     (s .ensures .0 ∙ (λ i. sealFrame (k i) (h i) (x i) (a .payload .now) (a .out .now) .answer))
     (s .ensures .1 ∙ (λ i. sealFrame (k i) (h i) (x i) (a .payload .now) (a .out .now) .out))
