@@ -5,7 +5,7 @@ use mathlib.Core.Path.{_≡_}
 use mathlib.Core.Bool.{true, false}
 use mathlib.Core.List.{List, [], _∷_, _++_}
 use Prim.Native.Nat.{ℕ}
-use lib.ListN.{drop, take, replicate}
+use lib.ListN.{length, drop, take, replicate}
 use Rattle.header.specs.declared.control.NwkFrameControl.{NwkFrameControl}
 use Rattle.header.specs.declared.control.NwkFrameType.{NwkFrameType}
 use Rattle.header.specs.declared.control.NwkRouteDiscovery.{NwkRouteDiscovery}
@@ -13,42 +13,50 @@ use Rattle.types.specs.declared.OptionEui64.{OptionEui64}
 use Rattle.header.specs.declared.optional.OptionMulticast.{OptionMulticast}
 use Rattle.header.specs.declared.optional.NwkSourceRoute.{NwkSourceRoute}
 use Rattle.header.specs.declared.nwk.NwkHeader.{NwkHeader}
-use Rattle.header.specs.Reading.{readHeader}
+use Rattle.header.specs.Reading.{readHeader, blankHeader}
 use Rattle.commands.specs.declared.NwkCommand.{NwkCommand}
-use Rattle.commands.specs.declared.NwkCommandFrame.{NwkCommandFrame}
+use Rattle.commands.specs.declared.NwkCommandWithLists.{NwkCommandWithLists}
+use Rattle.commands.specs.declared.NwkEndDeviceTimeoutRequestCommand.{NwkEndDeviceTimeoutRequestCommand}
 use Rattle.commands.specs.declared.EndDeviceTimeout.{EndDeviceTimeout}
-use Rattle.commands.specs.Reading.{frame, unparsed, accepted, readCommand}
-use Rattle.commands.specs.Writing.{commandBytes, timeoutSeconds}
+use Rattle.commands.specs.Codes.{timeoutCode}
+use Rattle.commands.specs.Reading.{withLists, unparsed, readCommand}
+use Rattle.commands.specs.Writing.{writeCommand, timeoutSeconds}
 use Rattle.field.specs.SBox.{sbox}
 
 -- ---- the rows
 
 pub data Case : Type 0 where
-  -- a byte string reads as a header and leaves the bytes behind it
-  reads : List ℕ → NwkHeader → List ℕ → Case
+  -- a byte string reads as a header of so many bytes, and leaves the bytes behind it
+  reads : List ℕ → ℕ → NwkHeader → List ℕ → Case
   -- reading a header refuses a byte string by a number
   refuses : List ℕ → ℕ → Case
   -- a byte string reads as a command
-  isCommand : List ℕ → NwkCommandFrame → Case
+  isCommand : List ℕ → NwkCommandWithLists → Case
+  -- a byte string reads as a timeout request, and the code that it asks for has so many seconds
+  asks : List ℕ → NwkEndDeviceTimeoutRequestCommand → ℕ → Case
   -- a command is written as a byte string
-  isWritten : NwkCommandFrame → List ℕ → Case
-  -- a timeout code's seconds
-  lasts : ℕ → ℕ → Case
+  isWritten : NwkCommandWithLists → List ℕ → Case
   -- the S-box of a byte
   substitutes : ℕ → ℕ → Case
 
--- what a row says; 8 or more bytes are the header's, the rest is left
-pub record Reads (f : List ℕ) (h : NwkHeader) (rest : List ℕ) : Type 0 where
-  pub accepted : readHeader f .refusal ≡ 0
-  pub header : readHeader f .header ≡ h
-  pub left : drop (readHeader f .length) f ≡ rest
+-- a command without a list
+abbrev pub alone : NwkCommand → NwkCommandWithLists
+alone c = withLists c [] [] [] [] []
 
+-- an output of eight bytes that are not 0, so that what stays of it is seen
+abbrev pub lent : List ℕ
+lent = replicate 8 0xA5
+
+-- what a row says: the operation's whole answer and, where one is lent, its whole output
 abbrev pub Holds : Case → Type 0
-Holds (reads f h rest) = Reads f h rest
-Holds (refuses f n) = readHeader f .refusal ≡ n
-Holds (isCommand s c) = readCommand s ≡ accepted c
-Holds (isWritten c s) = commandBytes c ≡ s
-Holds (lasts n s) = timeoutSeconds n ≡ record { refusal = 0; seconds = s }
+Holds (reads f n h rest) = (readHeader f ≡ record { refusal = 0; length = n; header = h }) × (drop n f ≡ rest)
+Holds (refuses f n) = readHeader f ≡ record { refusal = n; length = 0; header = blankHeader }
+Holds (isCommand s c) = readCommand s ≡ record { refusal = 0; command = c }
+Holds (asks s c n) =
+    (readCommand s ≡ record { refusal = 0; command = alone (NwkCommand.EndDeviceTimeoutRequest c) })
+    × (timeoutSeconds (timeoutCode (c .«request_timeout_enum»)) ≡ record { refusal = 0; seconds = n })
+Holds (isWritten c s) =
+    writeCommand c lent ≡ record { answer = record { refusal = 0; length = length s }; out = s ++ drop (length s) lent }
 Holds (substitutes x y) = sbox x ≡ y
 
 abbrev pub All : List Case → Type 0
@@ -112,35 +120,32 @@ unfoldable pub routedBytes : List ℕ
 routedBytes =
     0x08 ∷ 0x04 ∷ 0x00 ∷ 0x00 ∷ 0x34 ∷ 0x12 ∷ 0x1E ∷ 0x07 ∷ 0x02 ∷ 0x01 ∷ 0x34 ∷ 0x12 ∷ 0x78 ∷ 0x56 ∷ []
 
--- Leave with request; timeout 14; link status, first and last, address 0x1234, costs in 1, out 3
-unfoldable pub leaveWithRequest : NwkCommandFrame
-leaveWithRequest = frame (NwkCommand.Leave (record { rejoin = false; request = true; «remove_children» = false })) [] [] [] [] []
+-- Leave with request; a request for timeout 14; link status, first and last, address 0x1234, costs in 1, out 3
+unfoldable pub leaveWithRequest : NwkCommandWithLists
+leaveWithRequest = alone (NwkCommand.Leave (record { rejoin = false; request = true; «remove_children» = false }))
 
-unfoldable pub timeout14 : NwkCommandFrame
-timeout14 =
-    frame (NwkCommand.EndDeviceTimeoutRequest (record { «request_timeout_enum» = EndDeviceTimeout.Minutes16384; «end_device_configuration» = 0 }))
-    [] [] [] [] []
+unfoldable pub timeout14 : NwkEndDeviceTimeoutRequestCommand
+timeout14 = record { «request_timeout_enum» = EndDeviceTimeout.Minutes16384; «end_device_configuration» = 0 }
 
-unfoldable pub oneLink : NwkCommandFrame
+unfoldable pub oneLink : NwkCommandWithLists
 oneLink =
-    frame (NwkCommand.LinkStatus (record { «is_first_frame» = true; «is_last_frame» = true }))
-    [] (record { address = 0x1234; «incoming_cost» = 1; «outgoing_cost» = 3 } ∷ []) [] [] []
+    withLists (NwkCommand.LinkStatus (record { «is_first_frame» = true; «is_last_frame» = true }))
+    [] (record { address = record { 0 = 0x1234 }; «incoming_cost» = 1; «outgoing_cost» = 3 } ∷ []) [] [] []
 
 -- ---- the table, in document 01's order
 
 unfoldable pub starred : List Case
 starred =
-    reads (plainBytes 0x08 ++ (0xAA ∷ [])) (fromProbe dataControl NwkSourceRoute.Absent (replicate 54 0)) (0xAA ∷ [])
+    reads (plainBytes 0x08 ++ (0xAA ∷ [])) 8 (fromProbe dataControl NwkSourceRoute.Absent (replicate 54 0)) (0xAA ∷ [])
     ∷ refuses (take 7 (plainBytes 0x08)) 2
     ∷ refuses (plainBytes 0x0A ++ (0xAA ∷ [])) 3
     ∷ refuses (plainBytes 0xC8 ++ (0xAA ∷ [])) 4
     ∷ refuses (plainBytes 0xCA ++ (0xAA ∷ [])) 3
-    ∷ reads routedBytes (fromProbe routedControl (NwkSourceRoute.Present 2 1) (0x1234 ∷ 0x5678 ∷ replicate 52 0)) []
+    ∷ reads routedBytes 14 (fromProbe routedControl (NwkSourceRoute.Present 2 1) (0x1234 ∷ 0x5678 ∷ replicate 52 0)) []
     ∷ refuses (take 13 routedBytes) 8
     ∷ isCommand (0x04 ∷ 0x40 ∷ []) leaveWithRequest
     ∷ isCommand (0x04 ∷ []) (unparsed (0x04 ∷ []))
-    ∷ isCommand (0x0B ∷ 0x0E ∷ 0x00 ∷ []) timeout14
-    ∷ lasts 14 983040
+    ∷ asks (0x0B ∷ 0x0E ∷ 0x00 ∷ []) timeout14 983040
     ∷ isCommand (0x0B ∷ 0x0F ∷ 0x00 ∷ []) (unparsed (0x0B ∷ 0x0F ∷ 0x00 ∷ []))
     ∷ isCommand (0x08 ∷ 0xE1 ∷ 0x34 ∷ 0x12 ∷ 0xB9 ∷ []) oneLink
     ∷ isWritten oneLink (0x08 ∷ 0x61 ∷ 0x34 ∷ 0x12 ∷ 0x31 ∷ [])

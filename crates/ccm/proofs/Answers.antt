@@ -2,26 +2,25 @@
 -- is given past the refusals.
 -- Assumes nothing.
 use mathlib.Core.Path.{_≡_, refl, sym, ap, _∙_, fun-ext}
-use mathlib.Core.Bool.{Bool, true, false, not}
+use mathlib.Core.Bool.{Bool, true, false}
 use mathlib.Core.List.{List, [], _∷_}
-use Prim.Native.Nat.{ℕ, zero, suc, _+_, _-_, _≤_, _<_}
+use Prim.Native.Nat.{ℕ, _+_, _-_, _≤_, _<_}
 use native.Mathlib.Omega.{arith}
 use native.Mathlib.Nat.{add-zero}
 use borrow.Author.Tests.{lt-ltb, le-ltb, ltb-false}
-use lib.Dec.{ltb}
 use lib.ListN.{length, getD, take, drop, length-drop}
 use lib.Seq.{take-all, getD-drop}
 use Rattle.octets.specs.Strings.{tab, over}
-use Rattle.octets.specs.Refusals.{on, orElse, firstOf}
+use Rattle.octets.specs.Refusals.{firstOf}
 use Rattle.octets.proofs.Strings.{tab-ext, tab-getD}
-use Rattle.octets.proofs.Refusals.{none-split, not-on}
+use Rattle.octets.proofs.Conditions.{none}
 use Rattle.aes.specs.KeyExpansion.{keyExpansion}
 use Rattle.aes.specs.Cipher.{cipher, aes128}
 use Rattle.aes.proofs.Block.{cipher-aes128}
 use Rattle.ccm.specs.Counters.{counterMode}
 use Rattle.ccm.specs.Generation.{encryptedTag, generationEncryption}
 use Rattle.ccm.specs.Verification.{Verified, tagValid, decryptionVerification}
-use Rattle.ccm.specs.Operations.{micLength, sealRefusals, openRefusals, givenIf}
+use Rattle.ccm.specs.Operations.{micLength, sealRefusal, givenIf}
 
 -- the cipher under expanded round keys is AES-128
 pub cipher-is : (key : List ℕ) (w : List (List (List ℕ))) → w ≡ keyExpansion key → cipher w ≡ aes128 key
@@ -29,43 +28,28 @@ cipher-is key w e = fun-ext (λ b. cipher-aes128 key b e refl)
 
 -- ---- the refusals in their order
 
-pub data-too-long : (a n room : ℕ) → 127 < a → 1 ≡ firstOf (sealRefusals a n room)
-unfolding sealRefusals firstOf orElse
+pub data-too-long : (a n room : ℕ) → 127 < a → 1 ≡ sealRefusal a n room
+unfolding sealRefusal firstOf
 data-too-long a n room h = rw (lt-ltb 127 a h) refl
 
-pub payload-too-long : (a n room : ℕ) → a ≤ 127 → 127 < n → 1 ≡ firstOf (sealRefusals a n room)
-unfolding sealRefusals firstOf orElse
+pub payload-too-long : (a n room : ℕ) → a ≤ 127 → 127 < n → 1 ≡ sealRefusal a n room
+unfolding sealRefusal firstOf
 payload-too-long a n room ha h = rw (le-ltb 127 a ha, lt-ltb 127 n h) refl
 
-pub no-room : (a n room : ℕ) → a ≤ 127 → n ≤ 127 → room < n → 18 ≡ firstOf (sealRefusals a n room)
-unfolding sealRefusals firstOf orElse
+pub no-room : (a n room : ℕ) → a ≤ 127 → n ≤ 127 → room < n → 18 ≡ sealRefusal a n room
+unfolding sealRefusal firstOf
 no-room a n room ha hn h = rw (le-ltb 127 a ha, le-ltb 127 n hn, lt-ltb room n h) refl
 
-pub no-refusal : (a n room : ℕ) → a ≤ 127 → n ≤ 127 → n ≤ room → 0 ≡ firstOf (sealRefusals a n room)
-unfolding sealRefusals firstOf orElse
+pub no-refusal : (a n room : ℕ) → a ≤ 127 → n ≤ 127 → n ≤ room → 0 ≡ sealRefusal a n room
+unfolding sealRefusal firstOf
 no-refusal a n room ha hn h = rw (le-ltb 127 a ha, le-ltb 127 n hn, le-ltb room n h) refl
 
 -- no refusal: the lengths are within their limits
-pub within : (a n room : ℕ) → firstOf (sealRefusals a n room) ≡ 0 → (a ≤ 127) × (n ≤ 127) × (n ≤ room)
-unfolding sealRefusals
-within a n room e =
-    let first = none-split (on 1 (ltb 127 a)) (on 1 (ltb 127 n) ∷ on 18 (ltb room n) ∷ []) e in
-    let second = none-split (on 1 (ltb 127 n)) (on 18 (ltb room n) ∷ []) (first .1) in
-    let third = none-split (on 18 (ltb room n)) [] (second .1) in
-    (ltb-false 127 a (not-on 0 (ltb 127 a) (first .0)), ltb-false 127 n (not-on 0 (ltb 127 n) (second .0)), ltb-false room n (not-on 17 (ltb room n) (third .0)))
-
--- a number behind three others comes where those give none
-behind : (x y z w : ℕ) → firstOf (x ∷ y ∷ z ∷ w ∷ []) ≡ orElse (firstOf (x ∷ y ∷ z ∷ [])) w
-unfolding firstOf orElse
-behind zero zero zero zero = refl
-behind zero zero zero (suc w) = refl
-behind zero zero (suc z) w = refl
-behind zero (suc y) z w = refl
-behind (suc x) y z w = refl
-
-pub open-order : (a c room : ℕ) (valid : Bool) → firstOf (openRefusals a c room valid) ≡ orElse (firstOf (sealRefusals a c room)) (on 19 (not valid))
-unfolding openRefusals sealRefusals
-open-order a c room valid = behind (on 1 (ltb 127 a)) (on 1 (ltb 127 c)) (on 18 (ltb room c)) (on 19 (not valid))
+pub within : (a n room : ℕ) → sealRefusal a n room ≡ 0 → (a ≤ 127) × (n ≤ 127) × (n ≤ room)
+unfolding sealRefusal
+within a n₀ room e =
+    let n = none _ e in
+    (ltb-false 127 a (n .0), ltb-false 127 n₀ (n .1 .0), ltb-false room n₀ (n .1 .1 .0))
 
 -- ---- sealing
 

@@ -8,4 +8,3 @@ pub mod ZeroFill
 pub mod Opening
 pub mod BlockCounts
 pub mod Runs
-mod Returns

@@ -7,15 +7,14 @@ use mathlib.Core.Bool.{Bool, true, false, cond}
 use mathlib.Core.List.{List}
 use Prim.Native.Nat.{ℕ, zero, suc, _<_}
 use native.Mathlib.Omega.{arith}
-use native.Mathlib.Decide.{decLt}
-use mathlib.Core.Logic.{⊎-elim, _⊎_, inl, inr}
+use mathlib.Core.Logic.{⊎-elim}
 use borrow.Author.Tests.{eq-eqb, eqb-true}
 use lib.Bits.{bitXor}
 use lib.Dec.{eqb}
 use lib.ListN.{length, getD}
 use lib.Seq.{take-length, ext-getD}
 use Rattle.octets.specs.Strings.{xored}
-use Rattle.octets.proofs.Strings.{getD-tab}
+use Rattle.octets.proofs.Strings.{getD-tab, below-or-last}
 use Rattle.octets.proofs.Xor.{xor-twice, length-xored, xored-twice}
 use Rattle.ccm.specs.Formatting.{blocksOf}
 use Rattle.ccm.specs.Counters.{keyBlock, keyStream, streamFor, counterMode}
@@ -24,10 +23,6 @@ use Rattle.ccm.specs.Generation.{encryptedTag, generationEncryption}
 use Rattle.ccm.specs.Verification.{sameBytes, tagValid, decryptionVerification}
 
 -- ---- the comparison of tags
-
--- a byte below the last, or the last
-place : (i n : ℕ) → i < suc n → (i < n) ⊎ (i ≡ n)
-place i n h = elim (decLt i n) [ yes l ↦ inl l | no l ↦ inr (omega arith) ]
 
 both : (x y : ℕ) (b : Bool) → cond (eqb x y) b false ≡ true → (x ≡ y) × (b ≡ true)
 both x y b h = go (eqb x y) refl h
@@ -48,10 +43,7 @@ unfolding sameBytes
 same-means zero u v h i l = absurd (omega arith)
 same-means (suc n) u v h i l =
     let r = both (getD u n 0) (getD v n 0) (sameBytes n u v) h in
-    ⊎-elim (λ k. same-means n u v (r .1) i k) (λ e. rw e (r .0)) (place i n l)
-
-pub same-self : (n : ℕ) (u : List ℕ) → sameBytes n u u ≡ true
-same-self n u = same-from n u u (λ i l. refl)
+    ⊎-elim (λ k. same-means n u v (r .1) i k) (λ e. rw e (r .0)) (below-or-last i n l)
 
 pub same-equal : (n : ℕ) (u v : List ℕ) → length u ≡ n → length v ≡ n → sameBytes n u v ≡ true → u ≡ v
 same-equal n u v eu ev h = ext-getD 0 u v (eu ∙ sym ev) (λ i l. same-means n u v h i (rw (← eu) l))

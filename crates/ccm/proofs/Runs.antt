@@ -1,67 +1,60 @@
--- The operations past and short of their refusals: with a number the run is the refusal, with none it is the sealing or
--- opening of the definitions. By the order of the refusals.
+-- The runs of the operations at each return of the code: refused by a number, or what the definition gives past the refusals.
 -- Assumes nothing.
-use mathlib.Core.Path.{_≡_, refl}
-use mathlib.Core.Bool.{true, false, not}
+use mathlib.Core.Path.{_≡_, refl, sym, ap, _∙_}
+use mathlib.Core.Bool.{Bool, true, false, not}
 use mathlib.Core.List.{List}
-use Prim.Native.Nat.{ℕ, zero, suc}
+use Prim.Native.Nat.{ℕ}
+use native.Mathlib.Omega.{arith}
 use lib.ListN.{length}
-use Rattle.octets.specs.Refusals.{on, orElse, firstOf}
+use Rattle.octets.specs.Strings.{over}
+use Rattle.octets.specs.Writing.{Run, wroteNothing}
+use Rattle.octets.proofs.Conditions.{accepted, refused-by, stop, skip, stop-by, skip-by, empty}
+use Rattle.octets.proofs.Writing.{write-accepted, write-refused}
 use Rattle.aes.specs.Cipher.{aes128}
-use Rattle.ccm.specs.Generation.{Generated, generationEncryption}
+use Rattle.ccm.specs.Generation.{generationEncryption}
 use Rattle.ccm.specs.Verification.{Verified, decryptionVerification}
-use Rattle.ccm.specs.Operations.{micLength, sealRefusals, sealRefused, sealPassed, sealBy, encryptCcm, openRefused, openPassed, openBy, decryptCcm}
-use Rattle.ccm.proofs.Answers.{open-order}
-
-seal-stops : (n : ℕ) (g : Generated) (out : List ℕ) → (n ≡ 0 → ⊥) → sealBy n g out ≡ sealRefused n out
-unfolding sealBy
-seal-stops zero g out h = absurd (h refl)
-seal-stops (suc n) g out h = refl
-
-open-stops : (n : ℕ) (v : Verified) (out : List ℕ) → (n ≡ 0 → ⊥) → openBy n v out ≡ openRefused n out
-unfolding openBy
-open-stops zero v out h = absurd (h refl)
-open-stops (suc n) v out h = refl
-
-else-first : (n m : ℕ) → (n ≡ 0 → ⊥) → orElse n m ≡ n
-unfolding orElse
-else-first zero m h = absurd (h refl)
-else-first (suc n) m h = refl
+use Rattle.ccm.specs.Operations.{micLength, sealRefusal, SealRun, sealRefused, sealPassed, encryptCcm, openRefusal, givenIf, decryptCcm}
+use Rattle.ccm.specs.declared.Sealed.{Sealed}
+use Rattle.ccm.proofs.Opening.{length-ciphertext, length-payload}
 
 -- ---- encrypt_ccm
 
 module _ (key nonce a p out : List ℕ) where
-  pub encrypt-refused : (n : ℕ) → n ≡ firstOf (sealRefusals (length a) (length p) (length out)) → (n ≡ 0 → ⊥)
-      → encryptCcm key nonce a p out ≡ sealRefused n out
+  pub encrypt-refused : (n : ℕ) → n ≡ sealRefusal (length a) (length p) (length out) → (n ≡ 0 → ⊥) → sealRefused n out ≡ encryptCcm key nonce a p out
   unfolding encryptCcm
-  encrypt-refused n e h = rw (← e) (seal-stops n (generationEncryption micLength (aes128 key) nonce a p) out h)
+  encrypt-refused n e h = refused-by _ n _ (λ (m : ℕ). sealRefused m out) e h
 
-  pub encrypt-passed : firstOf (sealRefusals (length a) (length p) (length out)) ≡ 0
-      → encryptCcm key nonce a p out ≡ sealPassed (generationEncryption micLength (aes128 key) nonce a p) out
-  unfolding encryptCcm sealBy
-  encrypt-passed e = rw e refl
+  pub encrypt-done : (mic o : List ℕ) → sealRefusal (length a) (length p) (length out) ≡ 0
+      → mic ≡ generationEncryption micLength (aes128 key) nonce a p .tag
+      → o ≡ over out 0 (generationEncryption micLength (aes128 key) nonce a p .ciphertext)
+      → _≡_ {A = SealRun} (record { answer = record { refusal = 0; length = length p; mic = mic }; out = o }) (encryptCcm key nonce a p out)
+  unfolding encryptCcm
+  encrypt-done mic o e m h =
+      (λ i. record { answer = record { refusal = 0; length = sym (length-ciphertext micLength (aes128 key) nonce a p) i; mic = m i }; out = h i })
+      ∙ sym (accepted (sealRefusal (length a) (length p) (length out)) (sealPassed (generationEncryption micLength (aes128 key) nonce a p) out) _ e)
 
 -- ---- decrypt_ccm
 
 module _ (key nonce a c mic out : List ℕ) where
   -- 1 and 18, whatever the MIC
-  pub decrypt-refused : (n : ℕ) → n ≡ firstOf (sealRefusals (length a) (length c) (length out)) → (n ≡ 0 → ⊥)
-      → decryptCcm key nonce a c mic out ≡ openRefused n out
-  unfolding decryptCcm
-  decrypt-refused n e h =
-      rw (open-order (length a) (length c) (length out) (decryptionVerification micLength (aes128 key) nonce a c mic .valid), ← e, else-first n (on 19 (not (decryptionVerification micLength (aes128 key) nonce a c mic .valid))) h)
-      (open-stops n (decryptionVerification micLength (aes128 key) nonce a c mic) out h)
+  pub decrypt-refused : (n : ℕ) → n ≡ sealRefusal (length a) (length c) (length out) → (n ≡ 0 → ⊥)
+      → wroteNothing n out ≡ decryptCcm key nonce a c mic out
+  unfolding decryptCcm openRefusal
+  decrypt-refused n e h = write-refused _ n _ out (e ∙ sym (stop-by _ _ (λ z. h (e ∙ z)))) h
 
-  -- 19 past those
-  pub decrypt-invalid : firstOf (sealRefusals (length a) (length c) (length out)) ≡ 0
-      → decryptionVerification micLength (aes128 key) nonce a c mic .valid ≡ false → decryptCcm key nonce a c mic out ≡ openRefused 19 out
-  unfolding decryptCcm openBy orElse
-  decrypt-invalid e f =
-      rw (open-order (length a) (length c) (length out) (decryptionVerification micLength (aes128 key) nonce a c mic .valid), e, f) refl
+  module _ (o : List ℕ) (v : Bool) (e : sealRefusal (length a) (length c) (length out) ≡ 0)
+      (valid : v ≡ decryptionVerification micLength (aes128 key) nonce a c mic .valid)
+      (h : o ≡ givenIf v (decryptionVerification micLength (aes128 key) nonce a c mic) out) where
+    -- opened
+    pub decrypt-done : v ≡ true → _≡_ {A = Run} (record { answer = record { refusal = 0; length = length c }; out = o }) (decryptCcm key nonce a c mic out)
+    unfolding decryptCcm openRefusal givenIf
+    decrypt-done t =
+        (λ i. record { answer = record { refusal = 0; length = sym (length-payload micLength (aes128 key) nonce a c mic) i }; out = (rw t at h) i })
+        ∙ write-accepted _ 0 _ out (sym (skip-by _ _ e ∙ skip 19 _ _ (ap not (sym valid ∙ t)) ∙ empty)) refl
 
-  pub decrypt-passed : firstOf (sealRefusals (length a) (length c) (length out)) ≡ 0
-      → decryptionVerification micLength (aes128 key) nonce a c mic .valid ≡ true
-      → decryptCcm key nonce a c mic out ≡ openPassed (decryptionVerification micLength (aes128 key) nonce a c mic) out
-  unfolding decryptCcm openBy orElse
-  decrypt-passed e t =
-      rw (open-order (length a) (length c) (length out) (decryptionVerification micLength (aes128 key) nonce a c mic .valid), e, t) refl
+    -- refused by 19
+    pub decrypt-not : v ≡ false → wroteNothing 19 o ≡ decryptCcm key nonce a c mic out
+    unfolding decryptCcm openRefusal givenIf
+    decrypt-not f =
+        ap (wroteNothing 19) (rw f at h)
+        ∙ write-refused _ 19 _ out (sym (skip-by _ _ e ∙ stop 19 _ _ (ap not (sym valid ∙ f)))) (λ z. omega arith)

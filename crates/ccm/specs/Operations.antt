@@ -3,16 +3,16 @@
 -- Assumes nothing.
 use mathlib.Core.Bool.{Bool, cond, not}
 use mathlib.Core.List.{List, [], _∷_}
-use Prim.Native.Nat.{ℕ, zero, suc, _-_}
+use Prim.Native.Nat.{ℕ, _-_}
 use lib.Dec.{ltb}
 use lib.ListN.{length, drop}
 use Rattle.octets.specs.Strings.{over}
-use Rattle.octets.specs.Refusals.{on, firstOf}
+use Rattle.octets.specs.Refusals.{unless, on, by, firstOf}
+use Rattle.octets.specs.Writing.{Run, written}
 use Rattle.aes.specs.Cipher.{aes128}
 use Rattle.ccm.specs.Generation.{Generated, generationEncryption}
 use Rattle.ccm.specs.Verification.{Verified, decryptionVerification}
 use Rattle.ccm.specs.declared.Sealed.{Sealed}
-use Rattle.ccm.specs.declared.Opened.{Opened}
 use Rattle.ccm.specs.declared.Split.{Split}
 
 -- the length of the MIC
@@ -33,8 +33,8 @@ openedBy t key nonce a c mic = decryptionVerification t (aes128 key) nonce a c m
 -- ---- encrypt_ccm
 
 -- 1 for the authenticated data, a bytes, and for the payload, p bytes; 18 for the output's room
-unfoldable pub sealRefusals : ℕ → ℕ → ℕ → List ℕ
-sealRefusals a p room = on 1 (ltb 127 a) ∷ on 1 (ltb 127 p) ∷ on 18 (ltb room p) ∷ []
+unfoldable pub sealRefusal : ℕ → ℕ → ℕ → ℕ
+sealRefusal a p room = firstOf (on 1 (ltb 127 a) ∷ on 1 (ltb 127 p) ∷ on 18 (ltb room p) ∷ [])
 
 -- a whole run of encrypt_ccm
 pub record SealRun : Type 0 where
@@ -50,50 +50,26 @@ abbrev pub sealPassed : Generated → List ℕ → SealRun
 sealPassed g out =
     record { answer = record { refusal = 0; length = length (g .ciphertext); mic = g .tag }; out = over out 0 (g .ciphertext) }
 
--- by the refusal number, 0 for none
-unfoldable pub sealBy : ℕ → Generated → List ℕ → SealRun
-sealBy zero g out = sealPassed g out
-sealBy (suc n) g out = sealRefused (suc n) out
-
 -- the key, the nonce, the authenticated data a, the payload p, and what the output holds before
 unfoldable pub encryptCcm : List ℕ → List ℕ → List ℕ → List ℕ → List ℕ → SealRun
 encryptCcm key nonce a p out =
-    sealBy (firstOf (sealRefusals (length a) (length p) (length out))) (generationEncryption micLength (aes128 key) nonce a p) out
+    unless (sealRefusal (length a) (length p) (length out)) (sealPassed (sealedBy micLength key nonce a p) out)
+    (sealRefused (sealRefusal (length a) (length p) (length out)) out)
 
 -- ---- decrypt_ccm
 
 -- the same for the ciphertext, c bytes; then 19 where the MIC is not the one computed
-unfoldable pub openRefusals : ℕ → ℕ → ℕ → Bool → List ℕ
-openRefusals a c room valid = on 1 (ltb 127 a) ∷ on 1 (ltb 127 c) ∷ on 18 (ltb room c) ∷ on 19 (not valid) ∷ []
-
--- a whole run of decrypt_ccm
-pub record OpenRun : Type 0 where
-  pub answer : Opened
-  pub out : List ℕ
-
--- the run that is refused by the number n
-abbrev pub openRefused : ℕ → List ℕ → OpenRun
-openRefused n out = record { answer = record { refusal = n; length = 0 }; out = out }
-
--- the payload stands at the front of the output
-abbrev pub openPassed : Verified → List ℕ → OpenRun
-openPassed v out = record { answer = record { refusal = 0; length = length (v .payload) }; out = over out 0 (v .payload) }
+unfoldable pub openRefusal : ℕ → ℕ → ℕ → Bool → ℕ
+openRefusal a c room valid = firstOf (by (sealRefusal a c room) ∷ on 19 (not valid) ∷ [])
 
 -- what the output holds: the payload at its front if the MIC is valid, else what it held
 unfoldable pub givenIf : Bool → Verified → List ℕ → List ℕ
 givenIf valid v out = cond valid (over out 0 (v .payload)) out
 
--- by the refusal number, 0 for none
-unfoldable pub openBy : ℕ → Verified → List ℕ → OpenRun
-openBy zero v out = openPassed v out
-openBy (suc n) v out = openRefused (suc n) out
-
 -- the key, the nonce, the authenticated data a, the ciphertext c with its MIC, and what the output holds before
-unfoldable pub decryptCcm : List ℕ → List ℕ → List ℕ → List ℕ → List ℕ → List ℕ → OpenRun
+unfoldable pub decryptCcm : List ℕ → List ℕ → List ℕ → List ℕ → List ℕ → List ℕ → Run
 decryptCcm key nonce a c mic out =
-    openBy (firstOf (openRefusals (length a) (length c) (length out) (decryptionVerification micLength (aes128 key) nonce a c mic .valid)))
-    (decryptionVerification micLength (aes128 key) nonce a c mic)
-    out
+    written (openRefusal (length a) (length c) (length out) (openedBy micLength key nonce a c mic .valid)) (openedBy micLength key nonce a c mic .payload) out
 
 -- ---- split_mic
 

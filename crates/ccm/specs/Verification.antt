@@ -1,5 +1,6 @@
--- SP 800-38C, 6.2: the decryption-verification process, for a tag of t bytes. Step 1, a ciphertext shorter than its tag,
--- is the splitting of the tag from the ciphertext.
+-- SP 800-38C, 6.2: the decryption-verification process, for a tag of t bytes. Step 1, which finds a ciphertext that is not
+-- longer than its tag invalid, is not here: document 01 refuses one that is shorter where the tag is split off, and has one
+-- of exactly the tag's length verified and opened to nothing (docs/DIFFERENCES.md).
 -- Assumes nothing.
 use mathlib.Core.Bool.{Bool, true, false, cond}
 use mathlib.Core.List.{List}

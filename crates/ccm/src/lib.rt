@@ -1,15 +1,15 @@
 // CCM (SP 800-38C) with AES-128, a 13-byte nonce and a 4-byte MIC: sealing, opening, and the splitting of a MIC from its
 // ciphertext. The port of crypto.rs, refusing by number.
-
+use octets::Written;
+use octets::refusals;
 ghost use mathlib.Core.Path.{_≡_};
 ghost use Prim.Native.Nat.{_≤_};
 ghost use lib.ListN.{length};
 ghost use Rattle.octets.specs.Strings.{over};
-ghost use Rattle.octets.specs.Refusals.{firstOf};
 ghost use Rattle.aes.specs.Cipher.{aes128};
 ghost use Rattle.ccm.specs.Generation.{generationEncryption};
 ghost use Rattle.ccm.specs.Verification.{decryptionVerification};
-ghost use Rattle.ccm.specs.Operations.{micLength, sealRefusals, encryptCcm, givenIf, decryptCcm, splitMic};
+ghost use Rattle.ccm.specs.Operations.{micLength, sealRefusal, encryptCcm, givenIf, decryptCcm, splitMic};
 
 mod counter;
 mod formatting;
@@ -27,12 +27,6 @@ pub struct Sealed {
     pub mic: [u8; 4],
 }
 
-// What opening gives: the refusal number or 0, and how many bytes of the output are the payload.
-pub struct Opened {
-    pub refusal: u8,
-    pub length: usize,
-}
-
 // What splitting gives: the refusal number or 0, the length of the ciphertext in front, and the MIC behind it.
 pub struct Split {
     pub refusal: u8,
@@ -42,16 +36,16 @@ pub struct Split {
 
 // The first refusal of a call with a bytes of authenticated data and n of payload or ciphertext, or 0.
 fn refusal(a: usize, n: usize, room: usize) -> u8
-    ensures { λ r. ⌜ r ≡ firstOf (sealRefusals a n room) ⌝ }
+    ensures { λ r. ⌜ r ≡ sealRefusal a n room ⌝ }
 {
     if a > MAX_LENGTH {
-        return 1;
+        return refusals::TOO_LONG;
     }
     if n > MAX_LENGTH {
-        return 1;
+        return refusals::TOO_LONG;
     }
     if room < n {
-        return 18;
+        return refusals::NO_ROOM;
     }
     0
 }
@@ -129,25 +123,25 @@ pub fn decrypt_ccm(
     ciphertext: &[u8],
     mic: [u8; 4],
     out: &mut [u8],
-) -> Opened
+) -> Written
     ensures answer { λ r. ⌜ r ≡ decryptCcm key nonce (now (auth .entry)) (now (ciphertext .entry)) mic (now (out .entry)) .answer ⌝ }
     ensures buffer { λ _. ⌜ now (out .exit) ≡ decryptCcm key nonce (now (auth .entry)) (now (ciphertext .entry)) mic (now (out .entry)) .out ⌝ }
 {
     let number = refusal(auth.len(), ciphertext.len(), out.len());
     if number != 0 {
-        return Opened {
+        return Written {
             refusal: number,
             length: 0,
         };
     }
     if open(key, nonce, auth, ciphertext, mic, out) {
-        return Opened {
+        return Written {
             refusal: 0,
             length: ciphertext.len(),
         };
     }
-    Opened {
-        refusal: 19,
+    Written {
+        refusal: refusals::WRONG_MIC,
         length: 0,
     }
 }
@@ -159,7 +153,7 @@ pub fn split_mic(s: &[u8]) -> Split
 {
     if s.len() < MIC_LENGTH {
         return Split {
-            refusal: 16,
+            refusal: refusals::NO_MIC,
             length: 0,
             mic: [0u8; 4],
         };

@@ -69,11 +69,11 @@ pub fn encrypted_tag(
     [y[0] ^ s[0], y[1] ^ s[1], y[2] ^ s[2], y[3] ^ s[3]]
 }
 
-// Whether all was the same so far and these two bytes are.
+// Whether all was the same so far and these two bytes are; there is no branch on them.
 fn and_same(same: bool, a: u8, b: u8) -> bool
     ensures { λ r. ⌜ r ≡ cond (eqb a b) same false ⌝ }
 {
-    if a == b { same } else { false }
+    same & (a == b)
 }
 
 // Whether the first n bytes are the same. Every byte is read, whatever the first ones are.

@@ -101,7 +101,7 @@ write-read f room t e =
 pub written-bytes : (f : NwkCommandWithLists) (o : List ℕ) → writeRefusal f (length o) ≡ 0
     → take (writeCommand f o .answer .length) (writeCommand f o .out) ≡ commandBytes f
 unfolding writeCommand
-written-bytes f o e = rw (write-accepted (writeRefusal f (length o)) (commandBytes f) o e) (take-over o (commandBytes f))
+written-bytes f o e = rw (← write-accepted (writeRefusal f (length o)) _ (commandBytes f) o refl e) (take-over o (commandBytes f))
 
 -- ---- an unparsed command is its bytes
 

@@ -1,7 +1,7 @@
--- The laws of the field that turn on its 256 elements: the inverse is one, and the products with {02} and {03} by shifts. Each is computed
+-- The laws of the field that turn on its 256 elements: the inverse is one, with 0 sent to 0, and the products with {02} and {03} by shifts. Each is computed
 -- at every byte.
 -- Assumes nothing.
-use mathlib.Core.Path.{_≡_}
+use mathlib.Core.Path.{_≡_, refl}
 use Prim.Native.Nat.{ℕ, zero, suc, _*_, _/_, _%_, _<_}
 use native.Mathlib.Nat.{le-of-suc-le-suc, not-suc-le-zero}
 use Rattle.field.specs.Field.{_⊕_, xtime, productOfBits, product, bitPower, power, inverse}
@@ -16,12 +16,13 @@ pub triple-by-double : (x : ℕ) → x < 256 → x ⊕ product 2 x ≡ product 3
 unfolding xtime productOfBits product
 triple-by-double = same-below (λ x. x ⊕ product 2 x) (product 3) 256 tt
 
-pub double-is-xtime : (x : ℕ) → x < 256 → product 2 x ≡ xtime x
-unfolding xtime productOfBits product
-double-is-xtime = same-below (product 2) xtime 256 tt
-
 -- 4.2: what the inverse of a byte is, but for 0
 pub product-inverse : (x : ℕ) → 0 < x → x < 256 → product x (inverse x) ≡ 1
 unfolding xtime productOfBits product bitPower power inverse
 product-inverse zero z h = absurd (not-suc-le-zero z)
 product-inverse (suc y) z h = same-below (λ y. product (suc y) (inverse (suc y))) (λ y. 1) 255 tt y (le-of-suc-le-suc h)
+
+-- 5.1.1: 0 is sent to 0
+pub inverse-zero : inverse 0 ≡ 0
+unfolding xtime productOfBits product bitPower power inverse
+inverse-zero = refl

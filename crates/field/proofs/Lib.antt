@@ -1,3 +1,2 @@
 pub mod Computed
 pub mod Bytes
-pub mod Bounds

@@ -1,5 +1,5 @@
 -- FIPS 197 (2001), section 5.1.1: the substitution of a byte, by its inverse and an affine map.
--- Not here: the laws (proofs/Computed, proofs/Bounds).
+-- Not here: the laws (proofs/Computed, proofs/Bytes).
 -- Assumes nothing.
 use mathlib.Core.List.{List, [], _∷_}
 use Prim.Native.Nat.{ℕ, zero, suc, _+_, _*_, _/_, _%_, _^_}

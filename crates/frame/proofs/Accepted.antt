@@ -1,28 +1,27 @@
 -- What it means that sealing, reading or opening a frame is accepted: no condition of its list holds.
 -- Assumes nothing.
-use mathlib.Core.Path.{_≡_, refl, ap, _∙_}
+use mathlib.Core.Path.{_≡_, refl, ap}
 use mathlib.Core.Bool.{Bool, true, false, not}
 use mathlib.Core.List.{List}
-use Prim.Native.Nat.{ℕ, zero, suc, _-_, _≤_}
+use Prim.Native.Nat.{ℕ, _-_, _≤_}
 use lib.ListN.{length}
 use lib.Dec.{ltb}
 use borrow.Author.Tests.{ltb-false, le-ltb}
-use Rattle.octets.specs.Refusals.{firstOf, orElse}
-use Rattle.octets.proofs.Refusals.{none-split, none-join, not-on, skip, empty}
+use Rattle.octets.specs.Refusals.{firstOf, unless}
+use Rattle.octets.proofs.Conditions.{answer-number, none, none-refuse}
 use Rattle.header.specs.declared.auxiliary.NwkSecurityLevel.{NwkSecurityLevel}
 use Rattle.header.specs.declared.auxiliary.AuxRead.{AuxRead}
 use Rattle.header.specs.declared.nwk.HeaderRead.{HeaderRead}
 use Rattle.header.specs.declared.nwk.NwkHeader.{NwkHeader}
-use Rattle.header.specs.Writing.{badHeader, written}
+use Rattle.header.specs.Writing.{badHeader, fieldRefusal}
 use Rattle.header.proofs.ControlFields.{or-false}
-use Rattle.ccm.specs.Verification.{Verified}
 use Rattle.frame.specs.declared.OptionAuxHeader.{OptionAuxHeader}
 use Rattle.frame.specs.declared.FrameRead.{FrameRead}
-use Rattle.frame.specs.Reading.{frameRefused, frameAnswer}
+use Rattle.frame.specs.Reading.{frameRefused, frameGiven, frameNumber, frameBy}
 use Rattle.frame.specs.Security.{isAbsent, auxOf, noIeee}
 use Rattle.frame.specs.Writing.{frameBytes, frameWriteRefusal}
 use Rattle.frame.specs.Sealing.{sealedLength, lengthRefusals, sealRefusal}
-use Rattle.frame.specs.Opening.{behind, verified, openRefusals, openRefusal, openRefused, opened}
+use Rattle.frame.specs.Opening.{behind, verified, openRefusals, openRefusal, openRefused, Run, openGiven, openNothing, openBy}
 
 -- ---- sealing
 
@@ -35,25 +34,21 @@ pub record Sealable (t : ℕ) (h : NwkHeader) (a : OptionAuxHeader) (p : List �
   pub fits : sealedLength t h (auxOf a) p ≤ room
 
 pub sealable : (t : ℕ) (h : NwkHeader) (a : OptionAuxHeader) (p : List ℕ) (room : ℕ) → sealRefusal t h a p room ≡ 0 → Sealable t h a p room
-unfolding sealRefusal lengthRefusals
+unfolding sealRefusal lengthRefusals fieldRefusal
 sealable t h a p room e =
-    let s1 = none-split _ _ e in
-    let s2 = none-split _ _ (s1 .1) in
-    let s3 = none-split _ _ (s2 .1) in
-    let s4 = none-split _ _ (s3 .1) in
-    let s5 = none-split _ _ (s4 .1) in
-    let long = or-false (ltb 108 (length p)) (ltb 118 (sealedLength t h (auxOf a) p)) (not-on 16 _ (s4 .0)) in
+    let n = none _ e in
+    let long = or-false (ltb 108 (length p)) (ltb 118 (sealedLength t h (auxOf a) p)) (n .1 .1 .1 .0) in
     record {
-      good = not-on 12 _ (s1 .0);
-      present = not-on 13 _ (s2 .0);
-      ieee = not-on 14 _ (s3 .0);
+      good = none _ (n .0) .0;
+      present = n .1 .0;
+      ieee = n .1 .1 .0;
       payload = ltb-false 108 (length p) (long .0);
       whole = ltb-false 118 (sealedLength t h (auxOf a) p) (long .1);
-      fits = ltb-false room (sealedLength t h (auxOf a) p) (not-on 17 _ (s5 .0));
+      fits = ltb-false room (sealedLength t h (auxOf a) p) (n .1 .1 .1 .1 .0);
     }
 
 pub seal-accepts : (t : ℕ) (h : NwkHeader) (a : OptionAuxHeader) (p : List ℕ) (room : ℕ) → Sealable t h a p room → sealRefusal t h a p room ≡ 0
-unfolding sealRefusal lengthRefusals firstOf orElse
+unfolding sealRefusal lengthRefusals fieldRefusal firstOf unless
 seal-accepts t h a p room s =
     rw (
       s .good,
@@ -73,38 +68,30 @@ pub record ClearWritable (h : NwkHeader) (p : List ℕ) (room : ℕ) : Type 0 wh
   pub fits : length (frameBytes h p) ≤ room
 
 pub clear-writable : (h : NwkHeader) (p : List ℕ) (room : ℕ) → frameWriteRefusal h p room ≡ 0 → ClearWritable h p room
-unfolding frameWriteRefusal
+unfolding frameWriteRefusal fieldRefusal
 clear-writable h p room e =
-    let s1 = none-split _ _ e in
-    let s2 = none-split _ _ (s1 .1) in
-    let s3 = none-split _ _ (s2 .1) in
-    let long = or-false (ltb 108 (length p)) (ltb 118 (length (frameBytes h p))) (not-on 16 _ (s2 .0)) in
+    let n = none _ e in
+    let long = or-false (ltb 108 (length p)) (ltb 118 (length (frameBytes h p))) (n .1 .0) in
     record {
-      good = not-on 12 _ (s1 .0);
+      good = none _ (n .0) .0;
       payload = ltb-false 108 (length p) (long .0);
       whole = ltb-false 118 (length (frameBytes h p)) (long .1);
-      fits = ltb-false room (length (frameBytes h p)) (not-on 17 _ (s3 .0));
+      fits = ltb-false room (length (frameBytes h p)) (n .1 .1 .0);
     }
-
--- a writer's answer bears its refusal's number
-pub written-refusal : (n : ℕ) (bs o : List ℕ) → written n bs o .answer .refusal ≡ n
-unfolding written
-written-refusal zero bs o = refl
-written-refusal (suc n) bs o = refl
 
 -- ---- reading
 
-pub frame-refusal : (h : HeaderRead) (a : AuxRead) (n : ℕ) → frameAnswer h a n .refusal ≡ n
-unfolding frameAnswer frameRefused
-frame-refusal h a zero = refl
-frame-refusal h a (suc n) = refl
+pub frame-refusal : (f : List ℕ) (h : HeaderRead) (a : AuxRead) → frameBy f h a .refusal ≡ frameNumber f h a
+unfolding frameBy frameRefused
+frame-refusal f h a = answer-number (λ (r : FrameRead). r .refusal) (frameNumber f h a) (frameGiven h a) frameRefused refl refl
 
 -- ---- opening
 
-pub opened-refusal : (n : ℕ) (r : FrameRead) (v : Verified) (o : List ℕ) → opened n r v o .answer .refusal ≡ n
-unfolding opened openRefused
-opened-refusal zero r v o = refl
-opened-refusal (suc n) r v o = refl
+pub open-number : (l : NwkSecurityLevel) (t : ℕ) (key f : List ℕ) (r : FrameRead) (o : List ℕ)
+    → openBy l t key f r o .answer .refusal ≡ openRefusal l t key f r (length o)
+unfolding openBy openRefused
+open-number l t key f r o =
+    answer-number (λ (x : Run). x .answer .refusal) (openRefusal l t key f r (length o)) (openGiven r (verified l t key f r) o) (λ (n : ℕ). openNothing n o) refl refl
 
 pub record Openable (l : NwkSecurityLevel) (t : ℕ) (key f : List ℕ) (r : FrameRead) (room : ℕ) : Type 0 where
   pub read : r .refusal ≡ 0
@@ -122,28 +109,22 @@ pub openable : (l : NwkSecurityLevel) (t : ℕ) (key f : List ℕ) (r : FrameRea
     → Openable l t key f r room
 unfolding openRefusal openRefusals
 openable l t key f r room e =
-    let all = none-split _ _ e in
-    let last = none-split _ _ (all .1) in
-    let s1 = none-split _ _ (all .0) in
-    let s2 = none-split _ _ (s1 .1) in
-    let s3 = none-split _ _ (s2 .1) in
-    let s4 = none-split _ _ (s3 .1) in
-    let s5 = none-split _ _ (s4 .1) in
+    let all = none _ e in
+    let n = none _ (all .0) in
     record {
-      read = s1 .0;
-      present = not-on 13 _ (s2 .0);
-      ieee = not-on 14 _ (s3 .0);
-      tagged = ltb-false (length (behind f r)) t (not-on 15 _ (s4 .0));
-      fits = ltb-false room (length (behind f r) - t) (not-on 17 _ (s5 .0));
-      valid = not-back _ (not-on 18 _ (last .0));
+      read = n .0;
+      present = n .1 .0;
+      ieee = n .1 .1 .0;
+      tagged = ltb-false (length (behind f r)) t (n .1 .1 .1 .0);
+      fits = ltb-false room (length (behind f r) - t) (n .1 .1 .1 .1 .0);
+      valid = not-back _ (all .1 .0);
     }
 
 pub open-accepts : (l : NwkSecurityLevel) (t : ℕ) (key f : List ℕ) (r : FrameRead) (room : ℕ) → Openable l t key f r room
     → openRefusal l t key f r room ≡ 0
 unfolding openRefusal openRefusals
 open-accepts l t key f r room s =
-    none-join (firstOf (openRefusals t (r .refusal) (r .header) (r .aux) (length (behind f r)) room)) _
-    (none-join (r .refusal) _ (s .read)
-    (skip 14 _ _ (s .present) ∙ skip 15 _ _ (s .ieee) ∙ skip 16 _ _ (le-ltb (length (behind f r)) t (s .tagged))
-    ∙ skip 18 _ _ (le-ltb room (length (behind f r) - t) (s .fits)) ∙ empty))
-    (skip 19 _ _ (ap not (s .valid)) ∙ empty)
+    let keyless =
+    none-refuse (openRefusals t (r .refusal) (r .header) (r .aux) (length (behind f r)) room)
+    (s .read, (s .present, (s .ieee, (le-ltb (length (behind f r)) t (s .tagged), (le-ltb room (length (behind f r) - t) (s .fits), tt))))) in
+    none-refuse _ (keyless, (ap not (s .valid), tt))

@@ -11,7 +11,9 @@ use lib.ListN.{length, drop, length-append}
 use lib.Seq.{drop-at}
 use lib.Dec.{ltb}
 use borrow.Author.Tests.{le-ltb}
-use Rattle.octets.proofs.Refusals.{none-join, skip, empty}
+use Rattle.octets.proofs.Conditions.{accepted, none-refuse}
+use Rattle.octets.proofs.Strings.{take-over}
+use Rattle.octets.proofs.Writing.{write-accepted, written-number}
 use Rattle.header.specs.declared.auxiliary.AuxRead.{AuxRead}
 use Rattle.header.specs.declared.control.NwkFrameControl.{NwkFrameControl}
 use Rattle.header.specs.declared.nwk.HeaderRead.{HeaderRead}
@@ -22,22 +24,19 @@ use Rattle.header.specs.Writing.{headerBytes}
 use Rattle.header.proofs.ReadBack.{read-back, same-cleared}
 use Rattle.frame.specs.declared.OptionAuxHeader.{OptionAuxHeader}
 use Rattle.frame.specs.declared.FrameRead.{FrameRead}
-use Rattle.frame.specs.Reading.{secured, auxIf, auxBehind, frameRefusal, frameAnswer, frameBy, readFrame}
+use Rattle.frame.specs.Reading.{secured, auxIf, auxBehind, frameRefusal, frameGiven, frameNumber, frameBy, readFrame}
 use Rattle.frame.specs.Writing.{frameBytes, frameWriteRefusal, writeFrame}
 use Rattle.frame.specs.SealingLaw.{bytesWritten}
-use Rattle.frame.proofs.Accepted.{ClearWritable, clear-writable, written-refusal}
-use Rattle.frame.proofs.SealingLaw.{written-bytes}
+use Rattle.frame.proofs.Accepted.{ClearWritable, clear-writable}
 
 -- the frame whose header has been read, the security bit being off
 clear-frame : (f : List ℕ) (h : HeaderRead) (a : AuxRead) → secured h ≡ false → h .refusal ≡ 0 → length f - h .length ≤ 108
     → frameBy f h a ≡ record { refusal = 0; length = h .length; header = h .header; aux = OptionAuxHeader.Absent }
-unfolding frameBy frameRefusal frameAnswer
+unfolding frameBy frameNumber frameRefusal
 clear-frame f h a s e short =
-    let none : frameRefusal (h .refusal) (secured h) (a .refusal) (length f - h .length) ≡ 0 =
-    none-join (h .refusal) _ e
-    (none-join (cond (secured h) (a .refusal) 0) _ (ap (λ (b : Bool). cond b (a .refusal) 0) s)
-    (skip 12 _ _ (ap (λ (b : Bool). not b && ltb 108 (length f - h .length)) s ∙ le-ltb 108 (length f - h .length) short) ∙ empty)) in
-    ap (frameAnswer h a) none
+    let none : frameNumber f h a ≡ 0 =
+    none-refuse _ (e, (ap (λ (b : Bool). cond b (a .refusal) 0) s, (ap (λ (b : Bool). not b && ltb 108 (length f - h .length)) s ∙ le-ltb 108 (length f - h .length) short, tt))) in
+    accepted (frameNumber f h a) (frameGiven h a) _ none
     ∙ (λ i. record { refusal = 0; length = h .length + cond (s i) (a .length) 0; header = h .header; aux = auxIf (s i) (a .aux) })
     ∙ (λ i. record { refusal = 0; length = add-zero (h .length) i; header = h .header; aux = OptionAuxHeader.Absent })
 
@@ -70,6 +69,7 @@ pub clear-back : (h : NwkHeader) (p out : List ℕ) → HeaderFits h → writeFr
     → h .«frame_control» .security ≡ false → Agrees h
     → ReadBack h p (bytesWritten (writeFrame h p out)) (readFrame (bytesWritten (writeFrame h p out)))
 unfolding writeFrame
-clear-back h p out fits accepted off agrees =
-    let e : frameWriteRefusal h p (length out) ≡ 0 = sym (written-refusal _ _ out) ∙ accepted in
-    rw (written-bytes _ (frameBytes h p) out e) (clear-read h p (length out) fits off agrees (clear-writable h p (length out) e))
+clear-back h p out fits ok off agrees =
+    let e : frameWriteRefusal h p (length out) ≡ 0 = sym (written-number _ _ out) ∙ ok in
+    let bytes : bytesWritten (writeFrame h p out) ≡ frameBytes h p = ap bytesWritten (sym (write-accepted _ _ (frameBytes h p) out refl e)) ∙ take-over out (frameBytes h p) in
+    rw bytes (clear-read h p (length out) fits off agrees (clear-writable h p (length out) e))

@@ -10,7 +10,7 @@ use lib.ListN.{length, drop, length-append}
 use lib.Seq.{take-at, drop-at}
 use lib.Dec.{ltb}
 use Rattle.octets.specs.Strings.{over}
-use Rattle.octets.proofs.Refusals.{none-join, skip, empty}
+use Rattle.octets.proofs.Conditions.{accepted, none-refuse}
 use Rattle.header.specs.declared.auxiliary.NwkSecurityLevel.{NwkSecurityLevel}
 use Rattle.header.specs.declared.auxiliary.NwkAuxHeader.{NwkAuxHeader}
 use Rattle.header.specs.declared.auxiliary.AuxRead.{AuxRead}
@@ -28,10 +28,10 @@ use Rattle.ccm.specs.Operations.{openedBy}
 use Rattle.ccm.proofs.Opening.{length-ciphertext, length-tag, opened-sealed}
 use Rattle.frame.specs.declared.OptionAuxHeader.{OptionAuxHeader}
 use Rattle.frame.specs.declared.FrameRead.{FrameRead}
-use Rattle.frame.specs.Reading.{secured, auxIf, auxBehind, frameRefusal, frameAnswer, frameBy, readFrame}
+use Rattle.frame.specs.Reading.{secured, auxIf, auxBehind, frameRefusal, frameGiven, frameNumber, frameBy, readFrame}
 use Rattle.frame.specs.Security.{sentLevel, atLevel, auxOf, noIeee, nonce, authenticated}
 use Rattle.frame.specs.Sealing.{generated, sealedBytes, sealedLength}
-use Rattle.frame.specs.Opening.{behind, ciphertextOf, micOf, verified, opened, openBy}
+use Rattle.frame.specs.Opening.{behind, ciphertextOf, micOf, verified, openRefusal, openGiven, openBy}
 use Rattle.frame.proofs.Levels.{level-agrees, level-fits, level-length, level-nonce, level-authenticated, level-ieee}
 use Rattle.frame.proofs.Accepted.{Openable, open-accepts}
 
@@ -40,13 +40,11 @@ use Rattle.frame.proofs.Accepted.{Openable, open-accepts}
 -- the frame whose headers have been read, the security bit being set
 pub secured-frame : (f : List ℕ) (h : HeaderRead) (a : AuxRead) → secured h ≡ true → h .refusal ≡ 0 → a .refusal ≡ 0
     → frameBy f h a ≡ record { refusal = 0; length = h .length + a .length; header = h .header; aux = OptionAuxHeader.Present (a .aux) }
-unfolding frameBy frameRefusal frameAnswer
+unfolding frameBy frameNumber frameRefusal
 secured-frame f h a s e g =
-    let none : frameRefusal (h .refusal) (secured h) (a .refusal) (length f - h .length) ≡ 0 =
-    none-join (h .refusal) _ e
-    (none-join (cond (secured h) (a .refusal) 0) _ (ap (λ (b : Bool). cond b (a .refusal) 0) s ∙ g)
-    (skip 12 _ _ (ap (λ (b : Bool). not b && ltb 108 (length f - h .length)) s) ∙ empty)) in
-    ap (frameAnswer h a) none
+    let none : frameNumber f h a ≡ 0 =
+    none-refuse _ (e, (ap (λ (b : Bool). cond b (a .refusal) 0) s ∙ g, (ap (λ (b : Bool). not b && ltb 108 (length f - h .length)) s, tt))) in
+    accepted (frameNumber f h a) (frameGiven h a) _ none
     ∙ (λ i. record { refusal = 0; length = h .length + cond (s i) (a .length) 0; header = h .header; aux = auxIf (s i) (a .aux) })
 
 -- ---- the sealed bytes
@@ -182,10 +180,10 @@ module _ (l : NwkSecurityLevel) (t : ℕ) (key : List ℕ) (h : NwkHeader) (x : 
           answer = record { refusal = 0; length = length p; header = cleared h; aux = OptionAuxHeader.Present (atLevel sentLevel x) };
           out = over out 0 p;
         }
-    unfolding openBy opened readBack
+    unfolding openBy readBack
     reopened out ieee room =
         ap (λ (r : FrameRead). openBy l t key (sealedBytes l t key h x p) r out) frame-read
-        ∙ ap (λ (n : ℕ). opened n readBack (verified l t key (sealedBytes l t key h x p) readBack) out)
+        ∙ accepted (openRefusal l t key (sealedBytes l t key h x p) readBack (length out)) (openGiven readBack (verified l t key (sealedBytes l t key h x p) readBack) out) _
         (open-accepts l t key (sealedBytes l t key h x p) readBack (length out) (openable-back (length out) ieee room))
         ∙ (λ i. record {
           answer = record { refusal = 0; length = length (made .1 i); header = cleared h; aux = OptionAuxHeader.Present (atLevel sentLevel x) };

@@ -1,9 +1,9 @@
 -- What the functions return, over plain values: each lemma turns what the calls promised into the answer of one `return`.
 -- Assumes nothing.
 use mathlib.Core.Path.{_≡_, refl, sym, ap, _∙_}
-use mathlib.Core.Bool.{Bool, true, false, cond, not, _&&_, _||_}
-use mathlib.Core.List.{List, [], _∷_, _++_, append-nil}
-use Prim.Native.Nat.{ℕ, zero, suc, _+_, _-_, _≤_, _<_}
+use mathlib.Core.Bool.{Bool, true, false, cond, not, _||_}
+use mathlib.Core.List.{List, [], _++_, append-nil}
+use Prim.Native.Nat.{ℕ, _+_, _-_, _≤_, _<_}
 use lib.ListN.{length, drop, take, length-append, length-drop, drop-of-length-le}
 use lib.Seq.{take-all, drop-length, length-take-le}
 use lib.Dec.{ltb}
@@ -12,8 +12,8 @@ use native.Mathlib.Omega.{arith}
 use borrow.Author.Tests.{lt-ltb, le-ltb, ltb-false}
 use Rattle.octets.specs.Strings.{over, Below}
 use Rattle.octets.proofs.Strings.{over-part, over-then}
-use Rattle.octets.specs.Refusals.{on, firstOf, orElse}
-use Rattle.octets.proofs.Refusals.{none-split, not-on, stop, skip, empty}
+use Rattle.octets.specs.Refusals.{firstOf, unless}
+use Rattle.octets.proofs.Conditions.{accepted-by, refused-by, unless-number, none, stop, skip, stop-by, skip-by, empty}
 use Rattle.header.specs.declared.auxiliary.AuxRead.{AuxRead}
 use Rattle.header.specs.declared.nwk.HeaderRead.{HeaderRead}
 use Rattle.header.specs.Reading.{readHeader}
@@ -29,71 +29,35 @@ use Rattle.ccm.specs.Operations.{micLength, sealedBy, openedBy, splitMic, given
 use Rattle.frame.specs.declared.OptionAuxHeader.{OptionAuxHeader}
 use Rattle.frame.specs.Security.{networkLevel, sentLevel, atLevel, isAbsent, auxOf, nonce, authenticated}
 use Rattle.frame.specs.Sealing.{generated, sealedBytes}
-use Rattle.frame.specs.Opening.{behind, ciphertextOf, micOf, verified, openRefusals, openRefusal, openRefused, opened, openBy, openFrame}
+use Rattle.frame.specs.Opening.{behind, ciphertextOf, micOf, verified, openRefusals, openRefusal, openGiven, openNothing, openBy, openFrame}
 use Rattle.frame.proofs.Levels.{level-length}
 use Rattle.frame.proofs.SecondHalf.{drop-below, secured-facts, payload-length}
 use Rattle.frame.specs.declared.FrameRead.{FrameRead}
-use Rattle.frame.specs.Reading.{secured, auxBehind, frameRefusal, frameRefused, frameAnswer, frameBy, readFrame}
-
--- ---- a part of a slice
-
-pub part-behind : (f : List ℕ) (n : ℕ) → take (length f - n) (drop n f) ≡ drop n f
-part-behind f n = take-all (length f - n) (drop n f) (rw (length-drop n f) (omega arith))
-
-pub nothing-behind : (f : List ℕ) (n : ℕ) → length f ≤ n → take (length f - length f) (drop (length f) f) ≡ drop n f
-nothing-behind f n h = part-behind f (length f) ∙ drop-length f ∙ sym (drop-of-length-le f h)
+use Rattle.frame.specs.Reading.{secured, auxBehind, frameRefusal, frameNumber, frameBy, readFrame}
 
 -- ---- reading
 
--- a number that is not 0 comes first
-pub first-number : (n : ℕ) (ns : List ℕ) → (n ≡ 0 → ⊥) → firstOf (n ∷ ns) ≡ n
-unfolding firstOf orElse
-first-number zero ns h = absurd (h refl)
-first-number (suc n) ns h = refl
-
-pub no-number : (n : ℕ) (ns : List ℕ) → n ≡ 0 → firstOf (n ∷ ns) ≡ firstOf ns
-unfolding firstOf orElse
-no-number zero ns h = refl
-no-number (suc n) ns h = absurd (omega arith)
-
-behind-zero : (n : ℕ) → firstOf (n ∷ 0 ∷ []) ≡ n
-unfolding firstOf orElse
-behind-zero zero = refl
-behind-zero (suc n) = refl
-
-pub header-number : (h : ℕ) (s : Bool) (a p : ℕ) → (h ≡ 0 → ⊥) → h ≡ frameRefusal h s a p
-unfolding frameRefusal
-header-number h s a p e = sym (first-number h _ e)
-
--- past the header's number, by the security bit
-past-header : (h : ℕ) (s b : Bool) (a p : ℕ) → h ≡ 0 → s ≡ b → frameRefusal h s a p ≡ firstOf (cond b a 0 ∷ on 12 (not b && ltb 108 p) ∷ [])
-unfolding frameRefusal
-past-header h s b a p e t =
-    no-number h (cond s a 0 ∷ on 12 (not s && ltb 108 p) ∷ []) e
-    ∙ ap (λ (x : Bool). firstOf (cond x a 0 ∷ on 12 (not x && ltb 108 p) ∷ [])) t
-
 pub aux-number : (h : ℕ) (s : Bool) (a p : ℕ) → h ≡ 0 → s ≡ true → a ≡ frameRefusal h s a p
-aux-number h s a p e t = sym (past-header h s true a p e t ∙ behind-zero a)
+unfolding frameRefusal firstOf unless
+aux-number h s a p e t = rw (e, t) (sym (unless-number a))
 
 pub payload-number : (h : ℕ) (s : Bool) (a p : ℕ) → h ≡ 0 → s ≡ false → 108 < p → 12 ≡ frameRefusal h s a p
-payload-number h s a p e t l = sym (past-header h s false a p e t ∙ no-number 0 _ refl ∙ stop 11 _ [] (lt-ltb 108 p l))
+unfolding frameRefusal firstOf unless
+payload-number h s a p e t l = rw (e, t, lt-ltb 108 p l) refl
 
 pub no-refusal : (h : ℕ) (s : Bool) (a p : ℕ) → h ≡ 0 → s ≡ false → p ≤ 108 → 0 ≡ frameRefusal h s a p
-no-refusal h s a p e t l = sym (past-header h s false a p e t ∙ no-number 0 _ refl ∙ skip 12 _ [] (le-ltb 108 p l) ∙ empty)
-
-pub frame-refused : (h : HeaderRead) (a : AuxRead) (n : ℕ) → (n ≡ 0 → ⊥) → frameRefused n ≡ frameAnswer h a n
-unfolding frameAnswer
-frame-refused h a zero e = absurd (e refl)
-frame-refused h a (suc n) e = refl
+unfolding frameRefusal firstOf unless
+no-refusal h s a p e t l = rw (e, t, le-ltb 108 p l) refl
 
 -- the answer by what the calls gave is the answer of reading
 pub frame-done : (f : List ℕ) (h : HeaderRead) (a : AuxRead) (rest : List ℕ) (n : ℕ) → h ≡ readHeader f → rest ≡ drop (h .length) f
-    → a ≡ readAux rest → n ≡ frameRefusal (h .refusal) (secured h) (a .refusal) (length rest) → frameAnswer h a n ≡ readFrame f
-unfolding readFrame frameBy
-frame-done f h a rest n eh er ea en =
-    ap (frameAnswer h a) (en ∙ ap (frameRefusal (h .refusal) (secured h) (a .refusal)) (ap length er ∙ length-drop (h .length) f))
-    ∙ ap (frameBy f h) (ea ∙ ap readAux er)
-    ∙ ap (λ (k : HeaderRead). frameBy f k (auxBehind f k)) eh
+    → a ≡ readAux rest → n ≡ frameRefusal (h .refusal) (secured h) (a .refusal) (length rest)
+    → (n ≡ frameNumber f h a) × (frameBy f h a ≡ readFrame f)
+unfolding readFrame frameNumber
+frame-done f h a rest n eh er ea en = (
+  en ∙ ap (frameRefusal (h .refusal) (secured h) (a .refusal)) (ap length er ∙ length-drop (h .length) f),
+  ap (frameBy f h) (ea ∙ ap readAux er) ∙ ap (λ (k : HeaderRead). frameBy f k (auxBehind f k)) eh,
+)
 
 -- ---- lengths
 
@@ -105,17 +69,6 @@ long-whole p w h k = rw (le-ltb 108 p h) (lt-ltb 118 w k)
 
 pub not-long : (p w : ℕ) → p ≤ 108 → w ≤ 118 → (ltb 108 p || ltb 118 w) ≡ false
 not-long p w h k = rw (le-ltb 108 p h) (le-ltb 118 w k)
-
--- ---- writing to a part that starts at place s
-
-pub part-over : (o m bs : List ℕ) (s : ℕ) → s ≤ length o → m ≡ over (take (length o - s) (drop s o)) 0 bs
-    → take s o ++ (m ++ drop (length o - s) (drop s o)) ≡ over o s bs
-part-over o m bs s h e =
-    let rest : drop (length o - s) (drop s o) ≡ [] = drop-of-length-le (drop s o) {i = length o - s} (rw (length-drop s o) (omega arith)) in
-    let inner : m ≡ over (drop s o) 0 bs = e ∙ ap (λ (l : List ℕ). over l 0 bs) (part-behind o s) in
-    (λ i. take s o ++ (inner i ++ rest i))
-    ∙ ap (λ (l : List ℕ). take s o ++ l) (append-nil (over (drop s o) 0 bs))
-    ∙ over-part o s 0 bs h ∙ ap (λ (k : ℕ). over o k bs) (add-zero s)
 
 -- ---- the authenticated bytes
 
@@ -150,17 +103,8 @@ pub ready : (number : ℕ) (h : NwkHeader) (a : OptionAuxHeader) (part room : �
     → Ready number h a part room
 unfolding openRefusals
 ready number h a part room e =
-    let s1 = none-split _ _ e in
-    let s2 = none-split _ _ (s1 .1) in
-    let s3 = none-split _ _ (s2 .1) in
-    let s4 = none-split _ _ (s3 .1) in
-    let s5 = none-split _ _ (s4 .1) in
-    record {
-      read = s1 .0;
-      present = not-on 13 _ (s2 .0);
-      tagged = ltb-false part 4 (not-on 15 _ (s4 .0));
-      fits = ltb-false room (part - 4) (not-on 17 _ (s5 .0));
-    }
+    let n = none _ e in
+    record { read = n .0; present = n .1 .0; tagged = ltb-false part 4 (n .1 .1 .1 .0); fits = ltb-false room (part - 4) (n .1 .1 .1 .1 .0) }
 
 -- what opening needs of a frame that was read and has an auxiliary header
 pub open-facts : (f : List ℕ) → Below 256 f → readFrame f .refusal ≡ 0 → isAbsent (readFrame f .aux) ≡ false
@@ -180,42 +124,31 @@ open-facts f u e present =
     let rest = length-drop (readHeader f .length + auxBehind f (readHeader f) .length) f in
     rw (s .read) (hf .good, omega arith, omega arith)
 
--- opening by a number that is not 0
-opened-stop : (n : ℕ) (r : FrameRead) (v : Verified) (o : List ℕ) → (n ≡ 0 → ⊥) → opened n r v o ≡ record { answer = openRefused n; out = o }
-unfolding opened
-opened-stop zero r v o h = absurd (h refl)
-opened-stop (suc n) r v o h = refl
+module _ (key f part o : List ℕ) (r : FrameRead) (n : ℕ) (read : r ≡ readFrame f) (rest : part ≡ drop (r .length) f)
+    (number : n ≡ firstOf (openRefusals micLength (r .refusal) (r .header) (r .aux) (length part) (length o))) where
+  keyless : n ≡ firstOf (openRefusals micLength (r .refusal) (r .header) (r .aux) (length (behind f r)) (length o))
+  unfolding behind
+  keyless = number ∙ ap (λ (l : List ℕ). firstOf (openRefusals micLength (r .refusal) (r .header) (r .aux) (length l) (length o))) rest
 
-module _ (key f o : List ℕ) (r : FrameRead) (read : r ≡ readFrame f) (n : ℕ)
-    (number : n ≡ firstOf (openRefusals micLength (r .refusal) (r .header) (r .aux) (length (behind f r)) (length o))) where
-  -- the run's number: the first of those that need no key, else by the MIC
-  run-number : openFrame key f o
-      ≡ opened (firstOf (n ∷ on 19 (not (verified networkLevel micLength key f r .valid)) ∷ [])) r (verified networkLevel micLength key f r) o
-  unfolding openFrame openBy openRefusal
-  run-number =
-      ap (λ (k : FrameRead). openBy networkLevel micLength key f k o) (sym read)
-      ∙ ap (λ (k : ℕ). opened (firstOf (k ∷ on 19 (not (verified networkLevel micLength key f r .valid)) ∷ [])) r (verified networkLevel micLength key f r) o) (sym number)
+  run : openBy networkLevel micLength key f r o ≡ openFrame key f o
+  unfolding openFrame
+  run = ap (λ (k : FrameRead). openBy networkLevel micLength key f k o) read
 
-  pub open-stopped : (n ≡ 0 → ⊥) → openFrame key f o ≡ record { answer = openRefused n; out = o }
-  open-stopped h =
-      run-number ∙ ap (λ (k : ℕ). opened k r (verified networkLevel micLength key f r) o) (first-number n _ h)
-      ∙ opened-stop n r (verified networkLevel micLength key f r) o h
+  -- refused by a number that needs no key
+  pub open-stopped : (n ≡ 0 → ⊥) → openNothing n o ≡ openFrame key f o
+  unfolding openBy openRefusal
+  open-stopped h = refused-by _ n _ (λ (m : ℕ). openNothing m o) (keyless ∙ sym (stop-by _ _ (λ z. h (keyless ∙ z)))) h ∙ run
 
-  pub open-invalid : n ≡ 0 → verified networkLevel micLength key f r .valid ≡ false → openFrame key f o ≡ record { answer = openRefused 19; out = o }
+  pub open-invalid : n ≡ 0 → verified networkLevel micLength key f r .valid ≡ false → openNothing 19 o ≡ openFrame key f o
+  unfolding openBy openRefusal
   open-invalid e bad =
-      run-number
-      ∙ ap (λ (k : ℕ). opened k r (verified networkLevel micLength key f r) o) (no-number n _ e ∙ stop 18 _ [] (ap not bad))
-      ∙ opened-stop 19 r (verified networkLevel micLength key f r) o (λ (z : 19 ≡ 0). omega arith)
+      refused-by _ 19 _ (λ (m : ℕ). openNothing m o) (sym (skip-by _ _ (sym keyless ∙ e) ∙ stop 19 _ _ (ap not bad))) (λ z. omega arith) ∙ run
 
   pub open-valid : n ≡ 0 → verified networkLevel micLength key f r .valid ≡ true
-      → openFrame key f o ≡ record {
-        answer = record { refusal = 0; length = length (verified networkLevel micLength key f r .payload); header = r .header; aux = r .aux };
-        out = over o 0 (verified networkLevel micLength key f r .payload);
-      }
-  unfolding opened
+      → openGiven r (verified networkLevel micLength key f r) o ≡ openFrame key f o
+  unfolding openBy openRefusal
   open-valid e good =
-      run-number
-      ∙ ap (λ (k : ℕ). opened k r (verified networkLevel micLength key f r) o) (no-number n _ e ∙ skip 19 _ [] (ap not good) ∙ empty)
+      accepted-by _ 0 _ _ (sym (skip-by _ _ (sym keyless ∙ e) ∙ skip 19 _ _ (ap not good) ∙ empty)) refl ∙ run
 
 -- what the output holds by the verdict on the MIC
 pub given-valid : (b : Bool) (v : Verified) (o : List ℕ) → b ≡ true → givenIf b v o ≡ over o 0 (v .payload)
@@ -256,13 +189,6 @@ pub ready-facts : (f : List ℕ) (r : FrameRead) → Below 256 f → r ≡ readF
     × (length (headerBytes (r .header)) + length (auxBytes (auxOf (r .aux))) ≤ 118)
     × (length (drop (r .length) f) ≤ 127)
 ready-facts f r u e read present = rw e (open-facts f u (rw e at read) (rw e at present))
-
--- the number of the refusals that need no key, by the part's length
-pub number-is : (f part : List ℕ) (r : FrameRead) (n room : ℕ) → part ≡ drop (r .length) f
-    → n ≡ firstOf (openRefusals 4 (r .refusal) (r .header) (r .aux) (length part) room)
-    → n ≡ firstOf (openRefusals micLength (r .refusal) (r .header) (r .aux) (length (behind f r)) room)
-unfolding behind
-number-is f part r n room e h = h ∙ ap (λ (l : List ℕ). firstOf (openRefusals 4 (r .refusal) (r .header) (r .aux) (length l) room)) e
 
 pub payload-size : (key f part : List ℕ) (r : FrameRead) → part ≡ drop (r .length) f → length part - 4 ≡ length (verified networkLevel 4 key f r .payload)
 unfolding behind

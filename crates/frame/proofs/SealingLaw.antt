@@ -2,14 +2,17 @@
 -- Assumes nothing.
 use mathlib.Core.Path.{_≡_, refl, sym, ap, _∙_}
 use mathlib.Core.List.{List}
-use Prim.Native.Nat.{ℕ, zero, suc, _≤_, _<_}
+use Prim.Native.Nat.{ℕ, _≤_, _<_}
 use native.Mathlib.Omega.{arith}
 use lib.ListN.{length, getD, take}
 use Rattle.octets.proofs.Strings.{take-over}
 use Rattle.header.specs.declared.nwk.NwkHeader.{NwkHeader}
-use Rattle.header.specs.declared.nwk.Written.{Written}
+use Rattle.octets.specs.declared.Written.{Written}
 use Rattle.header.specs.Reading.{readHeader}
-use Rattle.header.specs.Writing.{written}
+use Rattle.octets.specs.Writing as writing
+use Rattle.octets.specs.Writing.{wrote}
+use Rattle.octets.proofs.Conditions.{accepted, unless-either}
+use Rattle.octets.proofs.Writing.{write-accepted, written-number, written-within}
 use Rattle.header.proofs.ReadBack.{same-cleared}
 use Rattle.ccm.specs.Operations.{micLength}
 use Rattle.frame.specs.declared.OptionAuxHeader.{OptionAuxHeader}
@@ -19,33 +22,28 @@ use Rattle.frame.specs.Reading.{readFrame}
 use Rattle.frame.specs.Security.{networkLevel, auxOf}
 use Rattle.frame.specs.Sealing.{sealRefusal, sealedBytes, sealFrame}
 use Rattle.frame.specs.Opening as opening
-use Rattle.frame.specs.Opening.{verified, opened, openBy, openFrame}
-use Rattle.frame.specs.SealingLaw.{FirstHalf, SecondHalf, Reopened, Resealed, bytesWritten, payloadGiven}
-use Rattle.frame.proofs.Accepted.{Sealable, sealable, seal-accepts, written-refusal, Openable, openable, open-accepts, opened-refusal}
+use Rattle.frame.specs.Opening.{verified, openRefusal, openRefused, openGiven, openBy, openFrame}
+use Rattle.frame.specs.SealingLaw.{FirstHalf, SecondHalf, sealThenOpen, openThenSeal, Resealed, bytesWritten, payloadGiven}
+use Rattle.frame.proofs.Accepted.{Sealable, sealable, seal-accepts, Openable, openable, open-accepts, open-number}
 use Rattle.frame.proofs.FirstHalf.{sealed-length, reopened}
-use Rattle.frame.proofs.SecondHalf.{SecuredFacts, secured-facts, wholeRead, sealable-again, frame-again}
-
--- the bytes of a writer that was not refused
-pub written-bytes : (n : ℕ) (bs o : List ℕ) → n ≡ 0 → bytesWritten (written n bs o) ≡ bs
-unfolding written
-written-bytes n bs o e = ap (λ (k : ℕ). bytesWritten (written k bs o)) e ∙ take-over o bs
+use Rattle.frame.proofs.SecondHalf.{payload-length, SecuredFacts, secured-facts, wholeRead, sealable-again, frame-again}
 
 seal-number : (key : List ℕ) (h : NwkHeader) (a : OptionAuxHeader) (p o : List ℕ)
     → sealFrame key h a p o .answer .refusal ≡ sealRefusal micLength h a p (length o)
 unfolding sealFrame
-seal-number key h a p o = written-refusal _ _ o
+seal-number key h a p o = written-number _ _ o
 
-seal-bytes : (key : List ℕ) (h : NwkHeader) (a : OptionAuxHeader) (p o : List ℕ) → sealRefusal micLength h a p (length o) ≡ 0
-    → bytesWritten (sealFrame key h a p o) ≡ sealedBytes networkLevel micLength key h (auxOf a) p
+-- what sealing leaves that was not refused
+seal-run : (key : List ℕ) (h : NwkHeader) (a : OptionAuxHeader) (p o : List ℕ) → sealRefusal micLength h a p (length o) ≡ 0
+    → sealFrame key h a p o ≡ wrote (sealedBytes networkLevel micLength key h (auxOf a) p) o
 unfolding sealFrame
-seal-bytes key h a p o e = written-bytes _ _ o e
+seal-run key h a p o e = sym (write-accepted _ _ (sealedBytes networkLevel micLength key h (auxOf a) p) o refl e)
 
--- a writer's length is within the output, if its bytes are where it accepts
-written-within : (n : ℕ) (bs o : List ℕ) → (n ≡ 0 → length bs ≤ length o) → written n bs o .answer .length ≤ length o
-unfolding written
-written-within zero bs o h = h refl
-written-within (suc n) bs o h = omega arith
+pub seal-bytes : (key : List ℕ) (h : NwkHeader) (a : OptionAuxHeader) (p o : List ℕ) → sealRefusal micLength h a p (length o) ≡ 0
+    → bytesWritten (sealFrame key h a p o) ≡ sealedBytes networkLevel micLength key h (auxOf a) p
+seal-bytes key h a p o e = ap bytesWritten (seal-run key h a p o e) ∙ take-over o (sealedBytes networkLevel micLength key h (auxOf a) p)
 
+-- the length that sealing gives is within the output
 pub seal-within : (key : List ℕ) (h : NwkHeader) (a : OptionAuxHeader) (p o : List ℕ) → sealFrame key h a p o .answer .length ≤ length o
 unfolding sealFrame
 seal-within key h a p o =
@@ -65,30 +63,34 @@ first-half key h (OptionAuxHeader.Present x) p out out₂ fits afits accepted se
       accepted = ap (λ (r : opening.Run). r .answer .refusal) run;
       header = rw run (same-cleared h (s .good));
       auxiliary = ap (λ (r : opening.Run). r .answer .aux) run;
+      length = ap (λ (r : opening.Run). r .answer .length) run;
       payload = ap payloadGiven run ∙ take-over out₂ p;
     }
 
 opened-accepted : (key f o : List ℕ) → openFrame key f o .answer .refusal ≡ 0 → Openable networkLevel micLength key f (readFrame f) (length o)
-unfolding openFrame openBy
-opened-accepted key f o e = openable networkLevel micLength key f (readFrame f) (length o) (sym (opened-refusal _ _ _ o) ∙ e)
+unfolding openFrame
+opened-accepted key f o e = openable networkLevel micLength key f (readFrame f) (length o) (sym (open-number networkLevel micLength key f (readFrame f) o) ∙ e)
 
 -- what an accepted opening gives, by the parts of the frame
 opened-run : (key f o : List ℕ) → Openable networkLevel micLength key f (readFrame f) (length o) → SecuredFacts f
-    → openFrame key f o ≡ opened 0 (wholeRead f) (verified networkLevel micLength key f (wholeRead f)) o
+    → openFrame key f o ≡ openGiven (wholeRead f) (verified networkLevel micLength key f (wholeRead f)) o
 unfolding openFrame openBy
 opened-run key f o w s =
-    ap (λ (n : ℕ). opened n (readFrame f) (verified networkLevel micLength key f (readFrame f)) o) (open-accepts networkLevel micLength key f (readFrame f) (length o) w)
-    ∙ ap (λ (r : FrameRead). opened 0 r (verified networkLevel micLength key f r) o) (s .read)
+    accepted (openRefusal networkLevel micLength key f (readFrame f) (length o)) _ _ (open-accepts networkLevel micLength key f (readFrame f) (length o) w)
+    ∙ ap (λ (r : FrameRead). openGiven r (verified networkLevel micLength key f r) o) (s .read)
 
 -- sealing afresh what an accepted opening gave
 resealed : (key f out₂ : List ℕ) (h : NwkHeader) (a : OptionAuxHeader) (p : List ℕ) → length out₂ ≡ 118 → Sealable micLength h a p 118
     → sealedBytes networkLevel micLength key h (auxOf a) p ≡ f → Resealed f (sealFrame key h a p out₂)
 resealed key f out₂ h a p size able same =
     let e : sealRefusal micLength h a p (length out₂) ≡ 0 = rw size (seal-accepts micLength h a p 118 able) in
-    record { accepted = seal-number key h a p out₂ ∙ e; bytes = seal-bytes key h a p out₂ e ∙ same }
+    record {
+      accepted = seal-number key h a p out₂ ∙ e;
+      length = ap (λ (r : writing.Run). r .answer .length) (seal-run key h a p out₂ e) ∙ ap length same;
+      bytes = seal-bytes key h a p out₂ e ∙ same;
+    }
 
 pub second-half : SecondHalf
-unfolding opened
 second-half key f out out₂ bytes accepted control size =
     let w = opened-accepted key f out accepted in
     let s = secured-facts f (w .read) (w .present) in
@@ -100,13 +102,25 @@ second-half key f out out₂ bytes accepted control size =
     let same = frame-again networkLevel micLength key f bytes s low (control .level) (o .tagged) (o .valid) in
     rw (run, take-over out (v .payload)) (resealed key f out₂ _ _ (v .payload) size able same)
 
--- the first half, by what sealing and opening in turn answered and left
-pub first-half-run : (key : List ℕ) (h : NwkHeader) (a : OptionAuxHeader) (p out out₂ : List ℕ) (w : Written) (frame : List ℕ) (r : FrameOpened) (o : List ℕ)
+-- ---- the two in turn, by what each answered and left
+
+pub seal-then-open-run : (key : List ℕ) (h : NwkHeader) (a : OptionAuxHeader) (p out out₂ : List ℕ) (w : Written) (frame : List ℕ) (r : FrameOpened) (o : List ℕ)
     → w ≡ sealFrame key h a p out .answer → frame ≡ sealFrame key h a p out .out
     → r ≡ openFrame key (take (w .length) frame) out₂ .answer → o ≡ openFrame key (take (w .length) frame) out₂ .out
-    → Reopened h a p (openFrame key (bytesWritten (sealFrame key h a p out)) out₂) → Reopened h a p (record { answer = r; out = o })
-first-half-run key h a p out out₂ w frame r o ew ef er eo law =
-    let bytes : take (w .length) frame ≡ bytesWritten (sealFrame key h a p out) = λ i. take (ew i .length) (ef i) in
-    let run : _≡_ {A = opening.Run} (record { answer = r; out = o }) (openFrame key (bytesWritten (sealFrame key h a p out)) out₂) =
-    (λ i. record { answer = er i; out = eo i }) ∙ ap (λ (f : List ℕ). openFrame key f out₂) bytes in
-    rw run law
+    → _≡_ {A = opening.Run} (record { answer = r; out = o }) (sealThenOpen key h a p out out₂)
+seal-then-open-run key h a p out out₂ w frame r o ew ef er eo =
+    (λ i. record { answer = er i; out = eo i }) ∙ (λ i. openFrame key (take (ew i .length) (ef i)) out₂)
+
+pub open-then-seal-run : (key f out out₂ : List ℕ) (d : FrameOpened) (o : List ℕ) (w : Written) (b : List ℕ)
+    → d ≡ openFrame key f out .answer → o ≡ openFrame key f out .out
+    → w ≡ sealFrame key (d .header) (d .aux) (take (d .length) o) out₂ .answer → b ≡ sealFrame key (d .header) (d .aux) (take (d .length) o) out₂ .out
+    → _≡_ {A = writing.Run} (record { answer = w; out = b }) (openThenSeal key f out out₂)
+open-then-seal-run key f out out₂ d o w b ed eo ew eb =
+    (λ i. record { answer = ew i; out = eb i }) ∙ (λ i. sealFrame key (ed i .header) (ed i .aux) (take (ed i .length) (eo i)) out₂)
+
+-- the length that opening gives is within the output
+pub open-within : (key f o : List ℕ) → openFrame key f o .answer .length ≤ length o
+unfolding openFrame openBy openRefused
+open-within key f o =
+    unless-either (λ (r : opening.Run). r .answer .length ≤ length o) (openRefusal networkLevel micLength key f (readFrame f) (length o)) _ _
+    (λ e. rw (payload-length networkLevel micLength key f (readFrame f)) (openable networkLevel micLength key f (readFrame f) (length o) e .fits)) (omega arith)

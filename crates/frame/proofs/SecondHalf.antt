@@ -10,7 +10,7 @@ use native.Mathlib.Omega.{arith}
 use lib.ListN.{length, getD, take, drop, length-drop, take-append-drop}
 use lib.Seq.{take-add, getD-drop, length-take-le}
 use Rattle.octets.specs.Strings.{Below}
-use Rattle.octets.proofs.Refusals.{none-split}
+use Rattle.octets.proofs.Conditions.{accepted, none}
 use Rattle.header.specs.declared.auxiliary.NwkSecurityLevel.{NwkSecurityLevel}
 use Rattle.header.specs.declared.auxiliary.NwkAuxHeader.{NwkAuxHeader}
 use Rattle.header.specs.declared.auxiliary.AuxRead.{AuxRead}
@@ -24,7 +24,7 @@ use Rattle.header.proofs.AuxiliaryLaws.{aux-length}
 use Rattle.ccm.proofs.Opening.{length-payload, sealed-opened}
 use Rattle.frame.specs.declared.OptionAuxHeader.{OptionAuxHeader}
 use Rattle.frame.specs.declared.FrameRead.{FrameRead}
-use Rattle.frame.specs.Reading.{secured, auxIf, auxBehind, frameRefusal, frameAnswer, frameBy, readFrame}
+use Rattle.frame.specs.Reading.{secured, auxIf, auxBehind, frameRefusal, frameRefused, frameGiven, frameNumber, frameBy, readFrame}
 use Rattle.frame.specs.Security.{sentLevel, atLevel, isAbsent, auxOf, nonce, authenticated}
 use Rattle.frame.specs.Sealing.{generated, sealedBytes, sealedLength}
 use Rattle.frame.specs.Opening.{behind, ciphertextOf, micOf, verified}
@@ -56,22 +56,21 @@ is-secured : (b : Bool) (a : NwkAuxHeader) → isAbsent (auxIf b a) ≡ false �
 is-secured true a e = refl
 is-secured false a e = absurd (mathlib.Core.Bool.true≢false e)
 
-accepted-parts : (f : List ℕ) (h : HeaderRead) (a : AuxRead) → frameRefusal (h .refusal) (secured h) (a .refusal) (length f - h .length) ≡ 0 → isAbsent (frameAnswer h a 0 .aux) ≡ false
+accepted-parts : (f : List ℕ) (h : HeaderRead) (a : AuxRead) → frameNumber f h a ≡ 0 → isAbsent (frameGiven h a .aux) ≡ false
     → (h .refusal ≡ 0) × (secured h ≡ true) × (a .refusal ≡ 0)
-unfolding frameRefusal frameAnswer
+unfolding frameNumber frameRefusal
 accepted-parts f h a e present =
-    let s1 = none-split _ _ e in
-    let s2 = none-split _ _ (s1 .1) in
+    let n = none _ e in
     let s = is-secured (secured h) (a .aux) present in
-    (s1 .0, s, sym (ap (λ (b : Bool). cond b (a .refusal) 0) s) ∙ s2 .0)
+    (n .0, s, sym (ap (λ (b : Bool). cond b (a .refusal) 0) s) ∙ n .1 .0)
 
 pub secured-facts : (f : List ℕ) → readFrame f .refusal ≡ 0 → isAbsent (readFrame f .aux) ≡ false → SecuredFacts f
 unfolding readFrame frameBy
 secured-facts f e present =
     let h = readHeader f in
     let a = auxBehind f h in
-    let none : frameRefusal (h .refusal) (secured h) (a .refusal) (length f - h .length) ≡ 0 = sym (frame-refusal h a _) ∙ e in
-    let parts = accepted-parts f h a none (rw none at present) in
+    let z : frameNumber f h a ≡ 0 = sym (frame-refusal f h a) ∙ e in
+    let parts = accepted-parts f h a z (rw (accepted (frameNumber f h a) (frameGiven h a) (frameRefused (frameNumber f h a)) z) at present) in
     record { header = parts .0; aux = parts .2; read = secured-frame f h a (parts .1) (parts .0) (parts .2) }
 
 -- ---- sealing again

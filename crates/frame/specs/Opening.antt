@@ -1,13 +1,13 @@
 -- Opening a frame (Zigbee Specification 4.3.1.2; `EncryptedNwkFrame::from_bytes` and `decrypt`). It goes by what reading the
 -- frame answers.
 -- Assumes nothing.
-use Prim.Native.Nat.{ℕ, zero, suc, _-_}
+use Prim.Native.Nat.{ℕ, _-_}
 use mathlib.Core.Bool.{not}
 use mathlib.Core.List.{List, [], _∷_}
 use lib.ListN.{length, take, drop}
 use lib.Dec.{ltb}
 use Rattle.octets.specs.Strings.{over}
-use Rattle.octets.specs.Refusals.{on, firstOf}
+use Rattle.octets.specs.Refusals.{unless, Condition, on, by, firstOf}
 use Rattle.header.specs.declared.auxiliary.NwkSecurityLevel.{NwkSecurityLevel}
 use Rattle.header.specs.declared.nwk.NwkHeader.{NwkHeader}
 use Rattle.header.specs.Reading.{blankHeader}
@@ -36,9 +36,9 @@ verified l t key f r =
     (ciphertextOf t (behind f r)) (micOf t (behind f r))
 
 -- document 01's numbers 1 to 12 as reading gives them, then 14, 15, 16 and 18, for the bytes behind the headers
-unfoldable pub openRefusals : ℕ → ℕ → NwkHeader → OptionAuxHeader → ℕ → ℕ → List ℕ
+unfoldable pub openRefusals : ℕ → ℕ → NwkHeader → OptionAuxHeader → ℕ → ℕ → List Condition
 openRefusals t number h a part room =
-    number
+    by number
     ∷ on 14 (isAbsent a)
     ∷ on 15 (noIeee h (auxOf a))
     ∷ on 16 (ltb part t)
@@ -48,7 +48,7 @@ openRefusals t number h a part room =
 -- those, then 19
 unfoldable pub openRefusal : NwkSecurityLevel → ℕ → List ℕ → List ℕ → FrameRead → ℕ → ℕ
 openRefusal l t key f r room =
-    firstOf (firstOf (openRefusals t (r .refusal) (r .header) (r .aux) (length (behind f r)) room)
+    firstOf (by (firstOf (openRefusals t (r .refusal) (r .header) (r .aux) (length (behind f r)) room))
     ∷ on 19 (not (verified l t key f r .valid))
     ∷ [])
 
@@ -61,17 +61,21 @@ pub record Run : Type 0 where
   pub answer : FrameOpened
   pub out : List ℕ
 
--- refused by a number, nothing changed; or the two headers as read, and the payload at the front of the output
-unfoldable pub opened : ℕ → FrameRead → Verified → List ℕ → Run
-opened zero r v o =
+-- the two headers as read, and the payload at the front of the output
+abbrev pub openGiven : FrameRead → Verified → List ℕ → Run
+openGiven r v o =
     record {
       answer = record { refusal = 0; length = length (v .payload); header = r .header; aux = r .aux };
       out = over o 0 (v .payload);
     }
-opened (suc n) r v o = record { answer = openRefused (suc n); out = o }
+
+-- refused by a number, nothing changed
+abbrev pub openNothing : ℕ → List ℕ → Run
+openNothing n o = record { answer = openRefused n; out = o }
 
 unfoldable pub openBy : NwkSecurityLevel → ℕ → List ℕ → List ℕ → FrameRead → List ℕ → Run
-openBy l t key f r o = opened (openRefusal l t key f r (length o)) r (verified l t key f r) o
+openBy l t key f r o =
+    unless (openRefusal l t key f r (length o)) (openGiven r (verified l t key f r) o) (openNothing (openRefusal l t key f r (length o)) o)
 
 unfoldable pub openFrame : List ℕ → List ℕ → List ℕ → Run
 openFrame key f o = openBy networkLevel micLength key f (readFrame f) o

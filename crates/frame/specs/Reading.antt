@@ -1,12 +1,12 @@
 -- Reading a frame (Zigbee Specification 3.3.1; `EncryptedNwkFrame::from_bytes`): the header, the auxiliary header exactly if
 -- the security bit is set, and what is behind them. It goes by what reading the two headers answers.
 -- Assumes nothing.
-use Prim.Native.Nat.{ℕ, zero, suc, _+_, _-_}
+use Prim.Native.Nat.{ℕ, _+_, _-_}
 use mathlib.Core.Bool.{Bool, true, false, cond, not, _&&_}
 use mathlib.Core.List.{List, [], _∷_}
 use lib.ListN.{length, drop}
 use lib.Dec.{ltb}
-use Rattle.octets.specs.Refusals.{on, firstOf}
+use Rattle.octets.specs.Refusals.{unless, on, by, firstOf}
 use Rattle.header.specs.declared.auxiliary.NwkAuxHeader.{NwkAuxHeader}
 use Rattle.header.specs.declared.auxiliary.AuxRead.{AuxRead}
 use Rattle.header.specs.declared.nwk.HeaderRead.{HeaderRead}
@@ -34,20 +34,22 @@ auxBehind f h = readAux (drop (h .length) f)
 -- there is one; 12 for more than 108 bytes of an unsecured payload
 unfoldable pub frameRefusal : ℕ → Bool → ℕ → ℕ → ℕ
 frameRefusal header isSecured aux payload =
-    firstOf (header ∷ cond isSecured aux 0 ∷ on 12 (not isSecured && ltb 108 payload) ∷ [])
+    firstOf (by header ∷ by (cond isSecured aux 0) ∷ on 12 (not isSecured && ltb 108 payload) ∷ [])
 
 -- the number alone
 unfoldable pub frameRefused : ℕ → FrameRead
 frameRefused n = record { refusal = n; length = 0; header = blankHeader; aux = OptionAuxHeader.Absent }
 
--- the number alone, or the two headers and how many bytes they take
-unfoldable pub frameAnswer : HeaderRead → AuxRead → ℕ → FrameRead
-frameAnswer h a zero =
+-- the two headers and how many bytes they take
+abbrev pub frameGiven : HeaderRead → AuxRead → FrameRead
+frameGiven h a =
     record { refusal = 0; length = h .length + cond (secured h) (a .length) 0; header = h .header; aux = auxIf (secured h) (a .aux) }
-frameAnswer h a (suc n) = frameRefused (suc n)
+
+unfoldable pub frameNumber : List ℕ → HeaderRead → AuxRead → ℕ
+frameNumber f h a = frameRefusal (h .refusal) (secured h) (a .refusal) (length f - h .length)
 
 unfoldable pub frameBy : List ℕ → HeaderRead → AuxRead → FrameRead
-frameBy f h a = frameAnswer h a (frameRefusal (h .refusal) (secured h) (a .refusal) (length f - h .length))
+frameBy f h a = unless (frameNumber f h a) (frameGiven h a) (frameRefused (frameNumber f h a))
 
 unfoldable pub readFrame : List ℕ → FrameRead
 readFrame f = frameBy f (readHeader f) (auxBehind f (readHeader f))

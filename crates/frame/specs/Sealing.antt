@@ -5,12 +5,13 @@ use mathlib.Core.Bool.{_||_}
 use mathlib.Core.List.{List, [], _∷_, _++_}
 use lib.ListN.{length}
 use lib.Dec.{ltb}
-use Rattle.octets.specs.Refusals.{on, firstOf}
+use Rattle.octets.specs.Refusals.{Condition, on, by, firstOf}
+use Rattle.octets.specs.Writing.{Run, written}
 use Rattle.header.specs.declared.auxiliary.NwkSecurityLevel.{NwkSecurityLevel}
 use Rattle.header.specs.declared.auxiliary.NwkAuxHeader.{NwkAuxHeader}
 use Rattle.header.specs.declared.nwk.NwkHeader.{NwkHeader}
 use Rattle.header.specs.Auxiliary.{auxBytes}
-use Rattle.header.specs.Writing.{headerBytes, badHeader, Run, written}
+use Rattle.header.specs.Writing.{headerBytes, fieldRefusal}
 use Rattle.ccm.specs.Generation.{Generated}
 use Rattle.ccm.specs.Operations.{micLength, sealedBy}
 use Rattle.frame.specs.declared.OptionAuxHeader.{OptionAuxHeader}
@@ -30,7 +31,7 @@ unfoldable pub sealedLength : ℕ → NwkHeader → NwkAuxHeader → List ℕ �
 sealedLength t h a p = length (headerBytes h) + length (auxBytes a) + length p + t
 
 -- document 01's numbers 17, for more than 108 bytes of payload or more than 118 in all, and 18
-unfoldable pub lengthRefusals : ℕ → NwkHeader → NwkAuxHeader → List ℕ → ℕ → List ℕ
+unfoldable pub lengthRefusals : ℕ → NwkHeader → NwkAuxHeader → List ℕ → ℕ → List Condition
 lengthRefusals t h a p room =
     on 17 (ltb 108 (length p) || ltb 118 (sealedLength t h a p))
     ∷ on 18 (ltb room (sealedLength t h a p))
@@ -39,7 +40,7 @@ lengthRefusals t h a p room =
 -- document 01's numbers 13, 14 and 15, then those
 unfoldable pub sealRefusal : ℕ → NwkHeader → OptionAuxHeader → List ℕ → ℕ → ℕ
 sealRefusal t h a p room =
-    firstOf (on 13 (badHeader h)
+    firstOf (by (fieldRefusal h)
     ∷ on 14 (isAbsent a)
     ∷ on 15 (noIeee h (auxOf a))
     ∷ lengthRefusals t h (auxOf a) p room)

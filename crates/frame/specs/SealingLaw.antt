@@ -21,7 +21,7 @@ use Rattle.octets.specs.Strings.{Below}
 use Rattle.header.specs.declared.nwk.NwkHeader.{NwkHeader}
 use Rattle.header.specs.Reading.{readHeader}
 use Rattle.header.specs.Same.{Agrees, AuxAgrees, SameHeader, HeaderFits, AuxFits}
-use Rattle.header.specs.Writing as writing
+use Rattle.octets.specs.Writing as writing
 use Rattle.frame.specs.declared.OptionAuxHeader.{OptionAuxHeader}
 use Rattle.frame.specs.Security.{sentLevel, atLevel}
 use Rattle.frame.specs.Sealing.{sealFrame}
@@ -51,11 +51,16 @@ levelZero (OptionAuxHeader.Present a) = OptionAuxHeader.Present (atLevel sentLev
 
 -- ---- the first half
 
+-- sealing into a frame's buffer, then opening the bytes written
+abbrev pub sealThenOpen : List ℕ → NwkHeader → OptionAuxHeader → List ℕ → List ℕ → List ℕ → opening.Run
+sealThenOpen key h a p out out₂ = openFrame key (bytesWritten (sealFrame key h a p out)) out₂
+
 -- what opening r gives, of a frame sealed from the headers h and a and the payload p
 pub record Reopened (h : NwkHeader) (a : OptionAuxHeader) (p : List ℕ) (r : opening.Run) : Type 0 where
   pub accepted : r .answer .refusal ≡ 0
   pub header : SameHeader h (r .answer .header)
   pub auxiliary : r .answer .aux ≡ levelZero a
+  pub length : r .answer .length ≡ length p
   pub payload : payloadGiven r ≡ p
 
 abbrev pub FirstHalf : Type 0
@@ -66,9 +71,14 @@ FirstHalf =
     → h .«frame_control» .security ≡ true
     → Agrees h → AuxOptionAgrees a
     → length p ≤ length out₂
-    → Reopened h a p (openFrame key (bytesWritten (sealFrame key h a p out)) out₂)
+    → Reopened h a p (sealThenOpen key h a p out out₂)
 
 -- ---- the second half
+
+-- opening a frame, then sealing afresh the headers and the payload given
+abbrev pub openThenSeal : List ℕ → List ℕ → List ℕ → List ℕ → writing.Run
+openThenSeal key f out out₂ =
+    sealFrame key (openFrame key f out .answer .header) (openFrame key f out .answer .aux) (payloadGiven (openFrame key f out)) out₂
 
 -- the security control byte, the first behind the header, arrived with level and bit 7 zero
 pub record PlainControl (f : List ℕ) : Type 0 where
@@ -78,6 +88,7 @@ pub record PlainControl (f : List ℕ) : Type 0 where
 -- what sealing afresh writes of an opened frame f
 pub record Resealed (f : List ℕ) (s : writing.Run) : Type 0 where
   pub accepted : s .answer .refusal ≡ 0
+  pub length : s .answer .length ≡ length f
   pub bytes : bytesWritten s ≡ f
 
 abbrev pub SecondHalf : Type 0
@@ -87,5 +98,4 @@ SecondHalf =
     → openFrame key f out .answer .refusal ≡ 0
     → PlainControl f
     → length out₂ ≡ 118
-    → Resealed f
-    (sealFrame key (openFrame key f out .answer .header) (openFrame key f out .answer .aux) (payloadGiven (openFrame key f out)) out₂)
+    → Resealed f (openThenSeal key f out out₂)

@@ -1,10 +1,11 @@
-// The sealing law's first half, carried to the code.
+// The sealing law carried to the code: sealing and opening in turn, either way round.
 use crate::FrameOpened;
 use crate::OptionAuxHeader;
 use crate::opening;
 use crate::ranges;
 use crate::sealing;
 use header::nwk::NwkHeader;
+use octets::Written;
 use types::Key;
 ghost use mathlib.Core.Path.{_≡_};
 ghost use mathlib.Core.Bool.{true};
@@ -12,10 +13,11 @@ ghost use Prim.Native.Nat.{_≤_};
 ghost use lib.ListN.{length};
 ghost use Rattle.header.specs.Same.{Agrees};
 ghost use Rattle.frame.specs.Sealing.{sealFrame};
-ghost use Rattle.frame.specs.SealingLaw.{AuxOptionAgrees, Reopened};
+ghost use Rattle.frame.specs.Opening.{openFrame};
+ghost use Rattle.frame.specs.SealingLaw.{AuxOptionAgrees, sealThenOpen, Reopened, PlainControl, openThenSeal, Resealed};
 
-// Seal a frame and open it again. Where sealing accepts and the bits agree with the fields, the headers and the payload
-// come back.
+// Seal a frame and open the bytes written. Where sealing accepts and the bits agree with the fields, the headers and the
+// payload come back; where it refuses, nothing was written, and opening no bytes is refused by 2.
 pub fn seal_then_open(
     key: Key,
     h: NwkHeader,
@@ -24,11 +26,30 @@ pub fn seal_then_open(
     frame: &mut [u8],
     out: &mut [u8],
 ) -> FrameOpened
-    ensures { λ r. ⌜ (sealFrame (key .0) h aux (now (payload .entry)) (now (frame .entry)) .answer .refusal ≡ 0 → h .«frame_control» .security ≡ true → Agrees h → AuxOptionAgrees aux → length (now (payload .entry)) ≤ length (now (out .entry)) → Reopened h aux (now (payload .entry)) (record { answer = r; out = now (out .exit) })) ⌝ }
+    ensures answer { λ r. ⌜ r ≡ sealThenOpen (key .0) h aux (now (payload .entry)) (now (frame .entry)) (now (out .entry)) .answer ⌝ }
+    ensures frame { λ _. ⌜ now (frame .exit) ≡ sealFrame (key .0) h aux (now (payload .entry)) (now (frame .entry)) .out ⌝ }
+    ensures out { λ _. ⌜ now (out .exit) ≡ sealThenOpen (key .0) h aux (now (payload .entry)) (now (frame .entry)) (now (out .entry)) .out ⌝ }
+    ensures law { λ r. ⌜ (sealFrame (key .0) h aux (now (payload .entry)) (now (frame .entry)) .answer .refusal ≡ 0 → h .«frame_control» .security ≡ true → Agrees h → AuxOptionAgrees aux → length (now (payload .entry)) ≤ length (now (out .entry)) → Reopened h aux (now (payload .entry)) (record { answer = r; out = now (out .exit) })) ⌝ }
 {
     ranges::header_fits(h);
     ranges::aux_option_fits(aux);
     let written = sealing::seal(key, h, aux, payload, frame);
     let n = written.length;
     opening::open(key, &frame[..n], out)
+}
+
+// Open a frame and seal afresh what it gave. Where opening accepts a frame whose security control byte has level and bit 7
+// zero, and 118 bytes are lent, exactly the frame's bytes are written again.
+pub fn open_then_seal(key: Key, frame: &[u8], out: &mut [u8], again: &mut [u8]) -> Written
+    ensures answer { λ r. ⌜ r ≡ openThenSeal (key .0) (now (frame .entry)) (now (out .entry)) (now (again .entry)) .answer ⌝ }
+    ensures out { λ _. ⌜ now (out .exit) ≡ openFrame (key .0) (now (frame .entry)) (now (out .entry)) .out ⌝ }
+    ensures again { λ _. ⌜ now (again .exit) ≡ openThenSeal (key .0) (now (frame .entry)) (now (out .entry)) (now (again .entry)) .out ⌝ }
+    ensures law { λ r. ⌜ (openFrame (key .0) (now (frame .entry)) (now (out .entry)) .answer .refusal ≡ 0 → PlainControl (now (frame .entry)) → length (now (again .entry)) ≡ 118 → Resealed (now (frame .entry)) (record { answer = r; out = now (again .exit) })) ⌝ }
+{
+    ranges::bytes_fit(frame);
+    let opened = opening::open(key, frame, out);
+    let header = opened.header;
+    let aux = opened.aux;
+    let n = opened.length;
+    sealing::seal(key, header, aux, &out[..n], again)
 }

@@ -4,7 +4,8 @@ use header::auxiliary::NwkAuxHeader;
 use header::control::NwkFrameType;
 use header::nwk::MAX_MAC_PAYLOAD_SIZE;
 use header::nwk::NwkHeader;
-use header::nwk::Written;
+use octets::Written;
+use octets::refusals;
 ghost use mathlib.Core.Path.{_≡_};
 ghost use mathlib.Core.Bool.{cond};
 ghost use Prim.Native.Nat.{_+_, _≤_};
@@ -18,9 +19,6 @@ pub mod opening;
 pub mod ranges;
 pub mod sealing;
 mod security;
-
-// `nwkcMACFrameOverhead`: the MAC header and FCS around a NWK frame.
-pub const MAC_FRAME_OVERHEAD: usize = 11;
 
 // The largest NWK payload: 127 bytes less the smallest MAC and NWK headers.
 pub const MAX_NSDU_SIZE: usize = 108;
@@ -123,7 +121,7 @@ fn frame_refusal(header: u8, secured: bool, aux: u8, payload: usize) -> u8
         return aux;
     }
     if MAX_NSDU_SIZE < payload {
-        return 12;
+        return refusals::PAYLOAD;
     }
     0
 }
@@ -176,18 +174,19 @@ pub fn read_frame(frame: &[u8]) -> FrameRead
 fn write_refusal(h: NwkHeader, payload: &[u8], room: usize) -> u8
     ensures { λ r. ⌜ r ≡ frameWriteRefusal h (now (payload .entry)) room ⌝ }
 {
-    if h.is_bad() {
-        return 13;
+    let fields = h.field_refusal();
+    if fields != 0 {
+        return fields;
     }
     if MAX_NSDU_SIZE < payload.len() {
-        return 17;
+        return refusals::LENGTH;
     }
     let whole = h.size() + payload.len();
     if MAX_MAC_PAYLOAD_SIZE < whole {
-        return 17;
+        return refusals::LENGTH;
     }
     if room < whole {
-        return 18;
+        return refusals::NO_ROOM;
     }
     0
 }

@@ -8,6 +8,7 @@ use crate::security;
 use header::auxiliary::NwkAuxHeader;
 use header::auxiliary::NwkSecurityLevel;
 use header::nwk::NwkHeader;
+use octets::refusals;
 use types::Key;
 ghost use mathlib.Core.Path.{_≡_};
 ghost use mathlib.Core.Bool.{false};
@@ -43,17 +44,17 @@ pub fn open_refusal(number: u8, h: NwkHeader, aux: OptionAuxHeader, part: usize,
         return number;
     }
     if aux.is_absent() {
-        return 14;
+        return refusals::NO_AUXILIARY;
     }
     let present = aux.or_blank();
     if security::no_ieee(h, present) {
-        return 15;
+        return refusals::NO_IEEE;
     }
     if part < ccm::MIC_LENGTH {
-        return 16;
+        return refusals::NO_MIC;
     }
     if room < part - ccm::MIC_LENGTH {
-        return 18;
+        return refusals::NO_ROOM;
     }
     0
 }
@@ -106,5 +107,5 @@ pub fn open(key: Key, frame: &[u8], out: &mut [u8]) -> FrameOpened
             aux,
         };
     }
-    FrameOpened::refused(19)
+    FrameOpened::refused(refusals::WRONG_MIC)
 }

@@ -4,7 +4,8 @@ use crate::security;
 use header::auxiliary::NwkAuxHeader;
 use header::auxiliary::NwkSecurityLevel;
 use header::nwk::NwkHeader;
-use header::nwk::Written;
+use octets::Written;
+use octets::refusals;
 use types::Key;
 ghost use mathlib.Core.Path.{_≡_};
 ghost use mathlib.Core.Bool.{false};
@@ -30,15 +31,16 @@ fn sealed_length(h: NwkHeader, aux: NwkAuxHeader, payload: &[u8]) -> usize
 fn seal_refusal(h: NwkHeader, aux: OptionAuxHeader, payload: &[u8], room: usize) -> u8
     ensures { λ r. ⌜ r ≡ sealRefusal micLength h aux (now (payload .entry)) room ⌝ }
 {
-    if h.is_bad() {
-        return 13;
+    let fields = h.field_refusal();
+    if fields != 0 {
+        return fields;
     }
     if aux.is_absent() {
-        return 14;
+        return refusals::NO_AUXILIARY;
     }
     let present = aux.or_blank();
     if security::no_ieee(h, present) {
-        return 15;
+        return refusals::NO_IEEE;
     }
     length_refusal(h, present, payload, room)
 }
@@ -48,14 +50,14 @@ fn length_refusal(h: NwkHeader, aux: NwkAuxHeader, payload: &[u8], room: usize) 
     ensures { λ r. ⌜ r ≡ firstOf (lengthRefusals micLength h aux (now (payload .entry)) room) ⌝ }
 {
     if crate::MAX_NSDU_SIZE < payload.len() {
-        return 17;
+        return refusals::LENGTH;
     }
     let whole = sealed_length(h, aux, payload);
     if header::nwk::MAX_MAC_PAYLOAD_SIZE < whole {
-        return 17;
+        return refusals::LENGTH;
     }
     if room < whole {
-        return 18;
+        return refusals::NO_ROOM;
     }
     0
 }

@@ -13,15 +13,15 @@ use native.Mathlib.Numerals.{add-one}
 use borrow.Author.Tests.{le-ltb, ltb-false}
 use Rattle.octets.specs.Strings.{Below}
 use Rattle.octets.specs.Numbers.{le, leAt}
-use Rattle.octets.specs.Refusals.{firstOf, orElse}
+use Rattle.octets.specs.Refusals.{firstOf}
 use Rattle.octets.proofs.Numbers.{length-le, leAt-le, le-leAt}
-use Rattle.octets.proofs.Refusals.{none-split, not-on}
+use Rattle.octets.proofs.Conditions.{accepted, none}
 use Rattle.header.specs.declared.auxiliary.NwkAuxHeader.{NwkAuxHeader}
 use Rattle.header.specs.declared.auxiliary.NwkSecurityHeaderControlField.{NwkSecurityHeaderControlField}
 use Rattle.types.specs.Optional.{ieeeIf, ieeeBytes, hasIeee}
 use Rattle.octets.specs.Fields.{bit}
 use Rattle.header.specs.AuxiliaryControl.{securityByte}
-use Rattle.header.specs.Auxiliary.{security, keySequenceAt, auxRefusal, auxBy, auxAnswer, readAux, auxBytes}
+use Rattle.header.specs.Auxiliary.{security, keySequenceAt, auxRefusal, auxBy, auxGiven, readAux, auxBytes}
 use Rattle.header.specs.Same.{AuxAgrees, AuxFits}
 use Rattle.header.proofs.ControlFields.{security-back, securityByte-lt, byte-back}
 use Rattle.header.proofs.Pieces.{le-byte, byte-read, take-join, ieee-length, ieee-back, ieee-read, ieee-has}
@@ -89,7 +89,7 @@ module _ (a : NwkAuxHeader) (rest : List ℕ) (fits : AuxFits a) (agrees : AuxAg
 
 -- an auxiliary header that ends within the bytes is accepted
 aux-accepted : (f : List ℕ) → length f ≤ 118 → keySequenceAt (security f) + 1 ≤ length f → auxRefusal f ≡ 0
-unfolding auxRefusal firstOf orElse
+unfolding auxRefusal firstOf
 aux-accepted f short h =
     let five : 5 ≤ keySequenceAt (security f) = unfold keySequenceAt in omega arith in
     rw (
@@ -101,12 +101,12 @@ aux-accepted f short h =
 
 pub aux-read-back : (a : NwkAuxHeader) (rest : List ℕ) → AuxFits a → AuxAgrees a → length (auxBytes a ++ rest) ≤ 118
     → readAux (auxBytes a ++ rest) ≡ record { refusal = 0; length = length (auxBytes a); aux = a }
-unfolding readAux auxAnswer
+unfolding readAux
 aux-read-back a rest fits agrees short =
     let f : List ℕ = auxBytes a ++ rest in
     let c : security f ≡ a .«security_control» = control-read a rest fits agrees in
     let ends : keySequenceAt (security f) + 1 ≡ length (auxBytes a) = ap (λ (k : NwkSecurityHeaderControlField). keySequenceAt k + 1) c ∙ size a rest fits agrees in
-    ap (auxAnswer f) (aux-accepted f short (rw (ends, length-append (auxBytes a) rest) (omega arith)))
+    accepted (auxRefusal f) (auxGiven f) _ (aux-accepted f short (rw (ends, length-append (auxBytes a) rest) (omega arith)))
     ∙ (λ i. record { refusal = 0; length = ends i; aux = (ap (auxBy f) c ∙ record-read a rest fits agrees) i })
 
 -- ---- writing undoes reading
@@ -118,13 +118,10 @@ pub record ReadAux (f : List ℕ) : Type 0 where
 pub aux-read : (f : List ℕ) → auxRefusal f ≡ 0 → ReadAux f
 unfolding auxRefusal
 aux-read f e =
-    let s1 = none-split _ _ e in
-    let s2 = none-split _ _ (s1 .1) in
-    let s3 = none-split _ _ (s2 .1) in
-    let s4 = none-split _ _ (s3 .1) in
+    let n = none _ e in
     record {
-      short = ltb-false 118 (length f) (not-on 0 _ (s1 .0));
-      ends = ltb-false (length f) (keySequenceAt (security f) + 1) (not-on 10 _ (s4 .0));
+      short = ltb-false 118 (length f) (n .0);
+      ends = ltb-false (length f) (keySequenceAt (security f) + 1) (n .1 .1 .1 .0);
     }
 
 -- the bytes that were read, the control's bit 7 at 0

@@ -5,5 +5,5 @@ pub mod Pieces
 pub mod ReadBack
 pub mod WriteBack
 pub mod AuxiliaryLaws
-pub mod Answers
+pub mod Writable
 pub mod ReadFacts

@@ -12,7 +12,8 @@ use lib.Seq.{getD-append-add}
 use lib.Dec.{ltb, eqb}
 use borrow.Author.Tests.{le-ltb, lt-ltb, ltb-false, ltb-true}
 use Rattle.octets.specs.Numbers.{le, leAt}
-use Rattle.octets.specs.Refusals.{firstOf, orElse}
+use Rattle.octets.specs.Refusals.{firstOf}
+use Rattle.octets.proofs.Conditions.{accepted}
 use Rattle.octets.proofs.Strings.{tab-ext, getD-tab}
 use Rattle.octets.proofs.Numbers.{length-le, leAt-le, leAt-behind}
 use Rattle.header.specs.declared.control.NwkFrameControl.{NwkFrameControl}
@@ -22,7 +23,7 @@ use Rattle.header.specs.Optional.{multicastIf, multicastBytes, hasMultic
 use Rattle.types.specs.Optional.{ieeeIf, ieeeBytes, hasIeee}
 use Rattle.octets.specs.Fields.{bit}
 use Rattle.header.specs.Control.{controlWord, controlOf}
-use Rattle.header.specs.Reading.{control, sourceAt, multicastAt, routeAt, relaysAt, headerEnd, headerRefusal, optionalRefusals, relaysOf, headerBy, headerAnswer, readHeader}
+use Rattle.header.specs.Reading.{control, sourceAt, multicastAt, routeAt, relaysAt, headerEnd, headerRefusal, optionalRefusals, relaysOf, headerBy, headerGiven, readHeader}
 use Rattle.header.specs.Writing.{fixedBytes, optionalBytes, headerBytes, badControl, badHeader}
 use Rattle.header.specs.Same.{Agrees, SameHeader, cleared, HeaderFits}
 use Rattle.header.proofs.ControlFields.{or-false, control-back, controlWord-lt, word-type, word-discovery}
@@ -216,10 +217,10 @@ unfolding sourceAt multicastAt routeAt headerEnd
 places f c = (omega arith, omega arith, omega arith, omega arith)
 
 -- a header whose codes are declared and that ends within the bytes is accepted
-pub accepted : (f : List ℕ) → length f ≤ 118 → eqb (leAt 2 f 0 % 4) 2 ≡ false → eqb (leAt 2 f 0 / 64 % 4) 3 ≡ false
+pub header-accepted : (f : List ℕ) → length f ≤ 118 → eqb (leAt 2 f 0 % 4) 2 ≡ false → eqb (leAt 2 f 0 / 64 % 4) 3 ≡ false
     → headerEnd f (control f) ≤ length f → headerRefusal f ≡ 0
-unfolding headerRefusal optionalRefusals firstOf orElse
-accepted f short t d l =
+unfolding headerRefusal optionalRefusals firstOf
+header-accepted f short t d l =
     let p = places f (control f) in
     rw (
       le-ltb 118 (length f) short,
@@ -253,18 +254,18 @@ record-read h rest fits good agrees =
 
 pub read-back : (h : NwkHeader) (rest : List ℕ) → HeaderFits h → badHeader h ≡ false → Agrees h → length (headerBytes h ++ rest) ≤ 118
     → readHeader (headerBytes h ++ rest) ≡ record { refusal = 0; length = length (headerBytes h); header = cleared h }
-unfolding readHeader headerAnswer badHeader
+unfolding readHeader badHeader
 read-back h rest fits good agrees short =
     let good′ = or-false (badControl (h .«frame_control»)) (ltb 54 (relayCount (h .«source_route»))) good .0 in
     let c-read : control (headerBytes h ++ rest) ≡ h .«frame_control» = control-read h rest fits good′ in
     let ends : headerEnd (headerBytes h ++ rest) (control (headerBytes h ++ rest)) ≡ length (headerBytes h) =
     ap (headerEnd (headerBytes h ++ rest)) c-read ∙ end-read h rest fits agrees in
     let none : headerRefusal (headerBytes h ++ rest) ≡ 0 =
-    accepted (headerBytes h ++ rest) short
+    header-accepted (headerBytes h ++ rest) short
     (ap (λ (w : ℕ). eqb (w % 4) 2) (word h rest fits good′) ∙ word-type (h .«frame_control») good′)
     (ap (λ (w : ℕ). eqb (w / 64 % 4) 3) (word h rest fits good′) ∙ word-discovery (h .«frame_control») good′)
     (rw (ends, length-append (headerBytes h) rest) (omega arith)) in
-    ap (headerAnswer (headerBytes h ++ rest)) none
+    accepted (headerRefusal (headerBytes h ++ rest)) (headerGiven (headerBytes h ++ rest)) _ none
     ∙ (λ i. record {
       refusal = 0;
       length = ends i;

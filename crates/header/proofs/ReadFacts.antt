@@ -4,19 +4,18 @@
 use mathlib.Core.Path.{_≡_, refl, sym, ap, _∙_}
 use mathlib.Core.Bool.{Bool, false}
 use mathlib.Core.List.{List}
-use Prim.Native.Nat.{ℕ, zero, suc, _+_, _*_, _%_, _≤_, _<_}
-use native.Mathlib.Decide.{ℕ-discrete}
+use Prim.Native.Nat.{ℕ, _+_, _*_, _%_, _≤_, _<_}
 use native.Mathlib.Omega.{arith}
 use lib.ListN.{length, getD, take}
 use Rattle.octets.specs.Strings.{Below}
-use Rattle.octets.specs.Fields.{fields}
+use Rattle.octets.specs.Fields.{bit, fields}
+use Rattle.octets.proofs.Conditions.{accepted, answer-number, unless-either}
 use Rattle.header.specs.declared.auxiliary.NwkSecurityLevel.{NwkSecurityLevel}
 use Rattle.header.specs.declared.nwk.HeaderRead.{HeaderRead}
 use Rattle.header.specs.declared.auxiliary.AuxRead.{AuxRead}
-use Rattle.octets.specs.Fields.{bit}
-use Rattle.header.specs.Reading.{control, headerRefusal, headerAnswer, readHeader}
+use Rattle.header.specs.Reading.{control, headerRefusal, headerGiven, headerRefused, readHeader}
 use Rattle.header.specs.Writing.{headerBytes, badHeader}
-use Rattle.header.specs.Auxiliary.{security, keySequenceAt, auxRefusal, auxBy, auxAnswer, readAux, auxBytes}
+use Rattle.header.specs.Auxiliary.{security, keySequenceAt, auxRefusal, auxBy, auxGiven, auxRefused, readAux, auxBytes}
 use Rattle.header.specs.AuxiliaryControl.{levelOf, securityOf}
 use Rattle.header.specs.Same.{Agrees, AuxAgrees}
 use Rattle.header.proofs.Codes.{bit-lt}
@@ -27,11 +26,6 @@ use Rattle.header.proofs.AuxiliaryLaws.{aux-read, aux-length, aux-write
 
 -- ---- the header
 
-header-answered : (f : List ℕ) (n : ℕ) → headerAnswer f n .refusal ≡ n
-unfolding headerAnswer
-header-answered f zero = refl
-header-answered f (suc n) = refl
-
 pub record HeaderFacts (f : List ℕ) (r : HeaderRead) : Type 0 where
   pub short : length f ≤ 118
   pub least : 8 ≤ r .length
@@ -40,8 +34,7 @@ pub record HeaderFacts (f : List ℕ) (r : HeaderRead) : Type 0 where
   pub agrees : Agrees (r .header)
   pub bytes : headerBytes (r .header) ≡ take (r .length) f
 
-read-facts : (f : List ℕ) → Below 256 f → headerRefusal f ≡ 0 → HeaderFacts f (headerAnswer f 0)
-unfolding headerAnswer
+read-facts : (f : List ℕ) → Below 256 f → headerRefusal f ≡ 0 → HeaderFacts f (headerGiven f)
 read-facts f u none =
     let r = header-read f none in
     let p = places f (control f) in
@@ -58,26 +51,17 @@ read-facts f u none =
 pub header-facts : (f : List ℕ) → Below 256 f → readHeader f .refusal ≡ 0 → HeaderFacts f (readHeader f)
 unfolding readHeader
 header-facts f u e =
-    let none : headerRefusal f ≡ 0 = sym (header-answered f (headerRefusal f)) ∙ e in
-    rw none (read-facts f u none)
-
--- a header that is refused has length 0
-refused-length : (f : List ℕ) (n : ℕ) → (n ≡ 0 → ⊥) → headerAnswer f n .length ≡ 0
-unfolding headerAnswer
-refused-length f zero h = absurd (h refl)
-refused-length f (suc n) h = refl
+    let none : headerRefusal f ≡ 0 = sym (answer-number (λ (r : HeaderRead). r .refusal) (headerRefusal f) (headerGiven f) headerRefused refl refl) ∙ e in
+    rw (accepted (headerRefusal f) (headerGiven f) (headerRefused (headerRefusal f)) none) (read-facts f u none)
 
 -- whatever is answered, the header ends within the bytes
 pub header-within : (f : List ℕ) → Below 256 f → readHeader f .length ≤ length f
 unfolding readHeader
-header-within f u = elim (ℕ-discrete (headerRefusal f) 0) [ yes e ↦ rw e (read-facts f u e .within) | no h ↦ rw (refused-length f (headerRefusal f) h) (omega arith) ]
+header-within f u =
+    unless-either (λ (r : HeaderRead). r .length ≤ length f) (headerRefusal f) (headerGiven f) (headerRefused (headerRefusal f))
+    (λ e. read-facts f u e .within) (omega arith)
 
 -- ---- the auxiliary header
-
-aux-answered : (f : List ℕ) (n : ℕ) → auxAnswer f n .refusal ≡ n
-unfolding auxAnswer
-aux-answered f zero = refl
-aux-answered f (suc n) = refl
 
 pub record AuxFacts (f : List ℕ) (r : AuxRead) : Type 0 where
   pub within : r .length ≤ length f
@@ -96,8 +80,7 @@ plain-level : (f : List ℕ) → getD f 0 0 % 8 ≡ 0 → auxBy f (security f) .
 unfolding auxBy securityOf fields
 plain-level f e = ap levelOf e
 
-read-aux-facts : (f : List ℕ) → Below 256 f → auxRefusal f ≡ 0 → AuxFacts f (auxAnswer f 0)
-unfolding auxAnswer
+read-aux-facts : (f : List ℕ) → Below 256 f → auxRefusal f ≡ 0 → AuxFacts f (auxGiven f)
 read-aux-facts f u none =
     let ends = aux-read f none .ends in
     record {
@@ -111,33 +94,24 @@ read-aux-facts f u none =
 pub aux-facts : (f : List ℕ) → Below 256 f → readAux f .refusal ≡ 0 → AuxFacts f (readAux f)
 unfolding readAux
 aux-facts f u e =
-    let none : auxRefusal f ≡ 0 = sym (aux-answered f (auxRefusal f)) ∙ e in
-    rw none (read-aux-facts f u none)
-
--- an auxiliary header that is refused has length 0
-refused-aux-length : (f : List ℕ) (n : ℕ) → (n ≡ 0 → ⊥) → auxAnswer f n .length ≡ 0
-unfolding auxAnswer
-refused-aux-length f zero h = absurd (h refl)
-refused-aux-length f (suc n) h = refl
+    let none : auxRefusal f ≡ 0 = sym (answer-number (λ (r : AuxRead). r .refusal) (auxRefusal f) (auxGiven f) auxRefused refl refl) ∙ e in
+    rw (accepted (auxRefusal f) (auxGiven f) (auxRefused (auxRefusal f)) none) (read-aux-facts f u none)
 
 -- whatever is answered, the auxiliary header ends within the bytes, and a header within 118
 pub aux-within : (f : List ℕ) → Below 256 f → readAux f .length ≤ length f
 unfolding readAux
-aux-within f u = elim (ℕ-discrete (auxRefusal f) 0) [ yes e ↦ rw e (read-aux-facts f u e .within) | no h ↦ rw (refused-aux-length f (auxRefusal f) h) (omega arith) ]
+aux-within f u =
+    unless-either (λ (r : AuxRead). r .length ≤ length f) (auxRefusal f) (auxGiven f) (auxRefused (auxRefusal f))
+    (λ e. read-aux-facts f u e .within) (omega arith)
 
 pub header-short : (f : List ℕ) → Below 256 f → readHeader f .length ≤ 118
 unfolding readHeader
 header-short f u =
-    elim (ℕ-discrete (headerRefusal f) 0) [
-      | yes e ↦ rw e (omega (arith, read-facts f u e .within, read-facts f u e .short))
-      | no h ↦ rw (refused-length f (headerRefusal f) h) (omega arith)
-    ]
-
-short-answer : (f : List ℕ) (n : ℕ) → auxAnswer f n .length ≤ 14
-unfolding auxAnswer keySequenceAt
-short-answer f zero = omega (arith, bit-lt (security f .«extended_nonce»))
-short-answer f (suc n) = omega arith
+    unless-either (λ (r : HeaderRead). r .length ≤ 118) (headerRefusal f) (headerGiven f) (headerRefused (headerRefusal f))
+    (λ e. omega (arith, read-facts f u e .within, read-facts f u e .short)) (omega arith)
 
 pub aux-short : (f : List ℕ) → readAux f .length ≤ 14
-unfolding readAux
-aux-short f = short-answer f (auxRefusal f)
+unfolding readAux keySequenceAt
+aux-short f =
+    unless-either (λ (r : AuxRead). r .length ≤ 14) (auxRefusal f) (auxGiven f) (auxRefused (auxRefusal f))
+    (λ e. omega (arith, bit-lt (security f .«extended_nonce»))) (omega arith)

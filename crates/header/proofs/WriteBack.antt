@@ -14,7 +14,7 @@ use Rattle.octets.specs.Strings.{Below}
 use Rattle.octets.specs.Numbers.{le, leAt}
 use Rattle.octets.proofs.Strings.{getD-tab}
 use Rattle.octets.proofs.Numbers.{le-leAt, leAt-lt}
-use Rattle.octets.proofs.Refusals.{none-split, not-on}
+use Rattle.octets.proofs.Conditions.{none}
 use Rattle.header.specs.declared.control.NwkFrameControl.{NwkFrameControl}
 use Rattle.header.specs.Optional.{multicastIf, multicastBytes, routeIf, routeBytes}
 use Rattle.types.specs.Optional.{ieeeIf, ieeeBytes}
@@ -37,19 +37,12 @@ pub record Read (f : List ℕ) : Type 0 where
 pub header-read : (f : List ℕ) → headerRefusal f ≡ 0 → Read f
 unfolding headerRefusal optionalRefusals
 header-read f e =
-    let s1 = none-split _ _ e in
-    let s2 = none-split _ _ (s1 .1) in
-    let s3 = none-split _ _ (s2 .1) in
-    let s4 = none-split _ _ (s3 .1) in
-    let s5 = none-split _ _ (s4 .1) in
-    let s6 = none-split _ _ (s5 .1) in
-    let s7 = none-split _ _ (s6 .1) in
-    let s8 = none-split _ _ (s7 .1) in
+    let n = none _ e in
     record {
-      short = ltb-false 118 (length f) (not-on 0 _ (s1 .0));
-      type = not-on 2 _ (s3 .0);
-      discovery = not-on 3 _ (s4 .0);
-      ends = ltb-false (length f) (headerEnd f (control f)) (not-on 7 _ (s8 .0));
+      short = ltb-false 118 (length f) (n .0);
+      type = n .1 .1 .0;
+      discovery = n .1 .1 .1 .0;
+      ends = ltb-false (length f) (headerEnd f (control f)) (n .1 .1 .1 .1 .1 .1 .1 .0);
     }
 
 fixed-read : (f : List ℕ) → Below 256 f → Read f → fixedBytes (headerBy f (control f)) ≡ take 8 f

@@ -1,19 +1,19 @@
 -- The auxiliary header (Zigbee Specification 4.5.1): reading with the refusals 1, 9, 10 and 11, and writing with those
 -- that it can meet, of which there is 18 alone.
 -- Assumes nothing.
-use Prim.Native.Nat.{ℕ, zero, suc, _+_, _*_}
+use Prim.Native.Nat.{ℕ, _+_, _*_}
 use mathlib.Core.List.{List, [], _∷_, _++_}
 use lib.ListN.{length, getD}
 use lib.Dec.{ltb}
 use Rattle.octets.specs.Numbers.{le, leAt}
-use Rattle.octets.specs.Refusals.{on, firstOf}
+use Rattle.octets.specs.Refusals.{unless, on, firstOf}
+use Rattle.octets.specs.Writing.{Run, written}
 use Rattle.header.specs.declared.auxiliary.NwkSecurityHeaderControlField.{NwkSecurityHeaderControlField}
 use Rattle.header.specs.declared.auxiliary.NwkAuxHeader.{NwkAuxHeader}
 use Rattle.header.specs.declared.auxiliary.AuxRead.{AuxRead}
 use Rattle.types.specs.Optional.{ieeeIf, ieeeBytes}
 use Rattle.octets.specs.Fields.{bit}
 use Rattle.header.specs.AuxiliaryControl.{securityByte, securityOf}
-use Rattle.header.specs.Writing.{Run, written}
 
 -- ---- reading: control at 0, counter at 1, IEEE at 5
 
@@ -46,12 +46,15 @@ auxBy f c =
 unfoldable pub blankAux : NwkAuxHeader
 blankAux = auxBy [] (securityOf 0)
 
-unfoldable pub auxAnswer : List ℕ → ℕ → AuxRead
-auxAnswer f zero = record { refusal = 0; length = keySequenceAt (security f) + 1; aux = auxBy f (security f) }
-auxAnswer f (suc n) = record { refusal = suc n; length = 0; aux = blankAux }
+-- what reading answers: the record and its length in bytes, or a refusal's number alone
+abbrev pub auxGiven : List ℕ → AuxRead
+auxGiven f = record { refusal = 0; length = keySequenceAt (security f) + 1; aux = auxBy f (security f) }
+
+abbrev pub auxRefused : ℕ → AuxRead
+auxRefused n = record { refusal = n; length = 0; aux = blankAux }
 
 unfoldable pub readAux : List ℕ → AuxRead
-readAux f = auxAnswer f (auxRefusal f)
+readAux f = unless (auxRefusal f) (auxGiven f) (auxRefused (auxRefusal f))
 
 -- ---- writing
 

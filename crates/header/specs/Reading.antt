@@ -1,14 +1,14 @@
 -- Reading a NWK header (Zigbee Specification 3.3.1): where each field stands, the refusals in document 01's order, the
 -- record, and where the header ends. Every definition is total on every byte string: a byte past the end counts 0.
 -- Assumes nothing.
-use Prim.Native.Nat.{ℕ, zero, suc, _+_, _*_, _/_, _%_}
+use Prim.Native.Nat.{ℕ, _+_, _*_, _/_, _%_}
 use mathlib.Core.Bool.{cond}
 use mathlib.Core.List.{List, [], _∷_}
 use lib.ListN.{length, getD}
 use lib.Dec.{eqb, ltb}
 use Rattle.octets.specs.Strings.{tab}
 use Rattle.octets.specs.Numbers.{leAt}
-use Rattle.octets.specs.Refusals.{on, firstOf}
+use Rattle.octets.specs.Refusals.{unless, Condition, on, firstOf}
 use Rattle.header.specs.declared.control.NwkFrameControl.{NwkFrameControl}
 use Rattle.header.specs.declared.nwk.NwkHeader.{NwkHeader}
 use Rattle.header.specs.declared.nwk.HeaderRead.{HeaderRead}
@@ -45,7 +45,7 @@ headerEnd f c = routeAt c + cond (c .«source_route») (2 + 2 * relaysAt f c) 0
 -- ---- the refusals, document 01's numbers 1 to 8
 
 -- 5 to 8: a field that the frame control announces ends past the bytes
-unfoldable pub optionalRefusals : List ℕ → NwkFrameControl → List ℕ
+unfoldable pub optionalRefusals : List ℕ → NwkFrameControl → List Condition
 optionalRefusals f c =
     on 5 (ltb (length f) (sourceAt c))
     ∷ on 6 (ltb (length f) (multicastAt c))
@@ -86,10 +86,12 @@ headerBy f c =
 unfoldable pub blankHeader : NwkHeader
 blankHeader = headerBy [] (controlOf 0)
 
--- what reading answers: the number alone, or the record and where the header ends
-unfoldable pub headerAnswer : List ℕ → ℕ → HeaderRead
-headerAnswer f zero = record { refusal = 0; length = headerEnd f (control f); header = headerBy f (control f) }
-headerAnswer f (suc n) = record { refusal = suc n; length = 0; header = blankHeader }
+-- what reading answers: the record and where the header ends, or a refusal's number alone
+abbrev pub headerGiven : List ℕ → HeaderRead
+headerGiven f = record { refusal = 0; length = headerEnd f (control f); header = headerBy f (control f) }
+
+abbrev pub headerRefused : ℕ → HeaderRead
+headerRefused n = record { refusal = n; length = 0; header = blankHeader }
 
 unfoldable pub readHeader : List ℕ → HeaderRead
-readHeader f = headerAnswer f (headerRefusal f)
+readHeader f = unless (headerRefusal f) (headerGiven f) (headerRefused (headerRefusal f))

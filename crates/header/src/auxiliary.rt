@@ -1,7 +1,8 @@
 // The auxiliary header (Zigbee Specification 4.5.1).
 use crate::nwk::MAX_MAC_PAYLOAD_SIZE;
-use crate::nwk::Written;
+use octets::Written;
 use octets::bit_of;
+use octets::refusals;
 use types::OptionEui64;
 ghost use mathlib.Core.Path.{_≡_};
 ghost use Prim.Native.Nat.{_+_, _≤_, _<_};
@@ -136,8 +137,8 @@ impl NwkSecurityHeaderControlField {
     {
         let security_level = self.security_level;
         let key_id = self.key_id;
-        let verified = bit_of(self.require_verified_frame_counter) as u8;
-        let extended_nonce = (bit_of(self.extended_nonce) as u8) + verified * 2;
+        let verified = bit_of(self.require_verified_frame_counter);
+        let extended_nonce = bit_of(self.extended_nonce) + verified * 2;
         security_level.code() + (key_id.code() + extended_nonce * 4) * 8
     }
 
@@ -167,18 +168,18 @@ fn aux_refusal(f: &[u8]) -> u8
     ensures { λ r. ⌜ r ≡ auxRefusal (now (f .entry)) ⌝ }
 {
     if MAX_MAC_PAYLOAD_SIZE < f.len() {
-        return 1;
+        return refusals::TOO_LONG;
     }
     if f.len() < 6 {
-        return 9;
+        return refusals::SHORT_AUXILIARY;
     }
     let c = NwkSecurityHeaderControlField::from_byte(octets::byte_at(f, 0));
     let key_sequence = key_sequence_at(c);
     if f.len() < key_sequence {
-        return 10;
+        return refusals::SHORT_EXTENDED;
     }
     if f.len() < key_sequence + 1 {
-        return 11;
+        return refusals::NO_KEY_SEQUENCE;
     }
     0
 }
@@ -258,7 +259,7 @@ impl NwkAuxHeader {
         let size = self.size();
         if out.len() < size {
             return Written {
-                refusal: 18,
+                refusal: refusals::NO_ROOM,
                 length: 0,
             };
         }

@@ -1,10 +1,9 @@
 // The frame control field (Zigbee Specification 3.3.1.1).
-
+use octets::bit_of;
 ghost use mathlib.Core.Path.{_≡_};
 ghost use Prim.Native.Nat.{_<_};
 ghost use lib.ListN.{drop};
 ghost use Rattle.octets.specs.Fields.{packed};
-ghost use Rattle.octets.specs.Fields.{bit};
 ghost use Rattle.header.specs.Control.{controlSizes, controlValues, typeCode, typeOf, discoveryCode, discoveryOf, controlWord, controlOf};
 
 // The frame's type; the code 2 is not declared.
@@ -116,12 +115,11 @@ impl NwkFrameControl {
     }
 
     // Bits 8 to 15, put together from the lowest.
-    fn flags(self) -> u16
+    fn flags(self) -> u8
         requires { ⌜ self .reserved1 < 4 ⌝ }
         ensures { λ r. ⌜ (r ≡ packed (drop 3 controlSizes) (drop 3 (controlValues self))) × (r < 256) ⌝ }
     {
-        let reserved1 = self.reserved1 as u16;
-        let end_device_initiator = bit_of(self.end_device_initiator) + reserved1 * 2;
+        let end_device_initiator = bit_of(self.end_device_initiator) + self.reserved1 * 2;
         let extended_source = bit_of(self.extended_source) + end_device_initiator * 2;
         let destination = bit_of(self.destination) + extended_source * 2;
         let source_route = bit_of(self.source_route) + destination * 2;
@@ -136,7 +134,7 @@ impl NwkFrameControl {
     {
         let frame_type = self.frame_type;
         let discover_route = self.discover_route;
-        let discovery = discover_route.code() + self.flags() * 4;
+        let discovery = discover_route.code() + (self.flags() as u16) * 4;
         let version = (self.protocol_version as u16) + discovery * 16;
         frame_type.code() + version * 4
     }

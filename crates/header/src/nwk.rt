@@ -2,7 +2,9 @@
 use crate::control::NwkFrameControl;
 use crate::optional::NwkSourceRoute;
 use crate::optional::OptionMulticast;
+use octets::Written;
 use octets::bit_of;
+use octets::refusals;
 use types::Nwk;
 use types::OptionEui64;
 ghost use mathlib.Core.Path.{_≡_};
@@ -17,7 +19,7 @@ ghost use Rattle.octets.specs.Refusals.{firstOf};
 ghost use Rattle.header.specs.Optional.{multicastBytes, routeBytes, relayCount};
 ghost use Rattle.types.specs.Optional.{ieeeBytes};
 ghost use Rattle.header.specs.Reading.{optionalRefusals, sourceAt, multicastAt, routeAt, relaysAt, headerEnd, headerRefusal, relaysOf, headerBy, blankHeader, readHeader};
-ghost use Rattle.header.specs.Writing.{headerBytes, badHeader, headerWriteRefusal, writeHeader};
+ghost use Rattle.header.specs.Writing.{headerBytes, badHeader, fieldRefusal, headerWriteRefusal, writeHeader};
 
 // The largest MAC payload, and so the largest NWK frame.
 pub const MAX_MAC_PAYLOAD_SIZE: usize = 118;
@@ -26,7 +28,7 @@ pub const MAX_MAC_PAYLOAD_SIZE: usize = 118;
 pub const MIN_HEADER_OVERHEAD: usize = 8;
 
 // How many relays a header has places for.
-pub const MAX_RELAYS: usize = 54;
+pub const MAX_RELAYS: u8 = 54;
 
 // The broadcast addresses (Zigbee Specification 3.6.5).
 pub const BROADCAST_ALL_DEVICES: u16 = 0xFFFF;
@@ -58,12 +60,6 @@ pub struct HeaderRead {
     pub refusal: u8,
     pub length: usize,
     pub header: NwkHeader,
-}
-
-// What writing answers: a refusal's number with length 0, or 0 and how many bytes stand at the front of the output.
-pub struct Written {
-    pub refusal: u8,
-    pub length: usize,
 }
 
 // ---- reading
@@ -116,16 +112,16 @@ fn optional_refusal(f: &[u8], c: NwkFrameControl) -> u8
     ensures { λ r. ⌜ r ≡ firstOf (optionalRefusals (now (f .entry)) c) ⌝ }
 {
     if f.len() < source_at(c) {
-        return 5;
+        return refusals::DESTINATION_IEEE;
     }
     if f.len() < multicast_at(c) {
-        return 6;
+        return refusals::SOURCE_IEEE;
     }
     if f.len() < route_at(c) {
-        return 7;
+        return refusals::MULTICAST;
     }
     if f.len() < header_end(f, c) {
-        return 8;
+        return refusals::SOURCE_ROUTE;
     }
     0
 }
@@ -135,17 +131,17 @@ fn header_refusal(f: &[u8]) -> u8
     ensures { λ r. ⌜ r ≡ headerRefusal (now (f .entry)) ⌝ }
 {
     if MAX_MAC_PAYLOAD_SIZE < f.len() {
-        return 1;
+        return refusals::TOO_LONG;
     }
     if f.len() < MIN_HEADER_OVERHEAD {
-        return 2;
+        return refusals::SHORT_HEADER;
     }
     let w = octets::read_u16(f, 0);
     if w % 4 == 2 {
-        return 3;
+        return refusals::FRAME_TYPE;
     }
     if w / 64 % 4 == 3 {
-        return 4;
+        return refusals::DISCOVERY;
     }
     optional_refusal(f, NwkFrameControl::from_word(w))
 }
@@ -255,33 +251,37 @@ impl NwkHeader {
         MIN_HEADER_OVERHEAD + (ieees + (multicast_control.size() + source_route.size(relays)))
     }
 
-    // Whether a field exceeds its bits or the relays exceed their places (refusal 13).
-    pub fn is_bad(self) -> bool
-        ensures { λ r. ⌜ r ≡ badHeader self ⌝ }
+    // What the fields are refused by: 13 where one exceeds its bits or the relays exceed their places, else 0.
+    pub fn field_refusal(self) -> u8
+        ensures { λ r. ⌜ r ≡ fieldRefusal self ⌝ }
     {
         let source_route = self.source_route;
         if 15 < self.frame_control.protocol_version {
-            return true;
+            return refusals::FIELD;
         }
         if 3 < self.frame_control.reserved1 {
-            return true;
+            return refusals::FIELD;
         }
-        54 < source_route.count()
+        if MAX_RELAYS < source_route.count() {
+            return refusals::FIELD;
+        }
+        0
     }
 
     // The first of the refusals 13, 17 and 18 that holds when the output has the room given, or 0.
     fn write_refusal(self, room: usize) -> u8
         ensures { λ r. ⌜ r ≡ headerWriteRefusal self room ⌝ }
     {
-        if self.is_bad() {
-            return 13;
+        let fields = self.field_refusal();
+        if fields != 0 {
+            return fields;
         }
         let size = self.size();
         if MAX_MAC_PAYLOAD_SIZE < size {
-            return 17;
+            return refusals::LENGTH;
         }
         if room < size {
-            return 18;
+            return refusals::NO_ROOM;
         }
         0
     }

@@ -2,4 +2,3 @@
 pub mod Calls
 pub mod Refusals
 pub mod FrameRefusals
-pub mod CommandCalls

@@ -1,20 +1,19 @@
 -- The answer of a C function, and what it leaves in a lent buffer. A refusal is its number with length 0 and changes no
 -- lent byte; where nothing is refused, each result stands at the front of its buffer and the rest stays.
 -- Assumes nothing.
-use Prim.Native.Nat.{ℕ, zero, suc, _+_, _*_, _%_, _^_}
+use Prim.Native.Nat.{ℕ, _+_, _*_, _%_, _^_}
 use mathlib.Core.List.{List}
 use Rattle.octets.specs.Strings.{over}
+use Rattle.octets.specs.Refusals.{unless}
 
 -- the length in bits 0 to 31, the refusal number in bits 32 to 39, the other bits 0
 unfoldable pub answer : ℕ → ℕ → ℕ
 answer refusal length = length % 2 ^ 32 + refusal * 2 ^ 32
 
 -- the answer by the refusal number, where n bytes are given
-unfoldable pub answerBy : ℕ → ℕ → ℕ
-answerBy zero n = answer 0 n
-answerBy (suc refusal) n = answer (suc refusal) 0
+abbrev pub answerBy : ℕ → ℕ → ℕ
+answerBy refusal n = unless refusal (answer 0 n) (answer refusal 0)
 
 -- the buffer o by the refusal number, where the bytes bs are given
-unfoldable pub given : ℕ → List ℕ → List ℕ → List ℕ
-given zero bs o = over o 0 bs
-given (suc refusal) bs o = o
+abbrev pub given : ℕ → List ℕ → List ℕ → List ℕ
+given refusal bs o = unless refusal (over o 0 bs) o

@@ -7,31 +7,24 @@ use mathlib.Core.Bool.{not}
 use mathlib.Core.List.{List, [], _∷_}
 use lib.ListN.{length}
 use lib.Dec.{ltb}
-use Rattle.octets.specs.Refusals.{on, firstOf}
+use Rattle.octets.specs.Refusals.{on, by, firstOf}
 use Rattle.ccm.specs.Operations.{micLength}
 use Rattle.ccm.specs.Verification.{Verified}
-use Rattle.frame.specs.declared.OptionAuxHeader.{OptionAuxHeader}
-use Rattle.frame.specs.Reading.{auxIf, readFrame}
+use Rattle.frame.specs.Reading.{readFrame}
 use Rattle.frame.specs.Writing.{frameWriteRefusal, frameBytes}
 use Rattle.frame.specs.Security as security
 use Rattle.frame.specs.Sealing.{sealRefusal, sealedBytes}
-use Rattle.frame.specs.Opening.{behind, verified, openRefusals}
+use Rattle.frame.specs.Opening.{behind, verified, openRefusals, openFrame}
 use Rattle.records.specs.HeaderRecord.{headerRecordSize, headerRecord, headerOf, badHeaderRecord}
-use Rattle.records.specs.AuxiliaryRecord.{auxRecordSize, auxRecord, auxOf, auxPresent, badAuxRecord}
+use Rattle.records.specs.AuxiliaryRecord.{auxRecordSize, badAuxRecord}
+use Rattle.records.specs.OpenedRecord.{optionRecord, optionOf, openedRecordSize, openedRecord}
 use Rattle.nwk.specs.Answer.{answerBy, given}
-
--- the auxiliary header or none that a record says, and the record of one or none
-unfoldable pub auxGiven : List ℕ → OptionAuxHeader
-auxGiven r = auxIf (auxPresent r) (auxOf r)
-
-unfoldable pub optionRecord : OptionAuxHeader → List ℕ
-optionRecord o = auxRecord (not (security.isAbsent o)) (security.auxOf o)
 
 -- ---- reading: 1 to 12, then 18 for the header record or the auxiliary record
 
 unfoldable pub readFrameRefusal : List ℕ → ℕ → ℕ → ℕ
 readFrameRefusal f headerRoom auxRoom =
-    firstOf (readFrame f .refusal ∷ on 18 (ltb headerRoom headerRecordSize) ∷ on 18 (ltb auxRoom auxRecordSize) ∷ [])
+    firstOf (by (readFrame f .refusal) ∷ on 18 (ltb headerRoom headerRecordSize) ∷ on 18 (ltb auxRoom auxRecordSize) ∷ [])
 
 -- of the frame f, with h and x in the two records before
 abbrev pub readFrameAnswer : List ℕ → List ℕ → List ℕ → ℕ
@@ -46,7 +39,7 @@ readFrameAuxiliary f h x = given (readFrameRefusal f (length h) (length x)) (opt
 -- ---- writing without a key: 13 for the record, then the frame's own 13, 17 and 18
 
 unfoldable pub writeFrameRefusal : List ℕ → List ℕ → ℕ → ℕ
-writeFrameRefusal r p room = firstOf (on 13 (badHeaderRecord r) ∷ frameWriteRefusal (headerOf r) p room ∷ [])
+writeFrameRefusal r p room = firstOf (on 13 (badHeaderRecord r) ∷ by (frameWriteRefusal (headerOf r) p room) ∷ [])
 
 -- of the header record r and the payload p, with o in the output before
 abbrev pub writeFrameAnswer : List ℕ → List ℕ → List ℕ → ℕ
@@ -59,11 +52,11 @@ writeFrameOutput r p o = given (writeFrameRefusal r p (length o)) (frameBytes (h
 
 unfoldable pub sealRecordsRefusal : List ℕ → List ℕ → List ℕ → ℕ → ℕ
 sealRecordsRefusal r x p room =
-    firstOf (on 13 (badHeaderRecord r) ∷ on 13 (badAuxRecord x) ∷ sealRefusal micLength (headerOf r) (auxGiven x) p room ∷ [])
+    firstOf (on 13 (badHeaderRecord r) ∷ on 13 (badAuxRecord x) ∷ by (sealRefusal micLength (headerOf r) (optionOf x) p room) ∷ [])
 
 -- the sealed frame
 unfoldable pub sealedRecords : List ℕ → List ℕ → List ℕ → List ℕ → List ℕ
-sealedRecords key r x p = sealedBytes security.networkLevel micLength key (headerOf r) (security.auxOf (auxGiven x)) p
+sealedRecords key r x p = sealedBytes security.networkLevel micLength key (headerOf r) (security.auxOf (optionOf x)) p
 
 -- of the two records r and x and the payload p, with o in the output before
 abbrev pub sealAnswer : List ℕ → List ℕ → List ℕ → List ℕ → List ℕ → ℕ
@@ -83,26 +76,17 @@ openNumber f room =
 unfoldable pub verifiedFrame : List ℕ → List ℕ → Verified
 verifiedFrame key f = verified security.networkLevel micLength key f (readFrame f)
 
-unfoldable pub openRecordsRefusal : List ℕ → List ℕ → ℕ → ℕ → ℕ → ℕ
-openRecordsRefusal key f headerRoom auxRoom room =
-    firstOf (openNumber f room
-    ∷ on 18 (ltb headerRoom headerRecordSize)
-    ∷ on 18 (ltb auxRoom auxRecordSize)
-    ∷ on 19 (not (verifiedFrame key f .valid))
-    ∷ [])
+unfoldable pub openRecordRefusal : List ℕ → List ℕ → ℕ → ℕ → ℕ
+openRecordRefusal key f recordRoom room =
+    firstOf (by (openNumber f room) ∷ on 18 (ltb recordRoom openedRecordSize) ∷ on 19 (not (verifiedFrame key f .valid)) ∷ [])
 
--- of the frame f, with h and x in the two records and o in the output before
-abbrev pub openAnswer : List ℕ → List ℕ → List ℕ → List ℕ → List ℕ → ℕ
-openAnswer key f h x o =
-    answerBy (openRecordsRefusal key f (length h) (length x) (length o)) (length (verifiedFrame key f .payload))
+-- of the frame f, with x in the record and o in the output before
+abbrev pub openAnswer : List ℕ → List ℕ → List ℕ → List ℕ → ℕ
+openAnswer key f x o = answerBy (openRecordRefusal key f (length x) (length o)) (length (verifiedFrame key f .payload))
 
-abbrev pub openHeader : List ℕ → List ℕ → List ℕ → List ℕ → List ℕ → List ℕ
-openHeader key f h x o =
-    given (openRecordsRefusal key f (length h) (length x) (length o)) (headerRecord (readFrame f .header)) h
+-- the record of what opening alone answers
+abbrev pub openRecord : List ℕ → List ℕ → List ℕ → List ℕ → List ℕ
+openRecord key f x o = given (openRecordRefusal key f (length x) (length o)) (openedRecord (openFrame key f o .answer)) x
 
-abbrev pub openAuxiliary : List ℕ → List ℕ → List ℕ → List ℕ → List ℕ → List ℕ
-openAuxiliary key f h x o =
-    given (openRecordsRefusal key f (length h) (length x) (length o)) (optionRecord (readFrame f .aux)) x
-
-abbrev pub openOutput : List ℕ → List ℕ → List ℕ → List ℕ → List ℕ → List ℕ
-openOutput key f h x o = given (openRecordsRefusal key f (length h) (length x) (length o)) (verifiedFrame key f .payload) o
+abbrev pub openOutput : List ℕ → List ℕ → List ℕ → List ℕ → List ℕ
+openOutput key f x o = given (openRecordRefusal key f (length x) (length o)) (verifiedFrame key f .payload) o

@@ -1,6 +1,6 @@
--- What the C functions promise: the number each answers, and what each lent buffer holds after.
+-- What the C functions promise: the number each answers, and what each lent buffer holds after. CCM and AES called alone
+-- promise what the operations below do.
 pub mod Answer
 pub mod Headers
-pub mod Cipher
 pub mod Frames
 pub mod Commands

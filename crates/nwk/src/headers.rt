@@ -2,6 +2,7 @@
 use crate::answer::answer;
 use header::auxiliary::NwkAuxHeader;
 use header::nwk::NwkHeader;
+use octets::refusals;
 use records::auxiliary_record;
 use records::header_record;
 ghost use mathlib.Core.Path.{_≡_};
@@ -26,7 +27,7 @@ pub extern "C" fn nwk_read_header(bytes: &[u8], header: &mut [u8]) -> u64
         return answer(read.refusal, 0);
     }
     if header.len() < header_record::HEADER_RECORD_SIZE {
-        return answer(18, 0);
+        return answer(refusals::NO_ROOM, 0);
     }
     let h = read.header;
     header_record::put_header(header, h);
@@ -40,7 +41,7 @@ pub extern "C" fn nwk_write_header(header: &[u8], out: &mut [u8]) -> u64
     ensures out { λ _. ⌜ now (out .exit) ≡ given (writeHeaderRefusal (now (header .entry)) (length (now (out .entry)))) (headerBytes (headerOf (now (header .entry)))) (now (out .entry)) ⌝ }
 {
     if header_record::is_bad(header) {
-        return answer(13, 0);
+        return answer(refusals::FIELD, 0);
     }
     let h = header_record::header_of(header);
     let written = h.serialize(out);
@@ -58,7 +59,7 @@ pub extern "C" fn nwk_read_auxiliary(bytes: &[u8], auxiliary: &mut [u8]) -> u64
         return answer(read.refusal, 0);
     }
     if auxiliary.len() < auxiliary_record::AUX_RECORD_SIZE {
-        return answer(18, 0);
+        return answer(refusals::NO_ROOM, 0);
     }
     let a = read.aux;
     auxiliary_record::put_aux(auxiliary, true, a);
@@ -72,12 +73,12 @@ pub extern "C" fn nwk_write_auxiliary(auxiliary: &[u8], out: &mut [u8]) -> u64
     ensures out { λ _. ⌜ now (out .exit) ≡ given (writeAuxRefusal (now (auxiliary .entry)) (length (now (out .entry)))) (auxBytes (auxOf (now (auxiliary .entry)))) (now (out .entry)) ⌝ }
 {
     if auxiliary_record::is_bad(auxiliary) {
-        return answer(13, 0);
+        return answer(refusals::FIELD, 0);
     }
     if auxiliary_record::is_present(auxiliary) {
         let a = auxiliary_record::aux_of(auxiliary);
         let written = a.serialize(out);
         return answer(written.refusal, written.length);
     }
-    answer(13, 0)
+    answer(refusals::FIELD, 0)
 }

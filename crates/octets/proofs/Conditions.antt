@@ -1,6 +1,6 @@
 -- Laws of an ordered list of refusals: there is none exactly where no condition holds.
 -- Assumes nothing.
-use mathlib.Core.Path.{_≡_, refl}
+use mathlib.Core.Path.{_≡_, refl, sym, ap, _∙_}
 use mathlib.Core.Bool.{Bool, true, false, true≢false}
 use mathlib.Core.List.{List, [], _∷_}
 use Prim.Native.Nat.{ℕ, zero, suc}
@@ -19,16 +19,29 @@ unfolding unless
 refused zero a r h = absurd (h refl)
 refused (suc n) a r h = refl
 
--- what is the same in both answers, such as the number itself, is so in the answer
-pub unless-part : {A B : Type 0} (f : A → B) (n : ℕ) (a r : A) → f (unless n a r) ≡ unless n (f a) (f r)
+-- the same at a return of the code, where the number n is known to be the definition's k
+pub accepted-by : {A : Type 0} (k n : ℕ) (a r : A) → n ≡ k → n ≡ 0 → a ≡ unless k a r
+accepted-by k n a r e z = sym (accepted k a r (sym e ∙ z))
+
+pub refused-by : {A : Type 0} (k n : ℕ) (a : A) (r : ℕ → A) → n ≡ k → (n ≡ 0 → ⊥) → r n ≡ unless k a (r k)
+refused-by k n a r e h = ap r e ∙ sym (refused k a (r k) (λ z. h (e ∙ z)))
+
+-- what holds of both answers holds of the answer; of what is accepted it is shown knowing that nothing is refused
+pub unless-either : {A : Type 0} (P : A → Type 0) (n : ℕ) (a r : A) → (n ≡ 0 → P a) → P r → P (unless n a r)
 unfolding unless
-unless-part f zero a r = refl
-unless-part f (suc n) a r = refl
+unless-either P zero a r pa pr = pa refl
+unless-either P (suc n) a r pa pr = pr
 
 pub unless-number : (n : ℕ) → unless n 0 n ≡ n
 unfolding unless
 unless-number zero = refl
 unless-number (suc n) = refl
+
+-- an answer bears the refusal's number
+pub answer-number : {A : Type 0} (number : A → ℕ) (n : ℕ) (a : A) (r : ℕ → A) → number a ≡ 0 → number (r n) ≡ n → number (unless n a (r n)) ≡ n
+unfolding unless
+answer-number number zero a r e f = e
+answer-number number (suc n) a r e f = f
 
 -- ---- none of the conditions holds
 

@@ -4,13 +4,13 @@
 use mathlib.Core.Path.{_≡_, refl, sym, ap, _∙_}
 use mathlib.Core.List.{List, [], _∷_, _++_, append-assoc, append-nil}
 use mathlib.Core.Logic.{⊎-elim, _⊎_, inl, inr}
-use Prim.Native.Nat.{ℕ, zero, suc, _+_, _≤_, _<_}
-use native.Mathlib.Nat.{add-assoc}
+use Prim.Native.Nat.{ℕ, zero, suc, _+_, _-_, _≤_, _<_}
+use native.Mathlib.Nat.{add-zero, add-assoc}
 use native.Mathlib.Numerals.{add-one}
 use native.Mathlib.Decide.{decLt}
 use native.Mathlib.Omega.{arith}
 use lib.ListN.{length, getD, take, drop, set, length-append, length-drop, take-append-drop, List·getD-append, drop-of-length-le}
-use lib.Seq.{length-take-le, take-suc, take-at, set-at, getD-at, drop-cons, set-split, drop-append-add, drop-drop, take-add}
+use lib.Seq.{length-take-le, take-all, drop-length, take-suc, take-at, set-at, getD-at, drop-cons, set-split, drop-append-add, drop-drop, take-add}
 use Rattle.octets.specs.Strings.{tab, over}
 
 -- ---- a list given by its entries
@@ -75,9 +75,9 @@ length-over o i bs h =
 
 pub over-nil : {A : Type 0} (o : List A) (i : ℕ) → over o i [] ≡ o
 unfolding over
-over-nil o i = rw native.Mathlib.Nat.add-zero (take-append-drop i o)
+over-nil o i = rw add-zero (take-append-drop i o)
 
--- at the front: the bytes, and the rest xs it was
+-- at the front: the bytes, and the rest as it was
 pub over-front : {A : Type 0} (o bs : List A) → over o 0 bs ≡ bs ++ drop (length bs) o
 unfolding over
 over-front o bs = rw native.Mathlib.Nat.zero-add
@@ -115,6 +115,23 @@ unfolding over
 over-part o h i bs l =
     rw (drop-drop (i + length bs) h o, take-add h i o, add-assoc, append-assoc) refl
 
+-- a part of a slice that starts at place n and goes to the end
+pub part-behind : {A : Type 0} (f : List A) (n : ℕ) → take (length f - n) (drop n f) ≡ drop n f
+part-behind f n = take-all (length f - n) (drop n f) (rw (length-drop n f) (omega arith))
+
+pub nothing-behind : {A : Type 0} (f : List A) (n : ℕ) → length f ≤ n → take (length f - length f) (drop (length f) f) ≡ drop n f
+nothing-behind f n h = part-behind f (length f) ∙ drop-length f ∙ sym (drop-of-length-le f h)
+
+-- a part lent from place s on, and overwritten at its front
+pub part-over : {A : Type 0} (o m bs : List A) (s : ℕ) → s ≤ length o → m ≡ over (take (length o - s) (drop s o)) 0 bs
+    → take s o ++ (m ++ drop (length o - s) (drop s o)) ≡ over o s bs
+part-over {A} o m bs s h e =
+    let rest : drop (length o - s) (drop s o) ≡ [] = drop-of-length-le (drop s o) {i = length o - s} (rw (length-drop s o) (omega arith)) in
+    let inner : m ≡ over (drop s o) 0 bs = e ∙ ap (λ (l : List A). over l 0 bs) (part-behind o s) in
+    (λ i. take s o ++ (inner i ++ rest i))
+    ∙ ap (λ (l : List A). take s o ++ l) (append-nil (over (drop s o) 0 bs))
+    ∙ over-part o s 0 bs h ∙ ap (λ (k : ℕ). over o k bs) (add-zero s)
+
 -- a stored byte is a part of length one
 pub set-over : {A : Type 0} (o : List A) (i : ℕ) (x : A) → i < length o → set o i x ≡ over o i (x ∷ [])
 unfolding over
@@ -126,7 +143,7 @@ take-over o bs = rw over-front (lib.Seq.take-append-seam bs (drop (length bs) o)
 
 -- the whole overwritten
 pub over-all : {A : Type 0} (o bs : List A) → length o ≡ length bs → over o 0 bs ≡ bs
-over-all o bs e = rw (over-front, ← e, lib.Seq.drop-length) (append-nil bs)
+over-all o bs e = rw (over-front, ← e, drop-length) (append-nil bs)
 
 -- a loop that copies from the front: one more entry stored
 pub copy-more : {A : Type 0} (o : List A) (i j : ℕ) (s : List A) (d : A) → i + j < length o → j < length s

@@ -1,20 +1,27 @@
 -- What a writer leaves, by its refusal's number.
 -- Assumes nothing.
-use mathlib.Core.Path.{_≡_, ap, _∙_}
+use mathlib.Core.Path.{_≡_, refl}
 use mathlib.Core.List.{List}
-use Prim.Native.Nat.{ℕ}
+use Prim.Native.Nat.{ℕ, _≤_}
+use native.Mathlib.Omega.{arith}
+use lib.ListN.{length}
 use Rattle.octets.specs.Writing.{Run, wrote, wroteNothing, written}
-use Rattle.octets.proofs.Conditions.{accepted, refused, unless-part, unless-number}
+use Rattle.octets.proofs.Conditions.{accepted-by, refused-by, unless-either, answer-number}
 
-pub write-accepted : (n : ℕ) (bs o : List ℕ) → n ≡ 0 → written n bs o ≡ wrote bs o
+pub write-accepted : (k n : ℕ) (bs o : List ℕ) → n ≡ k → n ≡ 0 → wrote bs o ≡ written k bs o
 unfolding written
-write-accepted n bs o e = accepted n (wrote bs o) (wroteNothing n o) e
+write-accepted k n bs o e z = accepted-by k n (wrote bs o) (wroteNothing k o) e z
 
-pub write-refused : (n : ℕ) (bs o : List ℕ) → (n ≡ 0 → ⊥) → written n bs o ≡ wroteNothing n o
+pub write-refused : (k n : ℕ) (bs o : List ℕ) → n ≡ k → (n ≡ 0 → ⊥) → wroteNothing n o ≡ written k bs o
 unfolding written
-write-refused n bs o h = refused n (wrote bs o) (wroteNothing n o) h
+write-refused k n bs o e h = refused-by k n (wrote bs o) (λ (m : ℕ). wroteNothing m o) e h
 
 -- the answer bears the number
 pub written-number : (n : ℕ) (bs o : List ℕ) → written n bs o .answer .refusal ≡ n
 unfolding written
-written-number n bs o = unless-part (λ (r : Run). r .answer .refusal) n (wrote bs o) (wroteNothing n o) ∙ unless-number n
+written-number n bs o = answer-number (λ (r : Run). r .answer .refusal) n (wrote bs o) (λ (m : ℕ). wroteNothing m o) refl refl
+
+-- a writer's length is within the output, if its bytes are where it accepts
+pub written-within : (n : ℕ) (bs o : List ℕ) → (n ≡ 0 → length bs ≤ length o) → written n bs o .answer .length ≤ length o
+unfolding written
+written-within n bs o h = unless-either (λ (r : Run). r .answer .length ≤ length o) n (wrote bs o) (wroteNothing n o) h (omega arith)

@@ -2,12 +2,13 @@
 -- each byte keeps to the limit of its place. What was read is not bad, so what reading fills in, writing takes.
 -- Assumes nothing.
 use mathlib.Core.Path.{_≡_, refl}
-use mathlib.Core.Bool.{Bool, false}
+use mathlib.Core.Bool.{Bool, false, not, and-false}
 use mathlib.Core.List.{List}
 use Prim.Native.Nat.{ℕ, _<_}
 use native.Mathlib.Omega.{arith}
 use borrow.Author.Tests.{eq-eqb}
-use lib.ListN.{length, take, drop}
+use lib.Dec.{eqb}
+use lib.ListN.{length, getD, take, drop}
 use Rattle.octets.specs.Strings.{Below}
 use Rattle.octets.specs.Numbers.{le}
 use Rattle.header.specs.declared.control.NwkRouteDiscovery.{NwkRouteDiscovery}
@@ -19,7 +20,7 @@ use Rattle.header.specs.Control.{discoveryCode}
 use Rattle.header.proofs.Codes.{bit-lt, type-lt, type-declared, level-lt, keyId-lt}
 use Rattle.header.specs.Reading.{readHeader}
 use Rattle.header.specs.Writing.{badHeader}
-use Rattle.header.proofs.Answers.{Good, header-good}
+use Rattle.header.proofs.Writable.{Good, header-good}
 use Rattle.header.proofs.ReadFacts.{header-facts}
 use Rattle.records.specs.Optional.{ieeeRecord, multicastRecord, routeRecord}
 use Rattle.records.specs.HeaderRecord.{addressRecord, optionalRecord, headerRecord, headerLimits, badHeaderRecord}
@@ -56,7 +57,7 @@ header-within h g =
       bit-lt (hasRoute (h .«source_route»)),
     ))
 
-aux-within : (present : Bool) (a : NwkAuxHeader) → Within auxLimits (auxRecord present a)
+pub aux-within : (present : Bool) (a : NwkAuxHeader) → Within auxLimits (auxRecord present a)
 unfolding auxRecord counterRecord ieeeRecord le
 aux-within present a =
     let c = a .«security_control» in
@@ -85,7 +86,7 @@ header-taken h e =
 pub aux-taken : (present : Bool) (a : NwkAuxHeader) → badAuxRecord (auxRecord present a) ≡ false
 unfolding badAuxRecord
 aux-taken present a =
-    rw (eq-eqb (length (auxRecord present a)) 19 (length-aux present a), within-limits auxLimits (auxRecord present a) (aux-within present a)) refl
+    rw (eq-eqb (length (auxRecord present a)) 19 (length-aux present a), within-limits auxLimits (auxRecord present a) (aux-within present a)) (and-false (not (eqb (getD (auxRecord present a) 0 0) 0)))
 
 -- what was read
 pub read-header-taken : (f : List ℕ) → Below 256 f → readHeader f .refusal ≡ 0 → badHeaderRecord (headerRecord (readHeader f .header)) ≡ false

@@ -9,3 +9,4 @@ pub mod RecordPieces
 pub mod RecordBack
 pub mod Plain
 pub mod RoundTrip
+pub mod OpenedBack

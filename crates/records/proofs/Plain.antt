@@ -23,12 +23,14 @@ use Rattle.header.specs.Optional.{relayBytes}
 use Rattle.header.specs.Control.{controlValues}
 use Rattle.header.specs.Writing.{badHeader}
 use Rattle.header.proofs.Codes.{bit-lt, type-lt, discovery-lt, level-lt, keyId-lt}
-use Rattle.header.proofs.Answers.{Good, header-good}
+use Rattle.header.proofs.Writable.{Good, header-good}
 use Rattle.header.proofs.ReadBack.{getD-at₀}
 use Rattle.records.specs.Optional.{ieeeRecord, multicastRecord, routeRecord}
 use Rattle.records.specs.HeaderRecord.{addressRecord, optionalRecord, headerRecord}
-use Rattle.records.specs.AuxiliaryRecord.{securityRecord, counterRecord, auxRecord}
-use Rattle.records.proofs.Accepted.{header-taken, aux-taken}
+use Rattle.records.specs.AuxiliaryRecord.{securityRecord, counterRecord, auxRecord, auxLimits}
+use Rattle.records.proofs.Sizes.{length-aux}
+use Rattle.records.proofs.Within.{within-limits}
+use Rattle.records.proofs.Accepted.{header-taken, aux-within}
 use Rattle.records.proofs.RecordPieces.{Blank}
 use Rattle.records.proofs.RecordBack.{HeaderPlain, AuxPlain}
 
@@ -156,6 +158,7 @@ unfolding auxRecord counterRecord ieeeRecord le
 aux-plain present a =
     record {
       bytes = aux-bytes present a .each;
-      good = aux-taken present a;
+      size = length-aux present a;
+      limits = within-limits auxLimits (auxRecord present a) (aux-within present a);
       ieee = blank-behind (securityRecord present (a .«security_control») ++ le 4 (a .«frame_counter»)) (ieeeRecord (a .«extended_source») ++ le 1 (a .«key_sequence_number»)) 9 8 refl (ieee-blank (a .«extended_source») (le 1 (a .«key_sequence_number»)));
     }

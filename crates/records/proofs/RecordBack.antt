@@ -97,29 +97,21 @@ headerOf-injective r s p q e = sym (headerRecord-back r p) ∙ ap headerRecord e
 
 pub record AuxPlain (r : List ℕ) : Type 0 where
   pub bytes : Below 256 r
-  pub good : badAuxRecord r ≡ false
+  pub size : length r ≡ 19
+  pub limits : exceeds auxLimits r ≡ false
   pub ieee : Blank r 9 8
 
-record AuxTests (r : List ℕ) : Type 0 where
-  size : length r ≡ 19
-  keeps-to : (i : ℕ) → i < 10 → getD r i 0 ≤ getD auxLimits i 0
-
-aux-tests : (r : List ℕ) → badAuxRecord r ≡ false → AuxTests r
-unfolding badAuxRecord
-aux-tests r e =
-    let a = or-false (not (eqb (length r) 19)) (exceeds auxLimits r) e in
-    record { size = eqb-true (length r) 19 (not-false _ (a .0)); keeps-to = λ i h. keeps auxLimits r i (a .1) h }
-
-security-piece : (r : List ℕ) → AuxTests r → Piece r 0 5 (securityRecord (auxPresent r) (securityAt r))
+security-piece : (r : List ℕ) → AuxPlain r → Piece r 0 5 (securityRecord (auxPresent r) (securityAt r))
 unfolding tab securityAt
-security-piece r t =
-    let l : 5 ≤ length r = omega (arith, t .size) in
+security-piece r p =
+    let l : 5 ≤ length r = omega (arith, p .size) in
+    let keeps-to : (i : ℕ) → i < 10 → getD r i 0 ≤ getD auxLimits i 0 = λ i h. keeps auxLimits r i (p .limits) h in
     (λ i.
-    bit-of (getD r 0 0) (omega (arith, t .keeps-to 0 (omega arith))) i
-    ∷ level-of (getD r 1 0) (omega (arith, t .keeps-to 1 (omega arith))) i
-    ∷ keyId-of (getD r 2 0) (omega (arith, t .keeps-to 2 (omega arith))) i
-    ∷ bit-of (getD r 3 0) (omega (arith, t .keeps-to 3 (omega arith))) i
-    ∷ bit-of (getD r 4 0) (omega (arith, t .keeps-to 4 (omega arith))) i
+    bit-of (getD r 0 0) (omega (arith, keeps-to 0 (omega arith))) i
+    ∷ level-of (getD r 1 0) (omega (arith, keeps-to 1 (omega arith))) i
+    ∷ keyId-of (getD r 2 0) (omega (arith, keeps-to 2 (omega arith))) i
+    ∷ bit-of (getD r 3 0) (omega (arith, keeps-to 3 (omega arith))) i
+    ∷ bit-of (getD r 4 0) (omega (arith, keeps-to 4 (omega arith))) i
     ∷ [])
     ∙ tab-getD r 0 5 l
 
@@ -127,11 +119,10 @@ pub auxRecord-back : (r : List ℕ) → AuxPlain r → auxRecord (auxPresent r) 
 unfolding auxRecord counterRecord auxOf
 auxRecord-back r p =
     let b : Below 256 r = p .bytes in
-    let t : AuxTests r = aux-tests r (p .good) in
-    let l : length r ≡ 19 = t .size in
-    join r 0 5 14 _ _ (security-piece r t)
+    let l : length r ≡ 19 = p .size in
+    join r 0 5 14 _ _ (security-piece r p)
     (join r 5 4 10 _ _ (le-leAt 4 r 5 b (omega arith))
-    (join r 9 9 1 _ _ (ieee-piece r b 9 (t .keeps-to 9 (omega arith)) (p .ieee) (omega arith)) (byte-read r 18 b (omega arith))))
+    (join r 9 9 1 _ _ (ieee-piece r b 9 (keeps auxLimits r 9 (p .limits) (omega arith)) (p .ieee) (omega arith)) (byte-read r 18 b (omega arith))))
     ∙ take-all 19 r (omega arith)
 
 pub auxOf-injective : (r s : List ℕ) → AuxPlain r → AuxPlain s → auxPresent r ≡ auxPresent s → auxOf r ≡ auxOf s → r ≡ s

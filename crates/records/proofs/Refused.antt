@@ -1,7 +1,7 @@
 -- The tests of a record in their order: each way of being refused, and what is left past them.
 -- Assumes nothing.
 use mathlib.Core.Path.{_≡_, refl}
-use mathlib.Core.Bool.{true}
+use mathlib.Core.Bool.{true, false}
 use mathlib.Core.List.{List}
 use Prim.Native.Nat.{ℕ}
 use borrow.Author.Tests.{eq-eqb, ne-eqb}
@@ -26,6 +26,10 @@ pub aux-length : (r : List ℕ) → (length r ≡ 19 → ⊥) → true ≡ badAu
 unfolding badAuxRecord
 aux-length r h = rw (ne-eqb (length r) 19 h) refl
 
-pub aux-rest : (r : List ℕ) → length r ≡ 19 → exceeds auxLimits r ≡ badAuxRecord r
+pub aux-absent : (r : List ℕ) → length r ≡ 19 → getD r 0 0 ≡ 0 → false ≡ badAuxRecord r
 unfolding badAuxRecord
-aux-rest r h = rw (eq-eqb (length r) 19 h) refl
+aux-absent r h e = rw (eq-eqb (length r) 19 h, eq-eqb (getD r 0 0) 0 e) refl
+
+pub aux-rest : (r : List ℕ) → length r ≡ 19 → (getD r 0 0 ≡ 0 → ⊥) → exceeds auxLimits r ≡ badAuxRecord r
+unfolding badAuxRecord
+aux-rest r h e = rw (eq-eqb (length r) 19 h, ne-eqb (getD r 0 0) 0 e) refl

@@ -1,9 +1,10 @@
 -- How long the parts of the records are.
 -- Assumes nothing.
 use mathlib.Core.Path.{_≡_}
-use mathlib.Core.Bool.{Bool}
+use mathlib.Core.Bool.{Bool, not}
 use Prim.Native.Nat.{ℕ}
 use lib.ListN.{length, length-append}
+use Rattle.octets.proofs.Strings.{length-tab}
 use Rattle.octets.proofs.Numbers.{length-le}
 use Rattle.types.specs.declared.OptionEui64.{OptionEui64}
 use Rattle.header.specs.declared.optional.OptionMulticast.{OptionMulticast}
@@ -14,6 +15,10 @@ use Rattle.header.proofs.Pieces.{relay-length}
 use Rattle.records.specs.Optional.{ieeeRecord, multicastRecord, routeRecord}
 use Rattle.records.specs.HeaderRecord.{addressRecord, optionalRecord, headerRecord}
 use Rattle.records.specs.AuxiliaryRecord.{counterRecord, auxRecord}
+use Rattle.records.specs.OpenedRecord.{optionRecord, openedFront, openedRecord}
+use Rattle.frame.specs.declared.OptionAuxHeader.{OptionAuxHeader}
+use Rattle.frame.specs.declared.FrameOpened.{FrameOpened}
+use Rattle.frame.specs.Security.{isAbsent, auxOf}
 
 pub length-ieee : (o : OptionEui64) → length (ieeeRecord o) ≡ 9
 unfolding ieeeRecord
@@ -46,3 +51,15 @@ length-counter a = simp (length-append, length-le, length-ieee)
 pub length-aux : (p : Bool) (a : NwkAuxHeader) → length (auxRecord p a) ≡ 19
 unfolding auxRecord
 length-aux p a = simp length-counter
+
+pub length-option : (o : OptionAuxHeader) → length (optionRecord o) ≡ 19
+unfolding optionRecord
+length-option o = length-aux (not (isAbsent o)) (auxOf o)
+
+pub length-front : (refusal n : ℕ) → length (openedFront refusal n) ≡ 16
+unfolding openedFront
+length-front refusal n = simp (length-append, length-le, length-tab)
+
+pub length-opened : (o : FrameOpened) → length (openedRecord o) ≡ 182
+unfolding openedRecord
+length-opened o = simp (length-append, length-front, length-header, length-option)

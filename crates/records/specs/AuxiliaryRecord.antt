@@ -1,8 +1,9 @@
 -- The auxiliary record, 19 bytes: 0 presence of the auxiliary header itself, 1 level, 2 key identifier, 3 extended nonce
--- bit, 4 verified counter bit, 5 frame counter, 9 IEEE, 18 key sequence number. Of an absent one all bytes are 0.
+-- bit, 4 verified counter bit, 5 frame counter, 9 IEEE, 18 key sequence number. Of an absent one all bytes are 0 when the
+-- record is filled in, and none but the presence byte is read.
 -- Assumes nothing.
 use Prim.Native.Nat.{ℕ}
-use mathlib.Core.Bool.{Bool, not, _||_}
+use mathlib.Core.Bool.{Bool, not, _&&_, _||_}
 use mathlib.Core.List.{List, [], _∷_, _++_}
 use lib.ListN.{length, getD}
 use lib.Dec.{eqb}
@@ -62,6 +63,6 @@ auxPresent r = eqb (getD r 0 0) 1
 abbrev pub auxLimits : List ℕ
 auxLimits = 1 ∷ 7 ∷ 3 ∷ 1 ∷ 1 ∷ 255 ∷ 255 ∷ 255 ∷ 255 ∷ 1 ∷ []
 
--- another length, or a byte that a field cannot take
+-- another length, or a byte that a field cannot take; where the presence byte is 0 there is no field, and no other byte counts
 unfoldable pub badAuxRecord : List ℕ → Bool
-badAuxRecord r = not (eqb (length r) auxRecordSize) || exceeds auxLimits r
+badAuxRecord r = not (eqb (length r) auxRecordSize) || (not (eqb (getD r 0 0) 0) && exceeds auxLimits r)

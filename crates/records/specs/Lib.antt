@@ -1,5 +1,6 @@
--- The records of header and auxiliary header: their layouts, and the bytes that their fields cannot take.
+-- The records of header, auxiliary header and opened frame: their layouts, and the bytes that their fields cannot take.
 pub mod Limits
 pub mod Optional
 pub mod HeaderRecord
 pub mod AuxiliaryRecord
+pub mod OpenedRecord

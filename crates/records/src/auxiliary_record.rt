@@ -1,12 +1,12 @@
 // The auxiliary record, 19 bytes.
 use crate::limits::exceeds;
-use crate::optional::bit_byte;
 use crate::optional::ieee_at;
 use crate::optional::put_ieee;
 use header::auxiliary::NwkAuxHeader;
 use header::auxiliary::NwkSecurityHeaderControlField;
 use header::auxiliary::NwkSecurityHeaderKeyId;
 use header::auxiliary::NwkSecurityLevel;
+use octets::bit_of;
 use types::OptionEui64;
 ghost use mathlib.Core.Path.{_≡_};
 ghost use mathlib.Core.List.{_++_};
@@ -22,12 +22,16 @@ pub const AUX_RECORD_SIZE: usize = 19;
 // The greatest value of each byte from 0 to 9.
 const AUX_LIMITS: [u8; 10] = [1, 7, 3, 1, 1, 255, 255, 255, 255, 1];
 
-// Whether the record has another length or a byte that a field cannot take (refusal 13).
+// Whether the record has another length or a byte that a field cannot take (refusal 13). Where the presence byte is 0 there
+// is no field to take one.
 pub fn is_bad(bytes: &[u8]) -> bool
     ensures { λ r. ⌜ r ≡ badAuxRecord (now (bytes .entry)) ⌝ }
 {
     if bytes.len() != AUX_RECORD_SIZE {
         return true;
+    }
+    if octets::byte_at(bytes, 0) == 0 {
+        return false;
     }
     let limits = AUX_LIMITS;
     exceeds(&limits, bytes)
@@ -41,11 +45,11 @@ fn put_security(out: &mut [u8], present: bool, c: NwkSecurityHeaderControlField)
     let security_level = c.security_level;
     let key_id = c.key_id;
     let values = [
-        bit_byte(present),
+        bit_of(present),
         security_level.code(),
         key_id.code(),
-        bit_byte(c.extended_nonce),
-        bit_byte(c.require_verified_frame_counter),
+        bit_of(c.extended_nonce),
+        bit_of(c.require_verified_frame_counter),
     ];
     octets::copy_at(out, 0, &values);
 }

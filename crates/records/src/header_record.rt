@@ -1,6 +1,5 @@
 // The header record, 147 bytes.
 use crate::limits::exceeds;
-use crate::optional::bit_byte;
 use crate::optional::ieee_at;
 use crate::optional::multicast_at;
 use crate::optional::put_ieee;
@@ -13,6 +12,7 @@ use header::control::NwkRouteDiscovery;
 use header::nwk::NwkHeader;
 use header::optional::NwkSourceRoute;
 use header::optional::OptionMulticast;
+use octets::bit_of;
 use types::Nwk;
 use types::OptionEui64;
 ghost use mathlib.Core.Path.{_≡_};
@@ -95,12 +95,12 @@ fn put_control(out: &mut [u8], c: NwkFrameControl)
         frame_type.code() as u8,
         c.protocol_version,
         discover_route.code() as u8,
-        bit_byte(c.multicast),
-        bit_byte(c.security),
-        bit_byte(c.source_route),
-        bit_byte(c.destination),
-        bit_byte(c.extended_source),
-        bit_byte(c.end_device_initiator),
+        bit_of(c.multicast),
+        bit_of(c.security),
+        bit_of(c.source_route),
+        bit_of(c.destination),
+        bit_of(c.extended_source),
+        bit_of(c.end_device_initiator),
         c.reserved1,
     ];
     octets::copy_at(out, 0, &values);

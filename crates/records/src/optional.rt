@@ -12,13 +12,6 @@ ghost use Rattle.types.specs.Optional.{hasIeee};
 ghost use Rattle.octets.specs.Fields.{bit};
 ghost use Rattle.records.specs.Optional.{ieeeValue, ieeeRecord, ieeeAt, multicastValue, multicastRecord, multicastAt, relayIndex, routeRecord, routeAt};
 
-// A bit as a byte.
-pub fn bit_byte(b: bool) -> u8
-    ensures { λ r. ⌜ (r ≡ bit b) × (r < 2) ⌝ }
-{
-    if b { 1 } else { 0 }
-}
-
 // Whether the address is present, as a byte.
 fn ieee_presence(o: OptionEui64) -> u8
     ensures { λ r. ⌜ r ≡ bit (hasIeee o) ⌝ }

@@ -5,15 +5,14 @@ use lib.ListN.{length}
 use Rattle.ccm.proofs.decrypt_ccm.Statement.{statement}
 use Rattle.ccm.proofs.decrypt_ccm.Tie as tie
 use Rattle.ccm.proofs.Answers.{within}
-use Rattle.ccm.proofs.Runs.{decrypt-refused}
-use Rattle.ccm.proofs.Returns.{decrypt-done, decrypt-not}
+use Rattle.ccm.proofs.Runs.{decrypt-refused, decrypt-done, decrypt-not}
 
 returns : tie.Need-returns
 returns c =
     let a = c .before .before .before .before .before .args in
     let r = c .before .refusal in
     let e = decrypt-refused (a .key) (a .nonce) (a .auth .now) (a .ciphertext .now) (a .mic) (a .out .now) (r .result) (r .ensures) (c .if1 .taken) in
-    (λ i. sym e i .answer, λ i. sym e i .out)
+    (λ i. e i .answer, λ i. e i .out)
 
 open-requires : tie.Need-open-requires
 open-requires c κs =
@@ -26,16 +25,20 @@ returns-2 c =
     let a = c .before .before .before .before .before .before .before .before .before .before .args in
     let r = c .before .before .before .before .before .before .refusal in
     let s = c .before .before .before .«open» in
+    let e =
     decrypt-done (a .key) (a .nonce) (a .auth .now) (a .ciphertext .now) (a .mic) (a .out .now) _ (s .result)
-    (sym (r .ensures) ∙ c .before .before .before .before .before .if1 .left) (s .ensures .0) (s .ensures .1) (c .if2 .taken)
+    (sym (r .ensures) ∙ c .before .before .before .before .before .if1 .left) (s .ensures .0) (s .ensures .1) (c .if2 .taken) in
+    (λ i. e i .answer, λ i. e i .out)
 
 returns-3 : tie.Need-returns-3
 returns-3 c =
     let a = c .before .before .before .before .before .before .before .before .before .before .args in
     let r = c .before .before .before .before .before .before .refusal in
     let s = c .before .before .before .«open» in
+    let e =
     decrypt-not (a .key) (a .nonce) (a .auth .now) (a .ciphertext .now) (a .mic) (a .out .now) _ (s .result)
-    (sym (r .ensures) ∙ c .before .before .before .before .before .if1 .left) (s .ensures .0) (s .ensures .1) (c .if2 .left)
+    (sym (r .ensures) ∙ c .before .before .before .before .before .if1 .left) (s .ensures .0) (s .ensures .1) (c .if2 .left) in
+    (λ i. e i .answer, λ i. e i .out)
 
 pub decrypt-ccm-spec : {M : Type 1} → statement M
 decrypt-ccm-spec =

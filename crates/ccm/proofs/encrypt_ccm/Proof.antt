@@ -5,15 +5,14 @@ use lib.ListN.{length}
 use Rattle.ccm.proofs.encrypt_ccm.Statement.{statement}
 use Rattle.ccm.proofs.encrypt_ccm.Tie as tie
 use Rattle.ccm.proofs.Answers.{within}
-use Rattle.ccm.proofs.Runs.{encrypt-refused}
-use Rattle.ccm.proofs.Returns.{encrypt-done}
+use Rattle.ccm.proofs.Runs.{encrypt-refused, encrypt-done}
 
 returns : tie.Need-returns
 returns c =
     let a = c .before .before .before .before .before .args in
     let r = c .before .refusal in
     let e = encrypt-refused (a .key) (a .nonce) (a .auth .now) (a .payload .now) (a .out .now) (r .result) (r .ensures) (c .if1 .taken) in
-    (λ i. sym e i .answer, λ i. sym e i .out)
+    (λ i. e i .answer, λ i. e i .out)
 
 seal-requires : tie.Need-seal-requires
 seal-requires c κs =
@@ -26,8 +25,10 @@ returns-2 c =
     let a = c .before .before .before .before .before .before .before .before .before .args in
     let r = c .before .before .before .before .before .refusal in
     let s = c .before .before .seal in
+    let e =
     encrypt-done (a .key) (a .nonce) (a .auth .now) (a .payload .now) (a .out .now) (s .result) _
-    (sym (r .ensures) ∙ c .before .before .before .before .if1 .left) (s .ensures .0) (s .ensures .1)
+    (sym (r .ensures) ∙ c .before .before .before .before .if1 .left) (s .ensures .0) (s .ensures .1) in
+    (λ i. e i .answer, λ i. e i .out)
 
 pub encrypt-ccm-spec : {M : Type 1} → statement M
 encrypt-ccm-spec =

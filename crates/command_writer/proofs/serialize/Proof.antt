@@ -14,10 +14,8 @@ unfolding writeCommand
 returns c =
     let a = c .before .before .before .args in
     let r = c .before .refusal in
-    let w = write-refused _ (commandBytes (a .given)) (a .out .now) (λ z. c .if1 .taken (r .ensures ∙ z)) in (
-      (λ i. record { refusal = r .ensures i; length = 0 }) ∙ ap (λ (x : Run). x .answer) (sym w),
-      ap (λ (x : Run). x .out) (sym w),
-    )
+    let w = write-refused _ _ (commandBytes (a .given)) (a .out .now) (r .ensures) (c .if1 .taken) in
+    (ap (λ (x : Run). x .answer) w, ap (λ (x : Run). x .out) w)
 
 write-command-requires : tie.Need-write-command-requires
 write-command-requires c κs = sym (c .before .before .refusal .ensures) ∙ c .before .if1 .left
@@ -27,10 +25,8 @@ unfolding writeCommand
 returns-2 c =
     let d = c .before .before .before .before .before in
     let a = d .before .before .before .args in
-    let w = write-accepted _ (commandBytes (a .given)) (a .out .now) (sym (d .before .refusal .ensures) ∙ d .if1 .left) in (
-      (λ i. record { refusal = 0; length = c .length-of .ensures i }) ∙ ap (λ (x : Run). x .answer) (sym w),
-      c .before .before .before .write-command .ensures ∙ ap (λ (x : Run). x .out) (sym w),
-    )
+    let w = write-accepted _ _ (commandBytes (a .given)) (a .out .now) (d .before .refusal .ensures) (d .if1 .left) in
+    ((λ i. record { refusal = 0; length = c .length-of .ensures i }) ∙ ap (λ (x : Run). x .answer) w, c .before .before .before .write-command .ensures ∙ ap (λ (x : Run). x .out) w)
 
 pub serialize-spec : {M : Type 1} → statement M
 serialize-spec =

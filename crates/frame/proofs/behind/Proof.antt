@@ -2,7 +2,7 @@
 use borrow.Author.Needs.{needs}
 use Rattle.frame.proofs.behind.Statement.{statement}
 use Rattle.frame.proofs.behind.Tie as tie
-use Rattle.frame.proofs.Returns.{part-behind, nothing-behind}
+use Rattle.octets.proofs.Strings.{part-behind, nothing-behind}
 
 returns : tie.Need-returns
 returns c = part-behind (c .before .before .args .frame .now) (c .before .before .args .n)

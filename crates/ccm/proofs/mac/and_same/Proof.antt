@@ -1,14 +1,17 @@
--- `ccm::mac::and_same` meets its contract, by the two outcomes of the test. Assumes nothing.
-use mathlib.Core.Path.{refl}
-use borrow.Author.Tests.{eq-eqb, ne-eqb}
+-- `ccm::mac::and_same` meets its contract, by the two truth values. Assumes nothing.
+use mathlib.Core.Path.{_≡_, refl}
+use mathlib.Core.Bool.{Bool, true, false, cond, _&&_}
 use Rattle.ccm.proofs.mac.and_same.Statement.{statement}
 use Rattle.ccm.proofs.mac.and_same.Tie as tie
 
-returns : tie.Need-returns
-returns c = rw (eq-eqb _ _ (c .if1 .taken)) refl
+and-cond : (s t : Bool) → (s && t) ≡ cond t s false
+and-cond true true = refl
+and-cond true false = refl
+and-cond false true = refl
+and-cond false false = refl
 
-returns-2 : tie.Need-returns-2
-returns-2 c = rw (ne-eqb _ _ (c .if1 .left)) refl
+returns : tie.Need-returns
+returns c = and-cond (c .args .same) _
 
 pub and-same-spec : {M : Type 1} → statement M
-and-same-spec = tie.close (tie.spec returns returns-2)
+and-same-spec = tie.close (tie.spec returns)

@@ -12,48 +12,81 @@ use Rattle.header.specs.Auxiliary.{auxBytes}
 use Rattle.ccm.specs.Verification.{Verified}
 use Rattle.ccm.specs.Operations.{givenIf}
 use Rattle.frame.specs.Opening as opening
-use Rattle.frame.proofs.Returns.{open-stopped, open-invalid, open-valid, ready, ready-facts, number-is, verified-is, payload-size, given-valid, given-invalid}
+use Rattle.frame.proofs.Returns.{open-stopped, open-invalid, open-valid, ready, ready-facts, verified-is, payload-size, given-valid, given-invalid}
 
 returns : tie.Need-returns
 returns c =
-    let run = open-stopped (c .before .before .before .before .before .before .before .before .args .key .0) (c .before .before .before .before .before .before .before .before .args .frame .now) (c .before .before .before .before .before .before .before .before .args .out .now) (c .before .before .before .before .before .read-frame .result) (c .before .before .before .before .before .read-frame .ensures) (c .before .before .open-refusal .result) (number-is (c .before .before .before .before .before .before .before .before .args .frame .now) (c .before .before .before .behind .result .now) (c .before .before .before .before .before .read-frame .result) (c .before .before .open-refusal .result) (length (c .before .before .before .before .before .before .before .before .args .out .now)) (c .before .before .before .behind .ensures) (c .before .before .open-refusal .ensures)) (c .before .if1 .taken) in
-    (c .refused .ensures ∙ sym (ap (λ (r : opening.Run). r .answer) run), sym (ap (λ (r : opening.Run). r .out) run))
+    let a = c .before .before .before .before .before .before .before .before .args in
+    let read-frame = c .before .before .before .before .before .read-frame in
+    let behind = c .before .before .before .behind in
+    let open-refusal = c .before .before .open-refusal in
+    let run = open-stopped (a .key .0) (a .frame .now) (behind .result .now) (a .out .now) (read-frame .result) (open-refusal .result)
+    (read-frame .ensures) (behind .ensures) (open-refusal .ensures) (c .before .if1 .taken) in
+    (c .refused .ensures ∙ ap (λ (r : opening.Run). r .answer) run, ap (λ (r : opening.Run). r .out) run)
 
 open-frame-requires : tie.Need-open-frame-requires
 open-frame-requires c κs =
-    let s = ready (c .before .before .before .before .before .before .before .read-frame .result .refusal) (c .before .before .before .before .before .before .before .read-frame .result .header) (c .before .before .before .before .before .before .before .read-frame .result .aux) (length (c .before .before .before .before .before .behind .result .now)) (length (c .before .before .before .before .before .before .before .before .before .before .args .out .now)) (sym (c .before .before .before .before .open-refusal .ensures) ∙ c .before .before .before .if1 .left) in
-    let r = ready-facts (c .before .before .before .before .before .before .before .before .before .before .args .frame .now) (c .before .before .before .before .before .before .before .read-frame .result) (λ i. c .before .before .before .before .before .before .before .before .before .shared-slice-known .given i .fits) (c .before .before .before .before .before .before .before .read-frame .ensures) (s .read) (s .present) in
-    let e = ap (λ (x : NwkAuxHeader). length (headerBytes (c .before .before .before .before .before .before .before .read-frame .result .header)) + length (auxBytes x)) (c .before .or-blank .ensures) in
-    let p = ap length (c .before .before .before .before .before .behind .ensures) in
+    let a = c .before .before .before .before .before .before .before .before .before .before .args in
+    let shared-slice-known = c .before .before .before .before .before .before .before .before .before .shared-slice-known in
+    let read-frame = c .before .before .before .before .before .before .before .read-frame in
+    let behind = c .before .before .before .before .before .behind in
+    let open-refusal = c .before .before .before .before .open-refusal in
+    let if1 = c .before .before .before .if1 in
+    let s = ready (read-frame .result .refusal) (read-frame .result .header) (read-frame .result .aux) (length (behind .result .now)) (length (a .out .now)) (sym (open-refusal .ensures) ∙ if1 .left) in
+    let r = ready-facts (a .frame .now) (read-frame .result) (λ i. shared-slice-known .given i .fits) (read-frame .ensures) (s .read) (s .present) in
+    let e = ap (λ (x : NwkAuxHeader). length (headerBytes (read-frame .result .header)) + length (auxBytes x)) (c .before .or-blank .ensures) in
+    let p = ap length (behind .ensures) in
     (r .0, omega (arith, e, r .1), omega (arith, p, r .2), s .tagged, s .fits)
 
 sub-t18 : tie.Need-sub-t18
 sub-t18 c =
-    let s = ready (c .before .before .before .before .before .before .before .before .before .before .before .read-frame .result .refusal) (c .before .before .before .before .before .before .before .before .before .before .before .read-frame .result .header) (c .before .before .before .before .before .before .before .before .before .before .before .read-frame .result .aux) (length (c .before .before .before .before .before .before .before .before .before .behind .result .now)) (length (c .before .before .before .before .before .before .before .before .before .before .before .before .before .before .args .out .now)) (sym (c .before .before .before .before .before .before .before .before .open-refusal .ensures) ∙ c .before .before .before .before .before .before .before .if1 .left) in
+    let a = c .before .before .before .before .before .before .before .before .before .before .before .before .before .before .args in
+    let read-frame = c .before .before .before .before .before .before .before .before .before .before .before .read-frame in
+    let behind = c .before .before .before .before .before .before .before .before .before .behind in
+    let open-refusal = c .before .before .before .before .before .before .before .before .open-refusal in
+    let if1 = c .before .before .before .before .before .before .before .if1 in
+    let s = ready (read-frame .result .refusal) (read-frame .result .header) (read-frame .result .aux) (length (behind .result .now)) (length (a .out .now)) (sym (open-refusal .ensures) ∙ if1 .left) in
     omega (arith, s .tagged)
 
 returns-2 : tie.Need-returns-2
 returns-2 c =
-    let v = verified-is (c .before .before .before .before .before .before .before .before .before .before .before .before .before .before .args .key .0) (c .before .before .before .before .before .before .before .before .before .before .before .before .before .before .args .frame .now) (c .before .before .before .before .before .before .before .before .before .behind .result .now) (c .before .before .before .before .before .before .before .before .before .before .before .read-frame .result) (c .before .before .before .before .before .or-blank .result) (c .before .before .before .before .before .or-blank .ensures) (c .before .before .before .before .before .before .before .before .before .behind .ensures) in
-    let good = sym (c .before .before .before .open-frame .ensures .0 ∙ ap (λ (x : Verified). x .valid) v) ∙ c .if2 .taken in
-    let run = open-valid (c .before .before .before .before .before .before .before .before .before .before .before .before .before .before .args .key .0) (c .before .before .before .before .before .before .before .before .before .before .before .before .before .before .args .frame .now) (c .before .before .before .before .before .before .before .before .before .before .before .before .before .before .args .out .now) (c .before .before .before .before .before .before .before .before .before .before .before .read-frame .result) (c .before .before .before .before .before .before .before .before .before .before .before .read-frame .ensures) (c .before .before .before .before .before .before .before .before .open-refusal .result) (number-is (c .before .before .before .before .before .before .before .before .before .before .before .before .before .before .args .frame .now) (c .before .before .before .before .before .before .before .before .before .behind .result .now) (c .before .before .before .before .before .before .before .before .before .before .before .read-frame .result) (c .before .before .before .before .before .before .before .before .open-refusal .result) (length (c .before .before .before .before .before .before .before .before .before .before .before .before .before .before .args .out .now)) (c .before .before .before .before .before .before .before .before .before .behind .ensures) (c .before .before .before .before .before .before .before .before .open-refusal .ensures)) (c .before .before .before .before .before .before .before .if1 .left) good in (
+    let a = c .before .before .before .before .before .before .before .before .before .before .before .before .before .before .args in
+    let read-frame = c .before .before .before .before .before .before .before .before .before .before .before .read-frame in
+    let behind = c .before .before .before .before .before .before .before .before .before .behind in
+    let open-refusal = c .before .before .before .before .before .before .before .before .open-refusal in
+    let if1 = c .before .before .before .before .before .before .before .if1 in
+    let or-blank = c .before .before .before .before .before .or-blank in
+    let open-frame = c .before .before .before .open-frame in
+    let v = verified-is (a .key .0) (a .frame .now) (behind .result .now) (read-frame .result) (or-blank .result) (or-blank .ensures) (behind .ensures) in
+    let good = sym (open-frame .ensures .0 ∙ ap (λ (x : Verified). x .valid) v) ∙ c .if2 .taken in
+    let run = open-valid (a .key .0) (a .frame .now) (behind .result .now) (a .out .now) (read-frame .result) (open-refusal .result)
+    (read-frame .ensures) (behind .ensures) (open-refusal .ensures) (if1 .left) good in (
       (λ i. record {
         refusal = 0;
-        length = payload-size (c .before .before .before .before .before .before .before .before .before .before .before .before .before .before .args .key .0) (c .before .before .before .before .before .before .before .before .before .before .before .before .before .before .args .frame .now) (c .before .before .before .before .before .before .before .before .before .behind .result .now) (c .before .before .before .before .before .before .before .before .before .before .before .read-frame .result) (c .before .before .before .before .before .before .before .before .before .behind .ensures) i;
-        header = c .before .before .before .before .before .before .before .before .before .before .before .read-frame .result .header;
-        aux = c .before .before .before .before .before .before .before .before .before .before .before .read-frame .result .aux;
-      }) ∙ sym (ap (λ (r : opening.Run). r .answer) run),
-      c .before .before .before .open-frame .ensures .1 ∙ ap (λ (x : Verified). givenIf (c .before .before .before .open-frame .result) x (c .before .before .before .before .before .before .before .before .before .before .before .before .before .before .args .out .now)) v
-          ∙ given-valid (c .before .before .before .open-frame .result) _ (c .before .before .before .before .before .before .before .before .before .before .before .before .before .before .args .out .now) (c .if2 .taken) ∙ sym (ap (λ (r : opening.Run). r .out) run),
+        length = payload-size (a .key .0) (a .frame .now) (behind .result .now) (read-frame .result) (behind .ensures) i;
+        header = read-frame .result .header;
+        aux = read-frame .result .aux;
+      }) ∙ ap (λ (r : opening.Run). r .answer) run,
+      open-frame .ensures .1 ∙ ap (λ (x : Verified). givenIf (open-frame .result) x (a .out .now)) v
+          ∙ given-valid (open-frame .result) _ (a .out .now) (c .if2 .taken) ∙ ap (λ (r : opening.Run). r .out) run,
     )
 
 returns-3 : tie.Need-returns-3
 returns-3 c =
-    let v = verified-is (c .before .before .before .before .before .before .before .before .before .before .before .before .before .before .before .args .key .0) (c .before .before .before .before .before .before .before .before .before .before .before .before .before .before .before .args .frame .now) (c .before .before .before .before .before .before .before .before .before .before .behind .result .now) (c .before .before .before .before .before .before .before .before .before .before .before .before .read-frame .result) (c .before .before .before .before .before .before .or-blank .result) (c .before .before .before .before .before .before .or-blank .ensures) (c .before .before .before .before .before .before .before .before .before .before .behind .ensures) in
-    let bad = sym (c .before .before .before .before .open-frame .ensures .0 ∙ ap (λ (x : Verified). x .valid) v) ∙ c .before .if2 .left in
-    let run = open-invalid (c .before .before .before .before .before .before .before .before .before .before .before .before .before .before .before .args .key .0) (c .before .before .before .before .before .before .before .before .before .before .before .before .before .before .before .args .frame .now) (c .before .before .before .before .before .before .before .before .before .before .before .before .before .before .before .args .out .now) (c .before .before .before .before .before .before .before .before .before .before .before .before .read-frame .result) (c .before .before .before .before .before .before .before .before .before .before .before .before .read-frame .ensures) (c .before .before .before .before .before .before .before .before .before .open-refusal .result) (number-is (c .before .before .before .before .before .before .before .before .before .before .before .before .before .before .before .args .frame .now) (c .before .before .before .before .before .before .before .before .before .before .behind .result .now) (c .before .before .before .before .before .before .before .before .before .before .before .before .read-frame .result) (c .before .before .before .before .before .before .before .before .before .open-refusal .result) (length (c .before .before .before .before .before .before .before .before .before .before .before .before .before .before .before .args .out .now)) (c .before .before .before .before .before .before .before .before .before .before .behind .ensures) (c .before .before .before .before .before .before .before .before .before .open-refusal .ensures)) (c .before .before .before .before .before .before .before .before .if1 .left) bad in (
-      c .refused2 .ensures ∙ sym (ap (λ (r : opening.Run). r .answer) run),
-      c .before .before .before .before .open-frame .ensures .1 ∙ given-invalid (c .before .before .before .before .open-frame .result) _ (c .before .before .before .before .before .before .before .before .before .before .before .before .before .before .before .args .out .now) (c .before .if2 .left) ∙ sym (ap (λ (r : opening.Run). r .out) run),
+    let a = c .before .before .before .before .before .before .before .before .before .before .before .before .before .before .before .args in
+    let read-frame = c .before .before .before .before .before .before .before .before .before .before .before .before .read-frame in
+    let behind = c .before .before .before .before .before .before .before .before .before .before .behind in
+    let open-refusal = c .before .before .before .before .before .before .before .before .before .open-refusal in
+    let if1 = c .before .before .before .before .before .before .before .before .if1 in
+    let or-blank = c .before .before .before .before .before .before .or-blank in
+    let open-frame = c .before .before .before .before .open-frame in
+    let if2 = c .before .if2 in
+    let v = verified-is (a .key .0) (a .frame .now) (behind .result .now) (read-frame .result) (or-blank .result) (or-blank .ensures) (behind .ensures) in
+    let bad = sym (open-frame .ensures .0 ∙ ap (λ (x : Verified). x .valid) v) ∙ if2 .left in
+    let run = open-invalid (a .key .0) (a .frame .now) (behind .result .now) (a .out .now) (read-frame .result) (open-refusal .result)
+    (read-frame .ensures) (behind .ensures) (open-refusal .ensures) (if1 .left) bad in (
+      c .refused2 .ensures ∙ ap (λ (r : opening.Run). r .answer) run,
+      open-frame .ensures .1 ∙ given-invalid (open-frame .result) _ (a .out .now) (if2 .left) ∙ ap (λ (r : opening.Run). r .out) run,
     )
 
 pub open-spec : {M : Type 1} → statement M

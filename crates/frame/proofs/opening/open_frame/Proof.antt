@@ -16,27 +16,46 @@ use Rattle.frame.proofs.Returns.{auth-length, auth-taken}
 
 both-headers-requires : tie.Need-both-headers-requires
 both-headers-requires c κs =
-    let e = ap (λ (z : NwkAuxHeader). length (auxBytes z)) (c .at-level .ensures) ∙ level-length networkLevel networkLevel (c .before .before .before .before .args .aux) in
-    (c .before .before .before .before .pre .0, omega (arith, e, c .before .before .before .before .pre .1))
+    let args = c .before .before .before .before .args in
+    let pre = c .before .before .before .before .pre in
+    let e = ap (λ (z : NwkAuxHeader). length (auxBytes z)) (c .at-level .ensures) ∙ level-length networkLevel networkLevel (args .aux) in
+    (pre .0, omega (arith, e, pre .1))
 
 slice-aggregate-open-part : tie.Need-slice-aggregate-open-part
 slice-aggregate-open-part c =
-    sym (ap length (auth-taken networkLevel (c .before .before .before .before .before .before .before .before .args .h) (c .before .before .before .before .before .before .before .before .args .aux) (c .before .before .before .before .at-level .result) (c .before .before .before .both-headers .result) (c .before .before .size .result + c .before .size2 .result) (c .before .before .before .before .at-level .ensures) (c .before .before .before .both-headers .ensures) (λ i. c .before .before .size .ensures .0 i + c .before .size2 .ensures .0 i))
-    ∙ auth-length networkLevel (c .before .before .before .before .before .before .before .before .args .h) (c .before .before .before .before .before .before .before .before .args .aux) ∙ (λ i. sym (c .before .before .size .ensures .0) i + sym (c .before .size2 .ensures .0) i))
+    let args = c .before .before .before .before .before .before .before .before .args in
+    let at-level = c .before .before .before .before .at-level in
+    let both-headers = c .before .before .before .both-headers in
+    let size = c .before .before .size in
+    let size2 = c .before .size2 in
+    sym (ap length (auth-taken networkLevel (args .h) (args .aux) (at-level .result) (both-headers .result) (size .result + size2 .result) (at-level .ensures) (both-headers .ensures) (λ i. size .ensures .0 i + size2 .ensures .0 i))
+    ∙ auth-length networkLevel (args .h) (args .aux) ∙ (λ i. sym (size .ensures .0) i + sym (size2 .ensures .0) i))
 
 open-part-requires : tie.Need-open-part-requires
 open-part-requires c κs =
-    let e = ap length (auth-taken networkLevel (c .before .before .before .before .before .before .before .before .before .args .h) (c .before .before .before .before .before .before .before .before .before .args .aux) (c .before .before .before .before .before .at-level .result) (c .before .before .before .before .both-headers .result) (c .before .before .before .size .result + c .before .before .size2 .result) (c .before .before .before .before .before .at-level .ensures) (c .before .before .before .before .both-headers .ensures) (λ i. c .before .before .before .size .ensures .0 i + c .before .before .size2 .ensures .0 i)) ∙ auth-length networkLevel (c .before .before .before .before .before .before .before .before .before .args .h) (c .before .before .before .before .before .before .before .before .before .args .aux) in
-    let p = c .before .before .before .before .before .before .before .before .before .pre in
+    let args = c .before .before .before .before .before .before .before .before .before .args in
+    let pre = c .before .before .before .before .before .before .before .before .before .pre in
+    let at-level = c .before .before .before .before .before .at-level in
+    let both-headers = c .before .before .before .before .both-headers in
+    let size = c .before .before .before .size in
+    let size2 = c .before .before .size2 in
+    let e = ap length (auth-taken networkLevel (args .h) (args .aux) (at-level .result) (both-headers .result) (size .result + size2 .result) (at-level .ensures) (both-headers .ensures) (λ i. size .ensures .0 i + size2 .ensures .0 i)) ∙ auth-length networkLevel (args .h) (args .aux) in
+    let p = pre in
     (omega (arith, e, p .1), p .2, p .3, p .4)
 
 returns : tie.Need-returns
 returns c =
     let a = c .before .before .before .before .before .before .before .before .before .before .before .before .args in
-    let e = auth-taken networkLevel (c .before .before .before .before .before .before .before .before .before .before .before .before .args .h) (c .before .before .before .before .before .before .before .before .before .before .before .before .args .aux) (c .before .before .before .before .before .before .before .before .at-level .result) (c .before .before .before .before .before .before .before .both-headers .result) (c .before .before .before .before .before .before .size .result + c .before .before .before .before .before .size2 .result) (c .before .before .before .before .before .before .before .before .at-level .ensures) (c .before .before .before .before .before .before .before .both-headers .ensures) (λ i. c .before .before .before .before .before .before .size .ensures .0 i + c .before .before .before .before .before .size2 .ensures .0 i) in
-    let n = c .before .before .before .before .before .before .before .before .before .nonce-of .ensures in (
-      c .before .before .open-part .ensures .0 ∙ (λ i. openedBy 4 (a .key) (n i) (e i) (ciphertextOf 4 (a .part .now)) (micOf 4 (a .part .now)) .valid),
-      c .before .before .open-part .ensures .1 ∙ (λ i. givenIf (c .before .before .open-part .result) (openedBy 4 (a .key) (n i) (e i) (ciphertextOf 4 (a .part .now)) (micOf 4 (a .part .now))) (a .out .now)),
+    let nonce-of = c .before .before .before .before .before .before .before .before .before .nonce-of in
+    let at-level = c .before .before .before .before .before .before .before .before .at-level in
+    let both-headers = c .before .before .before .before .before .before .before .both-headers in
+    let size = c .before .before .before .before .before .before .size in
+    let size2 = c .before .before .before .before .before .size2 in
+    let open-part = c .before .before .open-part in
+    let e = auth-taken networkLevel (a .h) (a .aux) (at-level .result) (both-headers .result) (size .result + size2 .result) (at-level .ensures) (both-headers .ensures) (λ i. size .ensures .0 i + size2 .ensures .0 i) in
+    let n = nonce-of .ensures in (
+      open-part .ensures .0 ∙ (λ i. openedBy 4 (a .key) (n i) (e i) (ciphertextOf 4 (a .part .now)) (micOf 4 (a .part .now)) .valid),
+      open-part .ensures .1 ∙ (λ i. givenIf (open-part .result) (openedBy 4 (a .key) (n i) (e i) (ciphertextOf 4 (a .part .now)) (micOf 4 (a .part .now))) (a .out .now)),
     )
 
 pub open-frame-spec : {M : Type 1} → statement M

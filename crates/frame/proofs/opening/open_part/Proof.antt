@@ -18,17 +18,22 @@ slice-aggregate-open c =
 
 open-requires : tie.Need-open-requires
 open-requires c κs =
-    let l = length-take-le (length (c .before .before .before .before .before .before .before .args .part .now) - 4) (c .before .before .before .before .before .before .before .args .part .now) (omega arith) in
-    let p = c .before .before .before .before .before .before .before .pre in
+    let args = c .before .before .before .before .before .before .before .args in
+    let pre = c .before .before .before .before .before .before .before .pre in
+    let l = length-take-le (length (args .part .now) - 4) (args .part .now) (omega arith) in
+    let p = pre in
     (p .0, omega (arith, l, p .1), omega (arith, l, p .3))
 
 returns : tie.Need-returns
 unfolding ciphertextOf
 returns c =
     let a = c .before .before .before .before .before .before .before .before .before .before .args in
-    let m = mic-split (a .part .now) (c .before .before .before .before .before .before .split-mic .result) (c .before .before .before .before .before .before .split-mic .ensures) (c .before .before .before .before .before .before .before .before .before .before .pre .2) in (
-      c .before .before .«open» .ensures .0 ∙ ap (λ (u : List ℕ). openedBy 4 (a .key) (a .nonce) (a .auth .now) (take (length (a .part .now) - 4) (a .part .now)) u .valid) m,
-      c .before .before .«open» .ensures .1 ∙ ap (λ (u : List ℕ). givenIf (c .before .before .«open» .result) (openedBy 4 (a .key) (a .nonce) (a .auth .now) (take (length (a .part .now) - 4) (a .part .now)) u) (a .out .now)) m,
+    let pre = c .before .before .before .before .before .before .before .before .before .before .pre in
+    let split-mic = c .before .before .before .before .before .before .split-mic in
+    let opened = c .before .before .«open» in
+    let m = mic-split (a .part .now) (split-mic .result) (split-mic .ensures) (pre .2) in (
+      opened .ensures .0 ∙ ap (λ (u : List ℕ). openedBy 4 (a .key) (a .nonce) (a .auth .now) (take (length (a .part .now) - 4) (a .part .now)) u .valid) m,
+      opened .ensures .1 ∙ ap (λ (u : List ℕ). givenIf (opened .result) (openedBy 4 (a .key) (a .nonce) (a .auth .now) (take (length (a .part .now) - 4) (a .part .now)) u) (a .out .now)) m,
     )
 
 pub open-part-spec : {M : Type 1} → statement M

@@ -17,39 +17,66 @@ use Rattle.frame.proofs.Returns.{auth-length, auth-taken, sealed-done}
 both-headers-requires : tie.Need-both-headers-requires
 unfolding sealedLength
 both-headers-requires c κs =
-    let e = ap (λ (z : NwkAuxHeader). length (auxBytes z)) (c .at-level .ensures) ∙ level-length networkLevel networkLevel (c .before .before .before .before .args .aux) in
-    (c .before .before .before .before .pre .0, omega (arith, e, c .before .before .before .before .pre .2))
+    let args = c .before .before .before .before .args in
+    let pre = c .before .before .before .before .pre in
+    let e = ap (λ (z : NwkAuxHeader). length (auxBytes z)) (c .at-level .ensures) ∙ level-length networkLevel networkLevel (args .aux) in
+    (pre .0, omega (arith, e, pre .2))
 
 put-headers-requires : tie.Need-put-headers-requires
 unfolding sealedLength
 put-headers-requires c κs =
-    let e = ap (λ (z : NwkAuxHeader). length (auxBytes z)) (c .before .at-level2 .ensures) ∙ level-length sentLevel sentLevel (c .before .before .before .before .before .before .before .before .before .args .aux) in
-    (c .before .before .before .before .before .before .before .before .before .pre .0, omega (arith, e, c .before .before .before .before .before .before .before .before .before .pre .3))
+    let args = c .before .before .before .before .before .before .before .before .before .args in
+    let pre = c .before .before .before .before .before .before .before .before .before .pre in
+    let e = ap (λ (z : NwkAuxHeader). length (auxBytes z)) (c .before .at-level2 .ensures) ∙ level-length sentLevel sentLevel (args .aux) in
+    (pre .0, omega (arith, e, pre .3))
 
 array-share-prefix-auth : tie.Need-array-share-prefix-auth
 unfolding sealedLength
 array-share-prefix-auth c =
-    omega (arith, c .before .before .before .before .before .before .size .ensures .0, c .before .before .before .before .before .size2 .ensures .0, c .before .before .before .before .before .before .before .before .before .before .before .before .pre .2)
+    let pre = c .before .before .before .before .before .before .before .before .before .before .before .before .pre in
+    let size = c .before .before .before .before .before .before .size in
+    let size2 = c .before .before .before .before .before .size2 in
+    omega (arith, size .ensures .0, size2 .ensures .0, pre .2)
 
 slice-aggregate-put-sealed : tie.Need-slice-aggregate-put-sealed
 slice-aggregate-put-sealed c =
-    sym (ap length (auth-taken networkLevel (c .before .before .before .before .before .before .before .before .before .before .before .before .before .args .h) (c .before .before .before .before .before .before .before .before .before .before .before .before .before .args .aux) (c .before .before .before .before .before .before .before .before .before .at-level .result) (c .before .before .before .before .before .before .before .before .both-headers .result) (c .before .before .before .before .before .before .before .size .result + c .before .before .before .before .before .before .size2 .result) (c .before .before .before .before .before .before .before .before .before .at-level .ensures) (c .before .before .before .before .before .before .before .before .both-headers .ensures) (λ i. c .before .before .before .before .before .before .before .size .ensures .0 i + c .before .before .before .before .before .before .size2 .ensures .0 i))
-    ∙ auth-length networkLevel (c .before .before .before .before .before .before .before .before .before .before .before .before .before .args .h) (c .before .before .before .before .before .before .before .before .before .before .before .before .before .args .aux) ∙ (λ i. sym (c .before .before .before .before .before .before .before .size .ensures .0) i + sym (c .before .before .before .before .before .before .size2 .ensures .0) i))
+    let args = c .before .before .before .before .before .before .before .before .before .before .before .before .before .args in
+    let at-level = c .before .before .before .before .before .before .before .before .before .at-level in
+    let both-headers = c .before .before .before .before .before .before .before .before .both-headers in
+    let size = c .before .before .before .before .before .before .before .size in
+    let size2 = c .before .before .before .before .before .before .size2 in
+    sym (ap length (auth-taken networkLevel (args .h) (args .aux) (at-level .result) (both-headers .result) (size .result + size2 .result) (at-level .ensures) (both-headers .ensures) (λ i. size .ensures .0 i + size2 .ensures .0 i))
+    ∙ auth-length networkLevel (args .h) (args .aux) ∙ (λ i. sym (size .ensures .0) i + sym (size2 .ensures .0) i))
 
 put-sealed-requires : tie.Need-put-sealed-requires
 unfolding sealedLength
 put-sealed-requires c κs =
-    let e = ap length (auth-taken networkLevel (c .before .before .before .before .before .before .before .before .before .before .before .before .before .before .args .h) (c .before .before .before .before .before .before .before .before .before .before .before .before .before .before .args .aux) (c .before .before .before .before .before .before .before .before .before .before .at-level .result) (c .before .before .before .before .before .before .before .before .before .both-headers .result) (c .before .before .before .before .before .before .before .before .size .result + c .before .before .before .before .before .before .before .size2 .result) (c .before .before .before .before .before .before .before .before .before .before .at-level .ensures) (c .before .before .before .before .before .before .before .before .before .both-headers .ensures) (λ i. c .before .before .before .before .before .before .before .before .size .ensures .0 i + c .before .before .before .before .before .before .before .size2 .ensures .0 i)) ∙ auth-length networkLevel (c .before .before .before .before .before .before .before .before .before .before .before .before .before .before .args .h) (c .before .before .before .before .before .before .before .before .before .before .before .before .before .before .args .aux) in
-    let p = c .before .before .before .before .before .before .before .before .before .before .before .before .before .before .pre in
-    (omega (arith, e, p .2), omega (arith, p .1), omega (arith, c .before .before .before .before .before .before .before .before .size .ensures .0, c .before .before .before .before .before .before .before .size2 .ensures .0, c .before .before .before .before .put-headers .kept .1 .1 .0, p .3))
+    let args = c .before .before .before .before .before .before .before .before .before .before .before .before .before .before .args in
+    let pre = c .before .before .before .before .before .before .before .before .before .before .before .before .before .before .pre in
+    let at-level = c .before .before .before .before .before .before .before .before .before .before .at-level in
+    let both-headers = c .before .before .before .before .before .before .before .before .before .both-headers in
+    let size = c .before .before .before .before .before .before .before .before .size in
+    let size2 = c .before .before .before .before .before .before .before .size2 in
+    let put-headers = c .before .before .before .before .put-headers in
+    let e = ap length (auth-taken networkLevel (args .h) (args .aux) (at-level .result) (both-headers .result) (size .result + size2 .result) (at-level .ensures) (both-headers .ensures) (λ i. size .ensures .0 i + size2 .ensures .0 i)) ∙ auth-length networkLevel (args .h) (args .aux) in
+    let p = pre in
+    (omega (arith, e, p .2), omega (arith, p .1), omega (arith, size .ensures .0, size2 .ensures .0, put-headers .kept .1 .1 .0, p .3))
 
 returns : tie.Need-returns
 returns c =
     let a = c .before .before .before .before .before .before .before .before .before .before .before .before .before .before .before .before .before .args in
-    sealed-done (a .key) (a .h) (a .aux) (c .before .before .before .before .before .before .before .before .before .at-level2 .result) (a .payload .now) (a .out .now) _ _ (c .before .before .before .before .before .before .before .before .before .before .before .size .result + c .before .before .before .before .before .before .before .before .before .before .size2 .result) _ _
-    (λ i. c .before .before .before .before .before .before .before .before .before .before .before .size .ensures .0 i + c .before .before .before .before .before .before .before .before .before .before .size2 .ensures .0 i) (c .before .before .before .before .before .before .before .before .before .at-level2 .ensures) (c .before .before .before .before .before .before .before .put-headers .ensures) (c .before .before .before .before .before .before .before .before .before .before .before .before .before .before .nonce-of .ensures)
-    (auth-taken networkLevel (c .before .before .before .before .before .before .before .before .before .before .before .before .before .before .before .before .before .args .h) (c .before .before .before .before .before .before .before .before .before .before .before .before .before .before .before .before .before .args .aux) (c .before .before .before .before .before .before .before .before .before .before .before .before .before .at-level .result) (c .before .before .before .before .before .before .before .before .before .before .before .before .both-headers .result) (c .before .before .before .before .before .before .before .before .before .before .before .size .result + c .before .before .before .before .before .before .before .before .before .before .size2 .result) (c .before .before .before .before .before .before .before .before .before .before .before .before .before .at-level .ensures) (c .before .before .before .before .before .before .before .before .before .before .before .before .both-headers .ensures) (λ i. c .before .before .before .before .before .before .before .before .before .before .before .size .ensures .0 i + c .before .before .before .before .before .before .before .before .before .before .size2 .ensures .0 i))
-    (c .before .before .put-sealed .ensures)
+    let nonce-of = c .before .before .before .before .before .before .before .before .before .before .before .before .before .before .nonce-of in
+    let at-level = c .before .before .before .before .before .before .before .before .before .before .before .before .before .at-level in
+    let both-headers = c .before .before .before .before .before .before .before .before .before .before .before .before .both-headers in
+    let size = c .before .before .before .before .before .before .before .before .before .before .before .size in
+    let size2 = c .before .before .before .before .before .before .before .before .before .before .size2 in
+    let at-level2 = c .before .before .before .before .before .before .before .before .before .at-level2 in
+    let put-headers = c .before .before .before .before .before .before .before .put-headers in
+    let put-sealed = c .before .before .put-sealed in
+    sealed-done (a .key) (a .h) (a .aux) (at-level2 .result) (a .payload .now) (a .out .now) _ _ (size .result + size2 .result) _ _
+    (λ i. size .ensures .0 i + size2 .ensures .0 i) (at-level2 .ensures) (put-headers .ensures) (nonce-of .ensures)
+    (auth-taken networkLevel (a .h) (a .aux) (at-level .result) (both-headers .result) (size .result + size2 .result) (at-level .ensures) (both-headers .ensures) (λ i. size .ensures .0 i + size2 .ensures .0 i))
+    (put-sealed .ensures)
 
 pub seal-frame-spec : {M : Type 1} → statement M
 seal-frame-spec =

@@ -9,7 +9,7 @@ use Rattle.header.proofs.nwk.header_refusal.Statement.{statement}
 use Rattle.header.proofs.nwk.header_refusal.Tie as tie
 use Rattle.octets.specs.Numbers.{leAt}
 use Rattle.octets.specs.Refusals.{firstOf}
-use Rattle.octets.proofs.Refusals.{stop, skip}
+use Rattle.octets.proofs.Conditions.{stop, skip}
 use Rattle.header.specs.declared.control.NwkFrameControl.{NwkFrameControl}
 use Rattle.header.specs.Control.{controlOf}
 use Rattle.header.specs.Reading.{headerRefusal, optionalRefusals}
@@ -18,14 +18,14 @@ returns : tie.Need-returns
 unfolding headerRefusal
 returns c =
     let a = c .before .before .args in
-    sym (stop 0 _ _ (lt-ltb 118 (length (a .f .now)) (omega arith)))
+    sym (stop 1 _ _ (lt-ltb 118 (length (a .f .now)) (omega arith)))
 
 returns-2 : tie.Need-returns-2
 unfolding headerRefusal
 returns-2 c =
     let a = c .before .before .before .args in
     sym (skip 1 _ _ (le-ltb 118 (length (a .f .now)) (omega arith))
-    ∙ stop 1 _ _ (lt-ltb (length (a .f .now)) 8 (omega arith)))
+    ∙ stop 2 _ _ (lt-ltb (length (a .f .now)) 8 (omega arith)))
 
 returns-3 : tie.Need-returns-3
 unfolding headerRefusal
@@ -34,7 +34,7 @@ returns-3 c =
     let w = c .before .read-u16 .ensures in
     sym (skip 1 _ _ (le-ltb 118 (length (a .f .now)) (omega arith))
     ∙ skip 2 _ _ (le-ltb (length (a .f .now)) 8 (omega arith))
-    ∙ stop 2 _ _ (eq-eqb (leAt 2 (a .f .now) 0 % 4) 2 (ap (λ (n : ℕ). n % 4) (sym w) ∙ c .if3 .taken)))
+    ∙ stop 3 _ _ (eq-eqb (leAt 2 (a .f .now) 0 % 4) 2 (ap (λ (n : ℕ). n % 4) (sym w) ∙ c .if3 .taken)))
 
 returns-4 : tie.Need-returns-4
 unfolding headerRefusal
@@ -44,7 +44,7 @@ returns-4 c =
     sym (skip 1 _ _ (le-ltb 118 (length (a .f .now)) (omega arith))
     ∙ skip 2 _ _ (le-ltb (length (a .f .now)) 8 (omega arith))
     ∙ skip 3 _ _ (ne-eqb (leAt 2 (a .f .now) 0 % 4) 2 (λ e. c .before .if3 .left (ap (λ (n : ℕ). n % 4) w ∙ e)))
-    ∙ stop 3 _ _ (eq-eqb (leAt 2 (a .f .now) 0 / 64 % 4) 3 (ap (λ (n : ℕ). n / 64 % 4) (sym w) ∙ c .if4 .taken)))
+    ∙ stop 4 _ _ (eq-eqb (leAt 2 (a .f .now) 0 / 64 % 4) 3 (ap (λ (n : ℕ). n / 64 % 4) (sym w) ∙ c .if4 .taken)))
 
 returns-5 : tie.Need-returns-5
 unfolding headerRefusal

@@ -6,35 +6,35 @@ use lib.ListN.{length}
 use borrow.Author.Tests.{lt-ltb, le-ltb}
 use Rattle.header.proofs.nwk.optional_refusal.Statement.{statement}
 use Rattle.header.proofs.nwk.optional_refusal.Tie as tie
-use Rattle.octets.proofs.Refusals.{stop, skip, empty}
+use Rattle.octets.proofs.Conditions.{stop, skip, empty}
 use Rattle.header.specs.Reading.{sourceAt, multicastAt, routeAt, headerEnd, optionalRefusals}
 
 returns : tie.Need-returns
 unfolding optionalRefusals
 returns c =
     let a = c .before .before .before .args in
-    sym (stop 4 _ _ (lt-ltb (length (a .f .now)) (sourceAt (a .c)) (omega arith)))
+    sym (stop 5 _ _ (lt-ltb (length (a .f .now)) (sourceAt (a .c)) (omega arith)))
 
 returns-2 : tie.Need-returns-2
 unfolding optionalRefusals
 returns-2 c =
     let a = c .before .before .before .before .before .args in
     sym (skip 5 _ _ (le-ltb (length (a .f .now)) (sourceAt (a .c)) (omega arith))
-    ∙ stop 5 _ _ (lt-ltb (length (a .f .now)) (multicastAt (a .c)) (omega arith)))
+    ∙ stop 6 _ _ (lt-ltb (length (a .f .now)) (multicastAt (a .c)) (omega arith)))
 
 returns-3 : tie.Need-returns-3
 unfolding optionalRefusals
 returns-3 c =
     let a = c .before .before .before .before .before .before .before .args in
     sym (skip 5 _ _ (le-ltb (length (a .f .now)) (sourceAt (a .c)) (omega arith)) ∙ skip 6 _ _ (le-ltb (length (a .f .now)) (multicastAt (a .c)) (omega arith))
-    ∙ stop 6 _ _ (lt-ltb (length (a .f .now)) (routeAt (a .c)) (omega arith)))
+    ∙ stop 7 _ _ (lt-ltb (length (a .f .now)) (routeAt (a .c)) (omega arith)))
 
 returns-4 : tie.Need-returns-4
 unfolding optionalRefusals
 returns-4 c =
     let a = c .before .before .before .before .before .before .before .before .before .args in
     sym (skip 5 _ _ (le-ltb (length (a .f .now)) (sourceAt (a .c)) (omega arith)) ∙ skip 6 _ _ (le-ltb (length (a .f .now)) (multicastAt (a .c)) (omega arith)) ∙ skip 7 _ _ (le-ltb (length (a .f .now)) (routeAt (a .c)) (omega arith))
-    ∙ stop 7 _ _ (lt-ltb (length (a .f .now)) (headerEnd (a .f .now) (a .c)) (omega arith)))
+    ∙ stop 8 _ _ (lt-ltb (length (a .f .now)) (headerEnd (a .f .now) (a .c)) (omega arith)))
 
 returns-5 : tie.Need-returns-5
 unfolding optionalRefusals

@@ -10,7 +10,7 @@ use Rattle.commands.specs.Reading.{readCommand}
 use Rattle.command_records.specs.CommandRecord.{commandRecord}
 use Rattle.nwk.specs.Commands.{readCommandRefusal}
 use Rattle.nwk.proofs.Calls.{refused-by, passed-by}
-use Rattle.nwk.proofs.Refusals.{first, read-short, read-none}
+use Rattle.nwk.proofs.Refusals.{read-number, read-short, read-none}
 
 returns : tie.Need-returns
 unfolding readCommandRefusal
@@ -18,7 +18,7 @@ returns c =
     let a = c .before .before .before .before .before .before .args in
     let d = c .before .before .before .from-bytes in
     refused-by _ (d .result .refusal) _ _ _ (a .command .now)
-    ((λ i. d .ensures i .refusal) ∙ first (readCommand (a .bytes .now) .refusal) _ (λ z. c .before .if1 .taken ((λ i. d .ensures i .refusal) ∙ z)))
+    (read-number _ (readCommand (a .bytes .now) .refusal) _ (λ i. d .ensures i .refusal) (c .before .if1 .taken))
     (c .before .if1 .taken) (c .answer .ensures)
 
 returns-2 : tie.Need-returns-2
@@ -36,7 +36,7 @@ returns-3 c =
     let e = (λ i. sym d i .refusal) ∙ c .before .before .before .before .before .before .before .if1 .left in
     passed-by _ _ _ _ (a .command .now) _ (read-none _ 535 (length (a .command .now)) e (c .before .before .before .before .before .before .if2 .left))
     (c .answer3 .ensures)
-    (c .before .before .before .put-command .ensures ∙ (λ i. over (a .command .now) 0 (commandRecord (d i .frame))))
+    (c .before .before .before .put-command .ensures ∙ (λ i. over (a .command .now) 0 (commandRecord (d i .command))))
 
 pub nwk-read-command-spec : {M : Type 1} → statement M
 nwk-read-command-spec =

@@ -8,14 +8,17 @@ use Rattle.nwk.proofs.frames.nwk_read_frame.Tie as tie
 use Rattle.octets.specs.Strings.{over}
 use Rattle.records.specs.HeaderRecord.{headerRecord}
 use Rattle.nwk.specs.Answer.{answer}
-use Rattle.nwk.specs.Frames.{optionRecord}
+use Rattle.records.specs.OpenedRecord.{optionRecord}
+use Rattle.nwk.specs.Frames.{readFrameRefusal}
 use Rattle.nwk.proofs.Calls.{refused-answer, refused-buffer, passed-answer, given-passed}
-use Rattle.nwk.proofs.FrameRefusals.{read-number, read-header-short, read-aux-short, read-none}
+use Rattle.nwk.proofs.Refusals.{read-number}
+use Rattle.nwk.proofs.FrameRefusals.{read-header-short, read-aux-short, read-none}
 
 returns : tie.Need-returns
+unfolding readFrameRefusal
 returns c =
     let a = c .before .before .before .before .before .before .before .args in
-    let e = read-number (a .bytes .now) (length (a .header .now)) (length (a .auxiliary .now)) (c .before .before .before .read-frame .result .refusal) (λ i. c .before .before .before .read-frame .ensures i .refusal) (c .before .if1 .taken) in
+    let e = read-number _ _ _ (λ i. c .before .before .before .read-frame .ensures i .refusal) (c .before .if1 .taken) in
     (refused-answer _ (c .before .before .before .read-frame .result .refusal) _ _ e (c .before .if1 .taken) (c .answer .ensures), (refused-buffer _ (c .before .before .before .read-frame .result .refusal) _ (a .header .now) e (c .before .if1 .taken), refused-buffer _ (c .before .before .before .read-frame .result .refusal) _ (a .auxiliary .now) e (c .before .if1 .taken)))
 
 returns-2 : tie.Need-returns-2

@@ -5,13 +5,14 @@ use native.Mathlib.Omega.{arith}
 use lib.ListN.{length}
 use Rattle.nwk.proofs.frames.nwk_seal.Statement.{statement}
 use Rattle.nwk.proofs.frames.nwk_seal.Tie as tie
-use Rattle.octets.proofs.Refusals.{stop, skip}
+use Rattle.octets.proofs.Conditions.{stop, skip}
 use Rattle.types.specs.Keys.{keyBytes}
 use Rattle.ccm.specs.Operations.{micLength}
 use Rattle.frame.specs.Sealing.{sealRefusal, sealFrame}
 use Rattle.records.specs.HeaderRecord.{badHeaderRecord, headerOf}
 use Rattle.records.specs.AuxiliaryRecord.{badAuxRecord}
-use Rattle.nwk.specs.Frames.{auxGiven, sealRecordsRefusal, sealedRecords}
+use Rattle.records.specs.OpenedRecord.{optionOf}
+use Rattle.nwk.specs.Frames.{sealRecordsRefusal, sealedRecords}
 use Rattle.nwk.proofs.Calls.{refused-by, written-by}
 use Rattle.nwk.proofs.Refusals.{write-good}
 
@@ -20,7 +21,7 @@ unfolding sealRecordsRefusal
 returns c =
     let a = c .before .before .before .before .before .before .before .args in
     let e = sym (c .before .before .is-bad .ensures) ∙ c .before .if1 .taken in
-    refused-by _ 13 _ _ _ (a .out .now) (sym (stop 12 (badHeaderRecord (a .header .now)) _ e)) (λ e. omega arith) (c .answer .ensures)
+    refused-by _ 13 _ _ _ (a .out .now) (sym (stop 13 (badHeaderRecord (a .header .now)) _ e)) (λ e. omega arith) (c .answer .ensures)
 
 returns-2 : tie.Need-returns-2
 unfolding sealRecordsRefusal
@@ -28,7 +29,7 @@ returns-2 c =
     let a = c .before .before .before .before .before .before .before .before .before .args in
     let e = sym (c .before .before .before .before .is-bad .ensures) ∙ c .before .before .before .if1 .left in
     let d = sym (c .before .before .is-bad2 .ensures) ∙ c .before .if2 .taken in
-    refused-by _ 13 _ _ _ (a .out .now) (sym (skip 13 (badHeaderRecord (a .header .now)) _ e ∙ stop 12 (badAuxRecord (a .auxiliary .now)) _ d)) (λ e. omega arith) (c .answer2 .ensures)
+    refused-by _ 13 _ _ _ (a .out .now) (sym (skip 13 (badHeaderRecord (a .header .now)) _ e ∙ stop 13 (badAuxRecord (a .auxiliary .now)) _ d)) (λ e. omega arith) (c .answer2 .ensures)
 
 returns-3 : tie.Need-returns-3
 unfolding sealRecordsRefusal sealedRecords sealFrame
@@ -37,10 +38,10 @@ returns-3 c =
     let e = sym (c .before .before .before .before .before .before .before .before .before .before .before .is-bad .ensures) ∙ c .before .before .before .before .before .before .before .before .before .before .if1 .left in
     let d = sym (c .before .before .before .before .before .before .before .before .before .is-bad2 .ensures) ∙ c .before .before .before .before .before .before .before .before .if2 .left in
     let h = c .before .before .before .before .before .before .header-of .ensures in
-    let x = c .before .before .before .before .before .aux-given .ensures in
+    let x = c .before .before .before .before .before .option-of .ensures in
     let k = c .before .before .before .before .before .before .before .from-halves .ensures in
     let s = c .before .before .before .seal in
-    written-by _ (sealRefusal micLength (headerOf (a .header .now)) (auxGiven (a .auxiliary .now)) (a .payload .now) (length (a .out .now))) (sealedRecords (keyBytes (a .key-first) (a .key-second)) (a .header .now) (a .auxiliary .now) (a .payload .now)) (a .out .now) _ (s .result) _
+    written-by _ (sealRefusal micLength (headerOf (a .header .now)) (optionOf (a .auxiliary .now)) (a .payload .now) (length (a .out .now))) (sealedRecords (keyBytes (a .key-first) (a .key-second)) (a .header .now) (a .auxiliary .now) (a .payload .now)) (a .out .now) _ (s .result) _
     (write-good (badAuxRecord (a .auxiliary .now)) _ d ∙ sym (skip 13 (badHeaderRecord (a .header .now)) _ e))
     (s .ensures .0 ∙ (λ i. sealFrame (k i) (h i) (x i) (a .payload .now) (a .out .now) .answer))
     (s .ensures .1 ∙ (λ i. sealFrame (k i) (h i) (x i) (a .payload .now) (a .out .now) .out))

@@ -5,7 +5,7 @@ use native.Mathlib.Omega.{arith}
 use lib.ListN.{length}
 use Rattle.nwk.proofs.frames.nwk_write_frame.Statement.{statement}
 use Rattle.nwk.proofs.frames.nwk_write_frame.Tie as tie
-use Rattle.octets.proofs.Refusals.{stop}
+use Rattle.octets.proofs.Conditions.{stop}
 use Rattle.frame.specs.Writing.{frameBytes, frameWriteRefusal, writeFrame}
 use Rattle.records.specs.HeaderRecord.{badHeaderRecord, headerOf}
 use Rattle.nwk.specs.Frames.{writeFrameRefusal}
@@ -17,7 +17,7 @@ unfolding writeFrameRefusal
 returns c =
     let a = c .before .before .before .before .before .before .args in
     let e = sym (c .before .before .is-bad .ensures) ∙ c .before .if1 .taken in
-    refused-by _ 13 _ _ _ (a .out .now) (sym (stop 12 (badHeaderRecord (a .header .now)) _ e)) (λ e. omega arith) (c .answer .ensures)
+    refused-by _ 13 _ _ _ (a .out .now) (sym (stop 13 (badHeaderRecord (a .header .now)) _ e)) (λ e. omega arith) (c .answer .ensures)
 
 returns-2 : tie.Need-returns-2
 unfolding writeFrameRefusal writeFrame

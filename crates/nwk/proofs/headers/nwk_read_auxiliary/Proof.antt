@@ -12,7 +12,7 @@ use Rattle.records.specs.AuxiliaryRecord.{auxRecord}
 use Rattle.nwk.specs.Headers.{readAuxRefusal}
 use Rattle.nwk.specs.Answer.{answer}
 use Rattle.nwk.proofs.Calls.{refused-by, passed-by}
-use Rattle.nwk.proofs.Refusals.{first, read-short, read-none, aux-number}
+use Rattle.nwk.proofs.Refusals.{read-number, read-short, read-none, aux-number}
 
 returns : tie.Need-returns
 unfolding readAuxRefusal
@@ -21,7 +21,7 @@ returns c =
     let d = c .before .before .before .deserialize in
     let e = (λ i. d .ensures i .refusal) ∙ aux-number (a .bytes .now) in
     refused-by _ (d .result .refusal) _ _ _ (a .auxiliary .now)
-    (e ∙ first (auxRefusal (a .bytes .now)) _ (λ z. c .before .if1 .taken (e ∙ z)))
+    (read-number _ (auxRefusal (a .bytes .now)) _ e (c .before .if1 .taken))
     (c .before .if1 .taken) (c .answer .ensures)
 
 returns-2 : tie.Need-returns-2

@@ -11,7 +11,7 @@ use Rattle.records.specs.HeaderRecord.{headerRecord}
 use Rattle.nwk.specs.Headers.{readHeaderRefusal}
 use Rattle.nwk.specs.Answer.{answer}
 use Rattle.nwk.proofs.Calls.{refused-by, passed-by}
-use Rattle.nwk.proofs.Refusals.{first, read-short, read-none, header-number}
+use Rattle.nwk.proofs.Refusals.{read-number, read-short, read-none, header-number}
 
 returns : tie.Need-returns
 unfolding readHeaderRefusal
@@ -20,7 +20,7 @@ returns c =
     let d = c .before .before .before .deserialize in
     let e = (λ i. d .ensures i .refusal) ∙ header-number (a .bytes .now) in
     refused-by _ (d .result .refusal) _ _ _ (a .header .now)
-    (e ∙ first (headerRefusal (a .bytes .now)) _ (λ z. c .before .if1 .taken (e ∙ z)))
+    (read-number _ (headerRefusal (a .bytes .now)) _ e (c .before .if1 .taken))
     (c .before .if1 .taken) (c .answer .ensures)
 
 returns-2 : tie.Need-returns-2

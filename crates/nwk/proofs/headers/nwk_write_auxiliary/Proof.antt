@@ -6,7 +6,7 @@ use mathlib.Core.Bool.{not}
 use lib.ListN.{length}
 use Rattle.nwk.proofs.headers.nwk_write_auxiliary.Statement.{statement}
 use Rattle.nwk.proofs.headers.nwk_write_auxiliary.Tie as tie
-use Rattle.octets.proofs.Refusals.{stop, skip}
+use Rattle.octets.proofs.Conditions.{stop, skip}
 use Rattle.header.specs.Auxiliary.{auxBytes, auxWriteRefusal, writeAux}
 use Rattle.records.specs.AuxiliaryRecord.{badAuxRecord, auxPresent, auxOf}
 use Rattle.nwk.specs.Headers.{writeAuxRefusal}
@@ -18,7 +18,7 @@ unfolding writeAuxRefusal
 returns c =
     let a = c .before .before .before .before .before .args in
     let e = sym (c .before .before .is-bad .ensures) ∙ c .before .if1 .taken in
-    refused-by _ 13 _ _ _ (a .out .now) (sym (stop 12 (badAuxRecord (a .auxiliary .now)) _ e)) (λ e. omega arith) (c .answer .ensures)
+    refused-by _ 13 _ _ _ (a .out .now) (sym (stop 13 (badAuxRecord (a .auxiliary .now)) _ e)) (λ e. omega arith) (c .answer .ensures)
 
 returns-2 : tie.Need-returns-2
 unfolding writeAuxRefusal writeAux
@@ -41,7 +41,7 @@ returns-3 c =
     let e = sym (c .before .before .before .before .is-bad .ensures) ∙ c .before .before .before .if1 .left in
     let p = ap not (sym (c .before .before .is-present .ensures) ∙ c .before .if2 .left) in
     refused-by _ 13 _ _ _ (a .out .now)
-    (sym (skip 13 (badAuxRecord (a .auxiliary .now)) _ e ∙ stop 12 (not (auxPresent (a .auxiliary .now))) _ p)) (λ e. omega arith) (c .answer3 .ensures)
+    (sym (skip 13 (badAuxRecord (a .auxiliary .now)) _ e ∙ stop 13 (not (auxPresent (a .auxiliary .now))) _ p)) (λ e. omega arith) (c .answer3 .ensures)
 
 pub nwk-write-auxiliary-spec : {M : Type 1} → statement M
 nwk-write-auxiliary-spec =

@@ -5,7 +5,7 @@ use native.Mathlib.Omega.{arith}
 use lib.ListN.{length}
 use Rattle.nwk.proofs.headers.nwk_write_header.Statement.{statement}
 use Rattle.nwk.proofs.headers.nwk_write_header.Tie as tie
-use Rattle.octets.proofs.Refusals.{stop}
+use Rattle.octets.proofs.Conditions.{stop}
 use Rattle.header.specs.Writing.{headerBytes, headerWriteRefusal, writeHeader}
 use Rattle.records.specs.HeaderRecord.{badHeaderRecord, headerOf}
 use Rattle.nwk.specs.Headers.{writeHeaderRefusal}
@@ -17,7 +17,7 @@ unfolding writeHeaderRefusal
 returns c =
     let a = c .before .before .before .before .before .args in
     let e = sym (c .before .before .is-bad .ensures) ∙ c .before .if1 .taken in
-    refused-by _ 13 _ _ _ (a .out .now) (sym (stop 12 (badHeaderRecord (a .header .now)) _ e)) (λ e. omega arith) (c .answer .ensures)
+    refused-by _ 13 _ _ _ (a .out .now) (sym (stop 13 (badHeaderRecord (a .header .now)) _ e)) (λ e. omega arith) (c .answer .ensures)
 
 returns-2 : tie.Need-returns-2
 unfolding writeHeaderRefusal writeHeader

@@ -1,31 +1,31 @@
 -- `NwkAuxHeader::serialize` meets its contract: refused with nothing changed, or written. Assumes nothing.
 use borrow.Author.Needs.{needs}
-use mathlib.Core.Path.{sym, ap, _∙_}
-use Prim.Native.Nat.{ℕ}
+use mathlib.Core.Path.{refl, sym, ap, _∙_}
 use native.Mathlib.Omega.{arith}
 use lib.ListN.{length}
 use borrow.Author.Tests.{lt-ltb, le-ltb}
 use Rattle.header.proofs.auxiliary.NwkAuxHeader.serialize.Statement.{statement}
 use Rattle.header.proofs.auxiliary.NwkAuxHeader.serialize.Tie as tie
-use Rattle.octets.proofs.Refusals.{stop, skip, empty}
+use Rattle.octets.proofs.Conditions.{stop, skip, empty}
 use Rattle.header.specs.Auxiliary.{auxBytes, auxWriteRefusal, writeAux}
-use Rattle.header.specs.Writing.{written}
+use Rattle.octets.specs.Writing.{Run}
+use Rattle.octets.proofs.Writing.{write-accepted, write-refused}
 
 returns : tie.Need-returns
-unfolding writeAux auxWriteRefusal written
+unfolding writeAux auxWriteRefusal
 returns c =
     let a = c .before .before .before .args in
-    let e = stop 17 _ _ (lt-ltb (length (a .out .now)) (length (auxBytes (a .self))) (omega arith)) in
-    (sym (ap (λ (n : ℕ). written n (auxBytes (a .self)) (a .out .now) .answer) e), sym (ap (λ (n : ℕ). written n (auxBytes (a .self)) (a .out .now) .out) e))
+    let e = stop 18 _ _ (lt-ltb (length (a .out .now)) (length (auxBytes (a .self))) (omega arith)) in
+    let w = write-refused _ 18 (auxBytes (a .self)) (a .out .now) (sym e) (λ z. omega arith) in
+    (ap (λ (r : Run). r .answer) w, ap (λ (r : Run). r .out) w)
 
 returns-2 : tie.Need-returns-2
-unfolding writeAux auxWriteRefusal written
+unfolding writeAux auxWriteRefusal
 returns-2 c =
     let a = c .before .before .before .before .before .before .before .args in
-    let e = skip 18 _ _ (le-ltb (length (a .out .now)) (length (auxBytes (a .self))) (omega arith)) ∙ empty in (
-      (λ i. record { refusal = 0; length = c .before .before .before .before .before .size .ensures .0 i }) ∙ sym (ap (λ (n : ℕ). written n (auxBytes (a .self)) (a .out .now) .answer) e),
-      c .before .before .put .ensures ∙ sym (ap (λ (n : ℕ). written n (auxBytes (a .self)) (a .out .now) .out) e),
-    )
+    let e = skip 18 _ _ (le-ltb (length (a .out .now)) (length (auxBytes (a .self))) (omega arith)) ∙ empty in
+    let w = write-accepted _ 0 (auxBytes (a .self)) (a .out .now) (sym e) refl in
+    ((λ i. record { refusal = 0; length = c .before .before .before .before .before .size .ensures .0 i }) ∙ ap (λ (r : Run). r .answer) w, c .before .before .put .ensures ∙ ap (λ (r : Run). r .out) w)
 
 pub serialize-spec : {M : Type 1} → statement M
 serialize-spec =

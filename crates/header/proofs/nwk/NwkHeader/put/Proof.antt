@@ -12,7 +12,7 @@ use Rattle.octets.specs.Numbers.{le}
 use Rattle.octets.proofs.Strings.{over-then}
 use Rattle.header.specs.Writing.{headerBytes, fixedBytes, optionalBytes}
 use Rattle.header.proofs.ReadBack.{fixed-length}
-use Rattle.header.proofs.Answers.{header-good}
+use Rattle.header.proofs.Writable.{header-good}
 
 word-requires : tie.Need-word-requires
 word-requires c κs =

@@ -1,21 +1,20 @@
 -- `NwkHeader::serialize` meets its contract: refused with nothing changed, or written. Assumes nothing.
 use borrow.Author.Needs.{needs}
 use mathlib.Core.Path.{sym, ap, _∙_}
-use Prim.Native.Nat.{ℕ}
 use lib.ListN.{length}
 use Rattle.header.proofs.nwk.NwkHeader.serialize.Statement.{statement}
 use Rattle.header.proofs.nwk.NwkHeader.serialize.Tie as tie
-use Rattle.header.specs.Writing.{headerBytes, writeHeader, written}
-use Rattle.header.proofs.Answers.{write-refused, header-writable}
+use Rattle.header.specs.Writing.{headerBytes, writeHeader}
+use Rattle.octets.specs.Writing.{Run}
+use Rattle.octets.proofs.Writing.{write-accepted, write-refused}
+use Rattle.header.proofs.Writable.{header-writable}
 
 returns : tie.Need-returns
 unfolding writeHeader
 returns c =
     let a = c .before .before .before .args in
-    let w = write-refused (c .before .write-refusal .result) (headerBytes (a .self)) (a .out .now) (c .if1 .taken) in (
-      w .0 ∙ ap (λ (n : ℕ). written n (headerBytes (a .self)) (a .out .now) .answer) (c .before .write-refusal .ensures),
-      w .1 ∙ ap (λ (n : ℕ). written n (headerBytes (a .self)) (a .out .now) .out) (c .before .write-refusal .ensures),
-    )
+    let w = write-refused _ _ (headerBytes (a .self)) (a .out .now) (c .before .write-refusal .ensures) (c .if1 .taken) in
+    (ap (λ (r : Run). r .answer) w, ap (λ (r : Run). r .out) w)
 
 put-requires : tie.Need-put-requires
 put-requires c κs =
@@ -24,13 +23,12 @@ put-requires c κs =
     (w .good, w .fits)
 
 returns-2 : tie.Need-returns-2
-unfolding writeHeader written
+unfolding writeHeader
 returns-2 c =
     let a = c .before .before .before .before .before .before .before .before .args in
-    let e = sym (c .before .before .before .before .before .if1 .left) ∙ c .before .before .before .before .before .before .write-refusal .ensures in (
-      (λ i. record { refusal = 0; length = c .size .ensures .0 i }) ∙ ap (λ (n : ℕ). written n (headerBytes (a .self)) (a .out .now) .answer) e,
-      c .before .before .before .put .ensures ∙ ap (λ (n : ℕ). written n (headerBytes (a .self)) (a .out .now) .out) e,
-    )
+    let r = c .before .before .before .before .before .before .write-refusal in
+    let w = write-accepted _ _ (headerBytes (a .self)) (a .out .now) (r .ensures) (c .before .before .before .before .before .if1 .left) in
+    ((λ i. record { refusal = 0; length = c .size .ensures .0 i }) ∙ ap (λ (r : Run). r .answer) w, c .before .before .before .put .ensures ∙ ap (λ (r : Run). r .out) w)
 
 pub serialize-spec : {M : Type 1} → statement M
 serialize-spec =

@@ -6,33 +6,38 @@ use lib.ListN.{length}
 use borrow.Author.Tests.{lt-ltb, le-ltb}
 use Rattle.header.proofs.nwk.NwkHeader.write_refusal.Statement.{statement}
 use Rattle.header.proofs.nwk.NwkHeader.write_refusal.Tie as tie
-use Rattle.octets.proofs.Refusals.{stop, skip, empty}
+use Rattle.octets.proofs.Conditions.{stop, skip, stop-by, skip-by, empty}
 use Rattle.header.specs.Writing.{headerBytes, headerWriteRefusal}
 
 returns : tie.Need-returns
 unfolding headerWriteRefusal
-returns c = sym (stop 12 _ _ (sym (c .before .is-bad .ensures) ∙ c .if1 .taken))
+returns c =
+    let f = c .before .field-refusal in
+    f .ensures ∙ sym (stop-by _ _ (λ z. c .if1 .taken (f .ensures ∙ z)))
 
 returns-2 : tie.Need-returns-2
 unfolding headerWriteRefusal
 returns-2 c =
     let a = c .before .before .before .before .args in
-    sym (skip 13 _ _ (sym (c .before .before .before .is-bad .ensures) ∙ c .before .before .if1 .left)
-    ∙ stop 16 _ _ (lt-ltb 118 (length (headerBytes (a .self))) (omega arith)))
+    let f = c .before .before .before .field-refusal in
+    sym (skip-by _ _ (sym (f .ensures) ∙ c .before .before .if1 .left)
+    ∙ stop 17 _ _ (lt-ltb 118 (length (headerBytes (a .self))) (omega arith)))
 
 returns-3 : tie.Need-returns-3
 unfolding headerWriteRefusal
 returns-3 c =
     let a = c .before .before .before .before .before .args in
-    sym (skip 13 _ _ (sym (c .before .before .before .before .is-bad .ensures) ∙ c .before .before .before .if1 .left)
+    let f = c .before .before .before .before .field-refusal in
+    sym (skip-by _ _ (sym (f .ensures) ∙ c .before .before .before .if1 .left)
     ∙ skip 17 _ _ (le-ltb 118 (length (headerBytes (a .self))) (omega arith))
-    ∙ stop 17 _ _ (lt-ltb (a .room) (length (headerBytes (a .self))) (omega arith)))
+    ∙ stop 18 _ _ (lt-ltb (a .room) (length (headerBytes (a .self))) (omega arith)))
 
 returns-4 : tie.Need-returns-4
 unfolding headerWriteRefusal
 returns-4 c =
     let a = c .before .before .before .before .before .args in
-    sym (skip 13 _ _ (sym (c .before .before .before .before .is-bad .ensures) ∙ c .before .before .before .if1 .left)
+    let f = c .before .before .before .before .field-refusal in
+    sym (skip-by _ _ (sym (f .ensures) ∙ c .before .before .before .if1 .left)
     ∙ skip 17 _ _ (le-ltb 118 (length (headerBytes (a .self))) (omega arith))
     ∙ skip 18 _ _ (le-ltb (a .room) (length (headerBytes (a .self))) (omega arith)) ∙ empty)
 

@@ -1,0 +1,55 @@
+-- The answer that its opened record says is the answer itself: the header record and the auxiliary record stand at their
+-- places and are read back by their own laws. Beside a refusal's number all the rest of a record is zeros.
+-- Assumes nothing.
+use mathlib.Core.Path.{_≡_, refl, ap, _∙_}
+use mathlib.Core.Bool.{Bool, true, false}
+use mathlib.Core.List.{List, _∷_, _++_, append-assoc}
+use Prim.Native.Nat.{ℕ, _^_, _<_}
+use lib.ListN.{length, take, drop, length-append}
+use lib.Seq.{take-at, drop-at}
+use Rattle.octets.specs.Strings.{tab}
+use Rattle.octets.specs.Numbers.{le, leAt}
+use Rattle.octets.proofs.Numbers.{leAt-le}
+use Rattle.header.specs.Auxiliary.{blankAux}
+use Rattle.header.specs.Same.{HeaderFits}
+use Rattle.frame.specs.declared.OptionAuxHeader.{OptionAuxHeader}
+use Rattle.frame.specs.declared.FrameOpened.{FrameOpened}
+use Rattle.frame.specs.Reading.{auxIf}
+use Rattle.frame.specs.SealingLaw.{AuxOptionFits}
+use Rattle.records.specs.HeaderRecord.{headerRecord, headerOf}
+use Rattle.records.specs.AuxiliaryRecord.{auxRecord, auxOf}
+use Rattle.records.specs.OpenedRecord.{optionRecord, optionOf, openedFront, openedRecord, openedOf}
+use Rattle.records.proofs.Sizes.{length-header, length-front}
+use Rattle.records.proofs.RoundTrip.{header-back, aux-back, present-back}
+
+pub option-back : (o : OptionAuxHeader) → AuxOptionFits o → optionOf (optionRecord o) ≡ o
+unfolding optionOf optionRecord
+option-back OptionAuxHeader.Absent f = ap (λ (b : Bool). auxIf b (auxOf (auxRecord false blankAux))) (present-back false blankAux)
+option-back (OptionAuxHeader.Present a) f = λ i. auxIf (present-back true a i) (aux-back true a f i)
+
+-- what every answer has: its header's relays have their 54 places, and each number is within its type's range
+pub record AnswerFits (o : FrameOpened) : Type 0 where
+  pub short : o .length < 2 ^ 16
+  pub header : HeaderFits (o .header)
+  pub relays : length (o .header .relays) ≡ 54
+  pub aux : AuxOptionFits (o .aux)
+
+header-part : (front header aux : List ℕ) → length front ≡ 16 → length header ≡ 147 → take 147 (drop 16 (front ++ (header ++ aux))) ≡ header
+header-part front header aux f h = ap (take 147) (drop-at front (header ++ aux) 16 f) ∙ take-at header aux 147 h
+
+aux-part : (front header aux : List ℕ) → length front ≡ 16 → length header ≡ 147 → drop 163 (front ++ (header ++ aux)) ≡ aux
+aux-part front header aux f h =
+    rw (← append-assoc front header aux) (drop-at (front ++ header) aux 163 (rw (length-append front header, f, h) refl))
+
+pub opened-back : (o : FrameOpened) → AnswerFits o → openedOf (openedRecord o) ≡ o
+unfolding openedOf openedRecord openedFront le leAt
+opened-back o f =
+    let front = openedFront (o .refusal) (o .length) in
+    let header = headerRecord (o .header) in
+    let aux = optionRecord (o .aux) in
+    λ i. record {
+      refusal = o .refusal;
+      length = leAt-le 2 (o .length) (tab (λ (i : ℕ). 0) 12 ++ (header ++ aux)) (f .short) i;
+      header = (ap headerOf (header-part front header aux (length-front (o .refusal) (o .length)) (length-header (o .header))) ∙ header-back (o .header) (f .header) (f .relays)) i;
+      aux = (ap optionOf (aux-part front header aux (length-front (o .refusal) (o .length)) (length-header (o .header))) ∙ option-back (o .aux) (f .aux)) i;
+    }
