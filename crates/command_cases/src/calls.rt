@@ -1,14 +1,14 @@
 // The calls of a case, by the letter that its line begins with (data/commands.txt says which words follow).
 
 use casefile::fields::field;
+use casefile::fields::whole;
 use casefile::file;
 use casefile::outputs;
-use commands::NwkCommand;
-use commands::NwkCommandFrame;
+use command_records::COMMAND_RECORD_SIZE;
 use commands::NwkCommandIdCode;
 use commands::NwkCommandRead;
-use commands::NwkCommandWritten;
-use commands::NwkNetworkUpdateCommand;
+use commands::NwkCommandWithLists;
+use octets::Written;
 
 // Word k of the line is the number and the bytes behind it.
 fn is_answer(line: &[u8], k: usize, number: u8, bytes: &[u8]) -> bool {
@@ -27,23 +27,54 @@ fn is_answer(line: &[u8], k: usize, number: u8, bytes: &[u8]) -> bool {
     check::same(&expected[1..n], bytes)
 }
 
-// The record of what was read is word k.
-fn is_record(line: &[u8], k: usize, read: NwkCommandRead) -> bool {
-    let frame = read.frame;
-    let mut got = [0u8; 160];
-    let m = case_records::record(frame, &mut got);
-    let n = file::within(m, &got);
-    is_answer(line, k, read.refusal, &got[..n])
+// Where a command's own list stands in its record; the record's end for a command that has none.
+fn list_at(id: u8) -> usize {
+    match id {
+        0 => 426,
+        5 => 25,
+        8 => 132,
+        9 => 257,
+        13 => 320,
+        _ => 535,
+    }
+}
+
+// Puts word k, the own list of the command with this identifier, at its place in the record.
+fn put_list(line: &[u8], k: usize, id: u8, record: &mut [u8]) -> bool {
+    let at = file::within(list_at(id), record);
+    let f = field(line, k, &mut record[at..]);
+    f.good
+}
+
+// What was read has the refusal number and the fields of word 3, and the list of word 4: every byte of its record.
+fn is_record(line: &[u8], read: NwkCommandRead, record: &[u8]) -> bool {
+    let mut fields = [0u8; 26];
+    let f = field(line, 3, &mut fields);
+    if !f.good {
+        return false;
+    }
+    if f.n < 2 {
+        return false;
+    }
+    if fields[0] != read.refusal {
+        return false;
+    }
+    let mut expected = [0u8; 535];
+    octets::copy_at(&mut expected, 0, &fields[1..]);
+    if put_list(line, 4, fields[1], &mut expected) {
+        return check::same(&expected, record);
+    }
+    false
 }
 
 // Writes the command into the first bytes of the output, as many as there is room.
-fn write_into(frame: NwkCommandFrame, room: u8, out: &mut [u8]) -> NwkCommandWritten {
+fn write_into(command: NwkCommandWithLists, room: u8, out: &mut [u8]) -> Written {
     let r = file::within(room as usize, out);
-    command_writer::serialize(frame, &mut out[..r])
+    command_writer::serialize(command, &mut out[..r])
 }
 
 // The output holds the bytes of word k behind the refusal number, so many of them, and the rest is as it was.
-fn is_left(line: &[u8], k: usize, answer: NwkCommandWritten, out: &[u8]) -> bool {
+fn is_left(line: &[u8], k: usize, answer: Written, out: &[u8]) -> bool {
     let n = file::within(answer.length, out);
     if !outputs::untouched(&out[n..]) {
         return false;
@@ -51,10 +82,15 @@ fn is_left(line: &[u8], k: usize, answer: NwkCommandWritten, out: &[u8]) -> bool
     is_answer(line, k, answer.refusal, &out[..n])
 }
 
-// Writing into so many bytes gives word k: the refusal number, then the bytes written. The rest stays.
-fn is_written(line: &[u8], k: usize, frame: NwkCommandFrame, room: u8) -> bool {
+// Writing a record into so many bytes gives word k: the refusal number, then the bytes written. The rest stays.
+fn is_written(line: &[u8], k: usize, record: &[u8], room: u8) -> bool {
+    let given = command_records::read_record(record);
+    if given.refusal != 0 {
+        return is_answer(line, k, given.refusal, b"");
+    }
+    let command = given.command;
     let mut out = [0xA5u8; 160];
-    let answer = write_into(frame, room, &mut out);
+    let answer = write_into(command, room, &mut out);
     is_left(line, k, answer, &out)
 }
 
@@ -66,86 +102,66 @@ fn read_input(line: &[u8]) -> NwkCommandRead {
     command_reader::from_bytes(&input[..n])
 }
 
-// `R name input record written`: reading the input gives the record, and writing that command gives the bytes.
+// `R name input fields list written`: reading the input gives the record, and writing the record gives the bytes.
 fn read_case(line: &[u8]) -> bool {
     let read = read_input(line);
-    let frame = read.frame;
-    if !is_record(line, 3, read) {
+    let command = read.command;
+    let mut record = [0u8; 535];
+    command_records::put_command(&mut record, command);
+    if !is_record(line, read, &record) {
         return false;
     }
-    is_written(line, 4, frame, 160)
+    is_written(line, 5, &record, 160)
 }
 
-// A network update with another stored count; any other command as it is.
-fn with_update_count(command: NwkCommand, value: u8) -> NwkCommand {
-    let NwkCommand::NetworkUpdate(c) = command else {
-        return command;
-    };
-    let identifier = c.update_command_identifier;
-    NwkCommand::NetworkUpdate(NwkNetworkUpdateCommand {
-        update_information_count: value,
-        update_command_identifier: identifier,
-        epid: c.epid,
-        update_id: c.update_id,
-        new_pan_id: c.new_pan_id,
-    })
-}
-
-// The command with one number changed, by its place in the list of data/commands.txt.
-fn changed(frame: NwkCommandFrame, which: u8, value: u8) -> NwkCommandFrame {
-    let mut f = frame;
-    match which {
-        1 => f.relay_count = value,
-        2 => f.link_statuses_len = value,
-        3 => f.report_information_count = value,
-        4 => f.list_count = value,
-        5 => f.unparsed_len = value,
-        6 => f.link_statuses[0].incoming_cost = value,
-        7 => f.link_statuses[0].outgoing_cost = value,
-        8 => f.link_statuses[30].outgoing_cost = value,
-        _ => {}
-    }
-    f
-}
-
-// A word of one byte, 0 where there is none.
-fn number(line: &[u8], k: usize) -> u8 {
-    let mut b = [0u8; 1];
-    field(line, k, &mut b);
-    octets::byte_at(&b, 0)
-}
-
-// `W name input which value room written`: the command read from the input, with one number changed, is written so.
+// `W name input place value room written`: the record of the input, with one byte changed, is written so.
 fn write_case(line: &[u8]) -> bool {
-    let read = read_input(line);
-    let frame = read.frame;
-    let f = changed(frame, number(line, 3), number(line, 4));
-    is_written(line, 6, f, number(line, 5))
+    let mut place = [0u8; 2];
+    let mut value = [0u8; 1];
+    let mut room = [0u8; 1];
+    if !whole(field(line, 3, &mut place), 2) {
+        return false;
+    }
+    if !whole(field(line, 4, &mut value), 1) {
+        return false;
+    }
+    if !whole(field(line, 5, &mut room), 1) {
+        return false;
+    }
+    is_changed(line, place[0], place[1], value[0], room[0])
 }
 
-// `U name input value room written`: the same for the stored count of a network update, which has no list.
-fn update_case(line: &[u8]) -> bool {
+// The record of the input, with the byte at a place changed, is written as word 6 says.
+fn is_changed(line: &[u8], high: u8, low: u8, value: u8, room: u8) -> bool {
+    let at = (high as usize) * 256 + (low as usize);
+    if at >= COMMAND_RECORD_SIZE {
+        return false;
+    }
     let read = read_input(line);
-    let frame = read.frame;
-    let command = frame.command;
-    let f = command_reader::lists::blank(with_update_count(command, number(line, 3)));
-    is_written(line, 5, f, number(line, 4))
+    let command = read.command;
+    let mut record = [0u8; 535];
+    command_records::put_command(&mut record, command);
+    record[at] = value;
+    is_written(line, 6, &record, room)
 }
 
 // `S name code seconds`: the refusal number and the seconds of a timeout code.
 fn seconds_case(line: &[u8]) -> bool {
-    let answer = commands::codes::timeout_seconds(number(line, 2));
-    let mut got = [0u8; 4];
-    let m = case_records::put_word(&mut got, 0, answer.seconds);
-    let n = file::within(m, &got);
-    is_answer(line, 3, answer.refusal, &got[..n])
+    let mut code = [0u8; 1];
+    if !whole(field(line, 2, &mut code), 1) {
+        return false;
+    }
+    let answer = commands::codes::timeout_seconds(code[0]);
+    let mut seconds = [0u8; 4];
+    octets::put_u32(&mut seconds, 0, answer.seconds);
+    is_answer(line, 3, answer.refusal, &seconds)
 }
 
 // `I name input id`: the command identifier, 00 where it is unknown.
 fn id_case(line: &[u8]) -> bool {
     let read = read_input(line);
-    let frame = read.frame;
-    let NwkCommandIdCode::Known(id) = frame.command_id() else {
+    let command = read.command;
+    let NwkCommandIdCode::Known(id) = command.command_id() else {
         return is_answer(line, 3, 0, b"");
     };
     is_answer(line, 3, id.code(), b"")
@@ -166,7 +182,6 @@ pub fn case(line: &[u8]) -> bool {
     match octets::byte_at(line, 0) {
         b'R' => read_case(line),
         b'W' => write_case(line),
-        b'U' => update_case(line),
         b'S' => seconds_case(line),
         b'I' => id_case(line),
         _ => false,

@@ -5,3 +5,4 @@ pub mod Fits
 pub mod ListsBack
 pub mod RoundTrip
 mod Said
+pub mod ReadThenWritten

@@ -53,7 +53,7 @@ firsts-places d m xs =
     ∙ tab-getD xs d (length xs) (omega arith) ∙ take-all (length xs) xs (omega arith)
 
 -- an entry that was read
-entry-read : {A : Type 0} (of : List ℕ → A) (g : ℕ → List ℕ) (n : ℕ) (d : A) (m k : ℕ) → k < length (map of (tab g n))
+pub entry-read : {A : Type 0} (of : List ℕ → A) (g : ℕ → List ℕ) (n : ℕ) (d : A) (m k : ℕ) → k < length (map of (tab g n))
     → getD (places d m (map of (tab g n))) k d ≡ of (g k)
 entry-read of g n d m k h =
     getD-places d m (map of (tab g n)) k h ∙ ap (λ (l : List _). getD l k d) (map-tab of g n)

@@ -11,7 +11,7 @@ use Rattle.commands.proofs.RoundTrip.{read-accepts, read-refuses}
 
 returns : tie.Need-returns
 unfolding unparsed
-returns c = (λ i. record { refusal = 12; command = c .blank .ensures i }) ∙ sym (read-refuses _ (c .before .if1 .taken))
+returns c = (λ i. record { refusal = 12; command = c .blank .ensures i }) ∙ sym (read-refuses _ (omega (arith, c .before .if1 .taken)))
 
 returns-2 : tie.Need-returns-2
 unfolding parsed

@@ -20,27 +20,12 @@ abbrev μ-loop : tie.MeasureT-loop
 loop-holds : tie.Need-loop-holds Inv-loop μ-loop
 loop-holds c = (omega arith, refl, entries-none _ (c .before .args .out .now) (c .before .args .i))
 
-mul-link : tie.Need-mul-link Inv-loop μ-loop
-mul-link c = omega arith
-
-array-copy-out-link : tie.Need-array-copy-out-link Inv-loop μ-loop
-array-copy-out-link c = omega arith
-
-mul-put-link : tie.Need-mul-put-link Inv-loop μ-loop
-mul-put-link c = omega arith
-
 add-put-link : tie.Need-add-put-link Inv-loop μ-loop
 add-put-link c =
     omega (arith, c .before .before .before .before .before .pre, c .before .before .before .before .before .good)
 
 put-link-requires : tie.Need-put-link-requires Inv-loop μ-loop
 put-link-requires c κs = omega (arith, c .before .before .before .before .before .pre)
-
-add-k : tie.Need-add-k Inv-loop μ-loop
-add-k c = omega arith
-
-loop-less : tie.Need-loop-less Inv-loop μ-loop
-loop-less c = omega arith
 
 loop-again : tie.Need-loop-again Inv-loop μ-loop
 loop-again c =
@@ -50,9 +35,6 @@ loop-again c =
       c .before .before .put-link .kept .0 ∙ l .inv .1,
       c .before .before .put-link .ensures ∙ rw (l .inv .2) (entries-more (linkEntry (a .t3)) 4 (length-link (a .t3)) (a .out .now) (a .i) (l .k) (omega (arith, c .before .before .before .before .before .before .before .before .pre))),
     )
-
-same-length : tie.Need-same-length Inv-loop μ-loop
-same-length c = c .before .loop .inv .1
 
 returns : tie.Need-returns Inv-loop μ-loop
 returns c =
@@ -64,16 +46,5 @@ pub put-links-spec : {M : Type 1} → statement M
 put-links-spec =
     tie.close
     (tie.spec
-    Inv-loop
-    μ-loop
-    loop-holds
-    mul-link
-    array-copy-out-link
-    mul-put-link
-    add-put-link
-    put-link-requires
-    add-k
-    loop-less
-    loop-again
-    same-length
-    returns)
+    Inv-loop μ-loop loop-holds (λ c. omega arith) (λ c. omega arith) (λ c. omega arith) add-put-link
+    put-link-requires (λ c. omega arith) (λ c. omega arith) loop-again (λ c. c .before .loop .inv .1) returns)

@@ -22,27 +22,12 @@ loop-holds : tie.Need-loop-holds Inv-loop μ-loop
 loop-holds c =
     (omega arith, refl, entries-none _ (c .before .before .args .out .now) (c .before .before .args .i))
 
-mul-put-u16 : tie.Need-mul-put-u16 Inv-loop μ-loop
-mul-put-u16 c = omega arith
-
 add-put-u16 : tie.Need-add-put-u16 Inv-loop μ-loop
 add-put-u16 c =
     omega (arith, c .before .before .before .before .before .pre, c .before .before .before .before .before .good)
 
-mul-put-u16-2 : tie.Need-mul-put-u16-2 Inv-loop μ-loop
-mul-put-u16-2 c = omega arith
-
-shared-slice-read-put-u16 : tie.Need-shared-slice-read-put-u16 Inv-loop μ-loop
-shared-slice-read-put-u16 c = omega arith
-
 put-u16-requires : tie.Need-put-u16-requires Inv-loop μ-loop
 put-u16-requires c κs = omega (arith, c .before .before .before .before .before .before .pre)
-
-add-k : tie.Need-add-k Inv-loop μ-loop
-add-k c = omega arith
-
-loop-less : tie.Need-loop-less Inv-loop μ-loop
-loop-less c = omega arith
 
 loop-again : tie.Need-loop-again Inv-loop μ-loop
 loop-again c =
@@ -52,9 +37,6 @@ loop-again c =
       c .before .before .put-u16 .kept .0 ∙ l .inv .1,
       c .before .before .put-u16 .ensures ∙ rw (l .inv .2) (entries-more (numberEntry (a .xs .now)) 2 (length-number (a .xs .now)) (a .out .now) (a .i) (l .k) (omega (arith, c .before .before .before .before .before .before .before .before .before .pre))),
     )
-
-same-length : tie.Need-same-length Inv-loop μ-loop
-same-length c = c .before .loop .inv .1
 
 returns : tie.Need-returns Inv-loop μ-loop
 returns c =
@@ -66,16 +48,5 @@ pub put-numbers-spec : {M : Type 1} → statement M
 put-numbers-spec =
     tie.close
     (tie.spec
-    Inv-loop
-    μ-loop
-    loop-holds
-    mul-put-u16
-    add-put-u16
-    mul-put-u16-2
-    shared-slice-read-put-u16
-    put-u16-requires
-    add-k
-    loop-less
-    loop-again
-    same-length
-    returns)
+    Inv-loop μ-loop loop-holds (λ c. omega arith) add-put-u16 (λ c. omega arith) (λ c. omega arith)
+    put-u16-requires (λ c. omega arith) (λ c. omega arith) loop-again (λ c. c .before .loop .inv .1) returns)

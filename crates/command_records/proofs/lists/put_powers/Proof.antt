@@ -21,27 +21,12 @@ abbrev μ-loop : tie.MeasureT-loop
 loop-holds : tie.Need-loop-holds Inv-loop μ-loop
 loop-holds c = (omega arith, refl, entries-none _ (c .before .args .out .now) (c .before .args .i))
 
-mul-power : tie.Need-mul-power Inv-loop μ-loop
-mul-power c = omega arith
-
-array-copy-out-power : tie.Need-array-copy-out-power Inv-loop μ-loop
-array-copy-out-power c = omega arith
-
-mul-put-power : tie.Need-mul-put-power Inv-loop μ-loop
-mul-put-power c = omega arith
-
 add-put-power : tie.Need-add-put-power Inv-loop μ-loop
 add-put-power c =
     omega (arith, c .before .before .before .before .before .pre, c .before .before .before .before .before .good)
 
 put-power-requires : tie.Need-put-power-requires Inv-loop μ-loop
 put-power-requires c κs = omega (arith, c .before .before .before .before .before .pre)
-
-add-k : tie.Need-add-k Inv-loop μ-loop
-add-k c = omega arith
-
-loop-less : tie.Need-loop-less Inv-loop μ-loop
-loop-less c = omega arith
 
 loop-again : tie.Need-loop-again Inv-loop μ-loop
 loop-again c =
@@ -51,9 +36,6 @@ loop-again c =
       c .before .before .put-power .kept .0 ∙ l .inv .1,
       c .before .before .put-power .ensures ∙ rw (l .inv .2) (entries-more (powerEntry (a .t3)) 3 (length-power (a .t3)) (a .out .now) (a .i) (l .k) (omega (arith, c .before .before .before .before .before .before .before .before .pre))),
     )
-
-same-length : tie.Need-same-length Inv-loop μ-loop
-same-length c = c .before .loop .inv .1
 
 returns : tie.Need-returns Inv-loop μ-loop
 returns c =
@@ -65,16 +47,5 @@ pub put-powers-spec : {M : Type 1} → statement M
 put-powers-spec =
     tie.close
     (tie.spec
-    Inv-loop
-    μ-loop
-    loop-holds
-    mul-power
-    array-copy-out-power
-    mul-put-power
-    add-put-power
-    put-power-requires
-    add-k
-    loop-less
-    loop-again
-    same-length
-    returns)
+    Inv-loop μ-loop loop-holds (λ c. omega arith) (λ c. omega arith) (λ c. omega arith) add-put-power
+    put-power-requires (λ c. omega arith) (λ c. omega arith) loop-again (λ c. c .before .loop .inv .1) returns)

@@ -22,27 +22,6 @@ loop-holds : tie.Need-loop-holds Inv-loop μ-loop
 unfolding tab
 loop-holds c = (omega arith, refl, refl)
 
-mul-read-u16 : tie.Need-mul-read-u16 Inv-loop μ-loop
-mul-read-u16 c = omega arith
-
-add-read-u16 : tie.Need-add-read-u16 Inv-loop μ-loop
-add-read-u16 c = omega arith
-
-read-u16-requires : tie.Need-read-u16-requires Inv-loop μ-loop
-read-u16-requires c κs = tt
-
-mul-relays : tie.Need-mul-relays Inv-loop μ-loop
-mul-relays c = omega arith
-
-array-write-relays : tie.Need-array-write-relays Inv-loop μ-loop
-array-write-relays c = omega arith
-
-add-i : tie.Need-add-i Inv-loop μ-loop
-add-i c = omega arith
-
-loop-less : tie.Need-loop-less Inv-loop μ-loop
-loop-less c = omega arith
-
 loop-again : tie.Need-loop-again Inv-loop μ-loop
 loop-again c =
     let l = c .before .before .loop in
@@ -62,15 +41,5 @@ pub relays-at-spec : {M : Type 1} → statement M
 relays-at-spec =
     tie.close
     (tie.spec
-    Inv-loop
-    μ-loop
-    loop-holds
-    mul-read-u16
-    add-read-u16
-    read-u16-requires
-    mul-relays
-    array-write-relays
-    add-i
-    loop-less
-    loop-again
-    returns)
+    Inv-loop μ-loop loop-holds (λ c. omega arith) (λ c. omega arith) (λ c κs. tt) (λ c. omega arith)
+    (λ c. omega arith) (λ c. omega arith) (λ c. omega arith) loop-again returns)

@@ -22,21 +22,6 @@ loop-holds : tie.Need-loop-holds Inv-loop μ-loop
 unfolding tab
 loop-holds c = (omega arith, refl, refl)
 
-add-byte-at : tie.Need-add-byte-at Inv-loop μ-loop
-add-byte-at c = omega arith
-
-byte-at-requires : tie.Need-byte-at-requires Inv-loop μ-loop
-byte-at-requires c κs = tt
-
-array-write-unparsed : tie.Need-array-write-unparsed Inv-loop μ-loop
-array-write-unparsed c = omega arith
-
-add-i : tie.Need-add-i Inv-loop μ-loop
-add-i c = omega arith
-
-loop-less : tie.Need-loop-less Inv-loop μ-loop
-loop-less c = omega arith
-
 loop-again : tie.Need-loop-again Inv-loop μ-loop
 loop-again c =
     let l = c .before .before .loop in
@@ -56,13 +41,5 @@ pub unparsed-at-spec : {M : Type 1} → statement M
 unparsed-at-spec =
     tie.close
     (tie.spec
-    Inv-loop
-    μ-loop
-    loop-holds
-    add-byte-at
-    byte-at-requires
-    array-write-unparsed
-    add-i
-    loop-less
-    loop-again
-    returns)
+    Inv-loop μ-loop loop-holds (λ c. omega arith) (λ c κs. tt) (λ c. omega arith) (λ c. omega arith)
+    (λ c. omega arith) loop-again returns)

@@ -19,29 +19,11 @@ Inv-loop n links k₀ k =
 abbrev μ-loop : tie.MeasureT-loop
 μ-loop n links k₀ k = n - k
 
-loop-holds : tie.Need-loop-holds Inv-loop μ-loop
-loop-holds c = (omega arith, λ j l. absurd (omega arith))
-
-mul-link : tie.Need-mul-link Inv-loop μ-loop
-mul-link c = omega arith
-
-array-copy-out-link : tie.Need-array-copy-out-link Inv-loop μ-loop
-array-copy-out-link c = omega arith
-
-link-misfits-requires : tie.Need-link-misfits-requires Inv-loop μ-loop
-link-misfits-requires c κs = tt
-
 returns : tie.Need-returns Inv-loop μ-loop
 returns c =
     let a = c .before .before .before .before .before .args in
     let l = c .before .before .before .before .loop in
     sym (ap not (held-not (linkStatusFormat .entry) (λ (j : ℕ). linkEntry (getD (a .t1) j noLink)) (a .n) (l .k) (c .before .before .before .loop-test .taken) (not-true _ (sym (c .before .link-misfits .ensures) ∙ c .if1 .taken))))
-
-add-k : tie.Need-add-k Inv-loop μ-loop
-add-k c = omega arith
-
-loop-less : tie.Need-loop-less Inv-loop μ-loop
-loop-less c = omega arith
 
 loop-again : tie.Need-loop-again Inv-loop μ-loop
 loop-again c =
@@ -58,14 +40,7 @@ pub links-misfit-spec : {M : Type 1} → statement M
 links-misfit-spec =
     tie.close
     (tie.spec
-    Inv-loop
-    μ-loop
-    loop-holds
-    mul-link
-    array-copy-out-link
-    link-misfits-requires
-    returns
-    add-k
-    loop-less
-    loop-again
+    Inv-loop μ-loop
+    (λ c. (omega arith, λ j l. absurd (omega arith)))
+    (λ c. omega arith) (λ c. omega arith) (λ c κs. tt) returns (λ c. omega arith) (λ c. omega arith) loop-again
     returns-2)

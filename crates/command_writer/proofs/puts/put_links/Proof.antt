@@ -23,28 +23,10 @@ loop-holds c =
     let a = c .before .args in
     (omega arith, refl, entries-none (linkStatusFormat .entry) (λ (j : ℕ). linkEntry (getD (a .t3) j noLink)) (a .out .now) (a .i))
 
-mul-link : tie.Need-mul-link Inv-loop μ-loop
-mul-link c = omega arith
-
-array-copy-out-link : tie.Need-array-copy-out-link Inv-loop μ-loop
-array-copy-out-link c = omega arith
-
-mul-put-link : tie.Need-mul-put-link Inv-loop μ-loop
-mul-put-link c = omega arith
-
-add-put-link : tie.Need-add-put-link Inv-loop μ-loop
-add-put-link c = omega arith
-
 put-link-requires : tie.Need-put-link-requires Inv-loop μ-loop
 put-link-requires c κs =
     let low = c .before .before .before .before .before .pre .2 (c .before .before .before .loop .k) (c .before .before .loop-test .taken) in
     (omega arith, low .0, low .1)
-
-add-k : tie.Need-add-k Inv-loop μ-loop
-add-k c = omega arith
-
-loop-less : tie.Need-loop-less Inv-loop μ-loop
-loop-less c = omega arith
 
 loop-again : tie.Need-loop-again Inv-loop μ-loop
 unfolding linkStatusFormat size sizes
@@ -56,9 +38,6 @@ loop-again c =
       entries-turn (linkStatusFormat .entry) (λ (j : ℕ). linkEntry (getD (a .t3) j noLink)) (l .k) (a .out .now) (l .out) (c .before .before .put-link .last .0) (a .i) (omega arith) (l .inv .2) (c .before .before .put-link .ensures),
     )
 
-same-length : tie.Need-same-length Inv-loop μ-loop
-same-length c = c .before .loop .inv .1
-
 returns : tie.Need-returns Inv-loop μ-loop
 returns c =
     let a = c .before .before .before .args in
@@ -69,16 +48,5 @@ pub put-links-spec : {M : Type 1} → statement M
 put-links-spec =
     tie.close
     (tie.spec
-    Inv-loop
-    μ-loop
-    loop-holds
-    mul-link
-    array-copy-out-link
-    mul-put-link
-    add-put-link
-    put-link-requires
-    add-k
-    loop-less
-    loop-again
-    same-length
-    returns)
+    Inv-loop μ-loop loop-holds (λ c. omega arith) (λ c. omega arith) (λ c. omega arith) (λ c. omega arith)
+    put-link-requires (λ c. omega arith) (λ c. omega arith) loop-again (λ c. c .before .loop .inv .1) returns)

@@ -23,27 +23,6 @@ loop-holds c =
     let a = c .before .args in
     (omega arith, refl, entries-none (linkPowerDeltaFormat .entry) (λ (j : ℕ). powerEntry (getD (a .t3) j noPower)) (a .out .now) (a .i))
 
-mul-power : tie.Need-mul-power Inv-loop μ-loop
-mul-power c = omega arith
-
-array-copy-out-power : tie.Need-array-copy-out-power Inv-loop μ-loop
-array-copy-out-power c = omega arith
-
-mul-put-power : tie.Need-mul-put-power Inv-loop μ-loop
-mul-put-power c = omega arith
-
-add-put-power : tie.Need-add-put-power Inv-loop μ-loop
-add-put-power c = omega arith
-
-put-power-requires : tie.Need-put-power-requires Inv-loop μ-loop
-put-power-requires c κs = omega arith
-
-add-k : tie.Need-add-k Inv-loop μ-loop
-add-k c = omega arith
-
-loop-less : tie.Need-loop-less Inv-loop μ-loop
-loop-less c = omega arith
-
 loop-again : tie.Need-loop-again Inv-loop μ-loop
 unfolding linkPowerDeltaFormat size sizes
 loop-again c =
@@ -53,9 +32,6 @@ loop-again c =
       omega arith,
       entries-turn (linkPowerDeltaFormat .entry) (λ (j : ℕ). powerEntry (getD (a .t3) j noPower)) (l .k) (a .out .now) (l .out) (c .before .before .put-power .last .0) (a .i) (omega arith) (l .inv .2) (c .before .before .put-power .ensures),
     )
-
-same-length : tie.Need-same-length Inv-loop μ-loop
-same-length c = c .before .loop .inv .1
 
 returns : tie.Need-returns Inv-loop μ-loop
 returns c =
@@ -67,16 +43,5 @@ pub put-powers-spec : {M : Type 1} → statement M
 put-powers-spec =
     tie.close
     (tie.spec
-    Inv-loop
-    μ-loop
-    loop-holds
-    mul-power
-    array-copy-out-power
-    mul-put-power
-    add-put-power
-    put-power-requires
-    add-k
-    loop-less
-    loop-again
-    same-length
-    returns)
+    Inv-loop μ-loop loop-holds (λ c. omega arith) (λ c. omega arith) (λ c. omega arith) (λ c. omega arith)
+    (λ c κs. omega arith) (λ c. omega arith) (λ c. omega arith) loop-again (λ c. c .before .loop .inv .1) returns)
