@@ -1,7 +1,7 @@
 -- Reading a field: what its word is read as, and what is at the front of the output then.
 -- Assumes nothing.
 use mathlib.Core.Bool.{Bool, true, false}
-use mathlib.Core.Path.{_≡_, refl, sym}
+use mathlib.Core.Path.{_≡_, sym}
 use mathlib.Core.List.{List, _++_}
 use Prim.Native.Nat.{ℕ, _/_, _≤_, min}
 use lib.ListN.{length, take, drop}

@@ -30,7 +30,7 @@ unfolding sameText
 same-self [] = refl
 same-self (x ∷ s) = rw (eq-eqb x x refl) (same-self s)
 
-pub not-same : (s t : List ℕ) → (s ≡ t → ⊥) → sameText s t ≡ false
+not-same : (s t : List ℕ) → (s ≡ t → ⊥) → sameText s t ≡ false
 unfolding sameText
 not-same [] [] n = absurd (n refl)
 not-same [] (y ∷ t) n = refl

@@ -1,9 +1,6 @@
 // What the Rust's types.rs answers: lines of a call's letter, its input, its answer and how many bytes remain, in hexadecimal
 // digits, "-" for nothing, and "- -" where it refuses.
-ghost use Prim.Native.Nat.{_≤_};
-ghost use lib.ListN.{length};
 use casefile::fields::field;
-use casefile::file;
 use casefile::lines::Line;
 use casefile::lines::shown;
 use casefile::words;
@@ -12,36 +9,24 @@ use types::Key;
 use types::Nwk;
 use types::PanId;
 
-// An answer: up to 16 bytes, and how many bytes of the input remain. No bytes where the port refuses.
-struct Answer {
-    bytes: [u8; 16],
-    n: usize,
-    rest: usize,
+// Whether there is a call of this letter, and it takes so many bytes: a number has two, an address eight, a key sixteen.
+fn takes(call: u8, n: usize) -> bool {
+    match call {
+        b'N' | b'P' | b'E' | b'K' => true,
+        b'n' | b'a' | b'p' => n == 2,
+        b'e' | b'd' | b'w' => n == 8,
+        b'k' | b'b' => n == 16,
+        _ => false,
+    }
 }
 
-// An answer of these bytes.
-fn made_of(s: &[u8], rest: usize) -> Answer
-    requires { ⌜ length (now s) ≤ 16 ⌝ }
-{
-    let mut bytes = [0u8; 16];
-    octets::copy_at(&mut bytes, 0, s);
-    let n = s.len();
-    Answer { bytes, n, rest }
-}
-
-// A 16-bit number as its two digits, most significant first.
-fn number(x: u16, rest: usize) -> Answer {
-    let b = [(x / 256) as u8, (x % 256) as u8];
-    made_of(&b, rest)
-}
-
-// What remains of n bytes behind the first used.
-fn remains(n: usize, used: usize) -> usize {
-    if used <= n { n - used } else { 0 }
+// A number as its two digits, most significant first.
+fn digits(x: u16) -> [u8; 2] {
+    [(x / 256) as u8, (x % 256) as u8]
 }
 
 // The number that two digits give, most significant first.
-fn number_of(s: &[u8]) -> u16 {
+fn number(s: &[u8]) -> u16 {
     let b = [octets::byte_at(s, 1), octets::byte_at(s, 0)];
     octets::read_u16(&b, 0)
 }
@@ -64,126 +49,92 @@ fn sixteen(s: &[u8]) -> [u8; 16] {
     b
 }
 
-// The answer where a call refuses.
-fn refused() -> Answer {
-    made_of(&[], 0)
+// Whether the bytes given are the case's, and so many of the input remain.
+fn same(given: &[u8], remain: usize, bytes: &[u8], rest: &[u8]) -> bool {
+    let said = octets::wide(octets::byte_at(rest, 0)) as usize;
+    rest.len() == 1 && said == remain && check::same(given, bytes)
 }
 
-fn nwk_deserialize(s: &[u8]) -> Answer {
-    let r = Nwk::deserialize(s);
-    if r.used == 0 {
-        return refused();
-    }
-    number(r.nwk.0, remains(s.len(), r.used))
-}
-
-fn pan_id_deserialize(s: &[u8]) -> Answer {
-    let r = PanId::deserialize(s);
-    if r.used == 0 {
-        return refused();
-    }
-    number(r.pan_id.0, remains(s.len(), r.used))
-}
-
-fn eui64_deserialize(s: &[u8]) -> Answer {
-    let r = Eui64::deserialize(s);
-    if r.used == 0 {
-        return refused();
-    }
-    let b = r.eui64.to_bytes();
-    made_of(&b, remains(s.len(), r.used))
-}
-
-fn key_from_bytes(s: &[u8]) -> Answer {
-    let r = Key::from_bytes(s);
-    if r.used == 0 {
-        return refused();
-    }
-    let b = r.key.to_bytes();
-    made_of(&b, remains(s.len(), r.used))
-}
-
-fn nwk_to_bytes(s: &[u8]) -> Answer {
-    let b = Nwk(number_of(s)).to_bytes();
-    made_of(&b, 0)
-}
-
-fn pan_id_to_bytes(s: &[u8]) -> Answer {
-    let b = PanId(number_of(s)).to_bytes();
-    made_of(&b, 0)
-}
-
-fn eui64_to_bytes(s: &[u8]) -> Answer {
-    let b = Eui64(eight(s)).to_bytes();
-    made_of(&b, 0)
-}
-
-fn eui64_to_be_bytes(s: &[u8]) -> Answer {
-    let b = Eui64(eight(s)).to_be_bytes();
-    made_of(&b, 0)
-}
-
-fn eui64_from_be_bytes(s: &[u8]) -> Answer {
-    let e = Eui64::from_be_bytes(eight(s));
-    let b = e.to_bytes();
-    made_of(&b, 0)
-}
-
-fn key_from_string(s: &[u8]) -> Answer {
-    let k = Key::from_string(sixteen(s));
-    let b = k.to_bytes();
-    made_of(&b, 0)
-}
-
-fn key_to_bytes(s: &[u8]) -> Answer {
-    let b = Key(sixteen(s)).to_bytes();
-    made_of(&b, 0)
-}
-
-// Whether there is a call of this letter, and it takes so many bytes: a number has two, an address eight, a key sixteen.
-fn takes(call: u8, n: usize) -> bool {
-    match call {
-        b'N' | b'P' | b'E' | b'K' => true,
-        b'n' | b'a' | b'p' => n == 2,
-        b'e' | b'd' | b'w' => n == 8,
-        b'k' | b'b' => n == 16,
-        _ => false,
-    }
-}
-
-// The call of that letter on the input s.
-fn replay(call: u8, s: &[u8]) -> Answer {
-    match call {
-        b'N' => nwk_deserialize(s),
-        b'n' => nwk_to_bytes(s),
-        b'a' => number(Nwk(number_of(s)).as_u16(), 0),
-        b'P' => pan_id_deserialize(s),
-        b'p' => pan_id_to_bytes(s),
-        b'E' => eui64_deserialize(s),
-        b'e' => eui64_to_bytes(s),
-        b'd' => eui64_to_be_bytes(s),
-        b'w' => eui64_from_be_bytes(s),
-        b'K' => key_from_bytes(s),
-        b'k' => key_from_string(s),
-        b'b' => key_to_bytes(s),
-        _ => refused(),
-    }
-}
-
-// Whether the answer is the case's: its bytes, and what remains unless it is refused.
-fn agrees(a: Answer, bytes: &[u8], rest: &[u8]) -> bool {
-    if a.n == 0 {
+// The same for a call that reads `used` bytes of n, or refuses where it uses none.
+fn same_read(given: &[u8], used: usize, n: usize, bytes: &[u8], rest: &[u8]) -> bool {
+    if used == 0 {
         return bytes.len() == 0 && rest.len() == 0;
     }
-    if rest.len() != 1 {
+    if n < used {
         return false;
     }
-    if a.rest != octets::wide(rest[0]) as usize {
-        return false;
+    same(given, n - used, bytes, rest)
+}
+
+// The calls that read bytes.
+fn reads(call: u8, s: &[u8], bytes: &[u8], rest: &[u8]) -> bool {
+    match call {
+        b'N' => {
+            let r = Nwk::deserialize(s);
+            let b = digits(r.nwk.0);
+            same_read(&b, r.used, s.len(), bytes, rest)
+        }
+        b'P' => {
+            let r = PanId::deserialize(s);
+            let b = digits(r.pan_id.0);
+            same_read(&b, r.used, s.len(), bytes, rest)
+        }
+        b'E' => {
+            let r = Eui64::deserialize(s);
+            let b = r.eui64.to_bytes();
+            same_read(&b, r.used, s.len(), bytes, rest)
+        }
+        _ => {
+            let r = Key::from_bytes(s);
+            let b = r.key.to_bytes();
+            same_read(&b, r.used, s.len(), bytes, rest)
+        }
     }
-    let places = a.bytes;
-    let n = file::within(a.n, &places);
-    check::same(&places[..n], bytes)
+}
+
+// The calls on numbers.
+fn of_number(call: u8, x: u16) -> [u8; 2] {
+    match call {
+        b'n' => Nwk(x).to_bytes(),
+        b'a' => digits(Nwk(x).as_u16()),
+        _ => PanId(x).to_bytes(),
+    }
+}
+
+// The calls on addresses.
+fn of_address(call: u8, x: [u8; 8]) -> [u8; 8] {
+    match call {
+        b'e' => Eui64(x).to_bytes(),
+        b'd' => Eui64(x).to_be_bytes(),
+        _ => Eui64::from_be_bytes(x).to_bytes(),
+    }
+}
+
+// The calls on keys.
+fn of_key(call: u8, x: [u8; 16]) -> [u8; 16] {
+    match call {
+        b'k' => Key::from_string(x).to_bytes(),
+        _ => Key(x).to_bytes(),
+    }
+}
+
+// Whether the call of that letter on the input s answers so.
+fn answers(call: u8, s: &[u8], bytes: &[u8], rest: &[u8]) -> bool {
+    match call {
+        b'n' | b'a' | b'p' => {
+            let b = of_number(call, number(s));
+            same(&b, 0, bytes, rest)
+        }
+        b'e' | b'd' | b'w' => {
+            let b = of_address(call, eight(s));
+            same(&b, 0, bytes, rest)
+        }
+        b'k' | b'b' => {
+            let b = of_key(call, sixteen(s));
+            same(&b, 0, bytes, rest)
+        }
+        _ => reads(call, s, bytes, rest),
+    }
 }
 
 // What one line shows.
@@ -199,8 +150,5 @@ pub fn check_line(line: &[u8]) -> Line {
     let k = r.n;
     let call = words::letter(line);
     let good = words::is_last(line, 3) && i.good && b.good && r.good && takes(call, m);
-    shown(
-        good,
-        agrees(replay(call, &input[..m]), &bytes[..n], &rest[..k]),
-    )
+    shown(good, answers(call, &input[..m], &bytes[..n], &rest[..k]))
 }

@@ -35,65 +35,44 @@ fn fixed_parts(line: &[u8]) -> Fixed {
     }
 }
 
-// An entry that passes: the payload seals to the ciphertext and the MIC.
-fn seals(f: Fixed, auth: &[u8], payload: &[u8], ciphertext: &[u8]) -> bool {
-    let key = f.key;
-    let nonce = f.nonce;
-    let expected = f.mic;
-    let mut out = [FILLER; 160];
-    let s = ccm::encrypt_ccm(key, nonce, auth, payload, &mut out);
-    let mic = s.mic;
-    if s.refusal != 0 {
-        return false;
+// Whether a MIC is the expected one, and 0 beside a refusal.
+fn is_mic(given: [u8; 4], refusal: usize, expected: [u8; 4]) -> bool {
+    if refusal == 0 {
+        return check::same(&given, &expected);
     }
-    if s.length != ciphertext.len() {
-        return false;
-    }
-    if !check::same(&mic, &expected) {
-        return false;
-    }
-    outputs::holds(&out, ciphertext)
+    check::same(&given, &[0u8; 4])
 }
 
-// An entry that passes: the ciphertext opens to the payload.
-fn opens(f: Fixed, auth: &[u8], payload: &[u8], ciphertext: &[u8]) -> bool {
-    let key = f.key;
-    let nonce = f.nonce;
-    let mic = f.mic;
-    let mut out = [FILLER; 160];
-    let o = ccm::decrypt_ccm(key, nonce, auth, ciphertext, mic, &mut out);
-    if o.refusal != 0 {
-        return false;
-    }
-    if o.length != payload.len() {
-        return false;
-    }
-    outputs::holds(&out, payload)
-}
-
-// Whether sealing to an output of the room given is refused by the number, and leaves the output as it was.
-fn seal_refused(
+// Whether sealing to an output of the room given leaves the number, the MIC and the ciphertext, and the rest as it was.
+fn seals(
     f: Fixed,
     auth: &[u8],
     payload: &[u8],
     room: usize,
     refusal: usize,
+    ciphertext: &[u8],
     out: &mut [u8],
 ) -> bool {
     let key = f.key;
     let nonce = f.nonce;
+    let expected = f.mic;
     let k = file::within(room, out);
     let s = ccm::encrypt_ccm(key, nonce, auth, payload, &mut out[..k]);
-    s.refusal as usize == refusal && s.length == 0 && outputs::untouched(out)
+    let mic = s.mic;
+    if !is_mic(mic, refusal, expected) {
+        return false;
+    }
+    s.refusal as usize == refusal && s.length == ciphertext.len() && outputs::holds(out, ciphertext)
 }
 
-// The same for opening.
-fn open_refused(
+// The same for opening, with the payload.
+fn opens(
     f: Fixed,
     auth: &[u8],
     ciphertext: &[u8],
     room: usize,
     refusal: usize,
+    payload: &[u8],
     out: &mut [u8],
 ) -> bool {
     let key = f.key;
@@ -101,27 +80,29 @@ fn open_refused(
     let mic = f.mic;
     let k = file::within(room, out);
     let o = ccm::decrypt_ccm(key, nonce, auth, ciphertext, mic, &mut out[..k]);
-    o.refusal as usize == refusal && o.length == 0 && outputs::untouched(out)
+    o.refusal as usize == refusal && o.length == payload.len() && outputs::holds(out, payload)
 }
 
 // An entry to pass.
 fn check_pass(line: &[u8], f: Fixed, auth: &[u8], ciphertext: &[u8]) -> Line {
     let mut payload = [0u8; 160];
+    let mut first = [FILLER; 160];
+    let mut second = [FILLER; 160];
     let p = field(line, 3, &mut payload);
     let n = p.n;
-    let sealed = seals(f, auth, &payload[..n], ciphertext);
-    let opened = opens(f, auth, &payload[..n], ciphertext);
+    let sealed = seals(f, auth, &payload[..n], 160, 0, ciphertext, &mut first);
+    let opened = opens(f, auth, ciphertext, 160, 0, &payload[..n], &mut second);
     shown(p.good, sealed && opened)
 }
 
 // An entry to fail.
 fn check_fail(line: &[u8], f: Fixed, auth: &[u8], ciphertext: &[u8]) -> Line {
     let mut out = [FILLER; 160];
-    let refused = open_refused(f, auth, ciphertext, 160, 19, &mut out);
+    let refused = opens(f, auth, ciphertext, 160, 19, b"", &mut out);
     shown(words::is(line, 3, b"?"), refused)
 }
 
-// Whether sealing and opening to an output of the room given are refused by the number.
+// Whether sealing and opening to an output of the room given are both refused by the number.
 fn refused_in(
     f: Fixed,
     auth: &[u8],
@@ -131,8 +112,8 @@ fn refused_in(
     refusal: usize,
 ) -> bool {
     let mut out = [FILLER; 160];
-    let sealing = seal_refused(f, auth, payload, room, refusal, &mut out);
-    let opening = open_refused(f, auth, ciphertext, room, refusal, &mut out);
+    let sealing = seals(f, auth, payload, room, refusal, b"", &mut out);
+    let opening = opens(f, auth, ciphertext, room, refusal, b"", &mut out);
     sealing && opening
 }
 

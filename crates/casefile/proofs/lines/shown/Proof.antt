@@ -1,5 +1,4 @@
 -- `casefile::lines::shown` meets its contract, by its tests. Assumes nothing.
-use borrow.Author.Needs.{needs}
 use borrow.Author.Tests.{not-true, not-false}
 use Rattle.casefile.proofs.lines.shown.Statement.{statement}
 use Rattle.casefile.proofs.lines.shown.Tie as tie
