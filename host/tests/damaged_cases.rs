@@ -87,11 +87,12 @@ impl File {
         damaged
     }
 
-    /// The words that a case of this file gives as its answer.
+    /// The words that a case of this file gives as its answer. An entry that fails with one ciphertext fails with another.
     fn answers(&self, words: &[&str]) -> &'static [usize] {
         match (self.name, words[0]) {
             ("aes128_ecb.txt", _) => &[2],
             ("ccm_13_4.txt" | "ccm_limits.txt", _) if words[6] == "pass" => &[3, 4, 5],
+            ("ccm_13_4.txt" | "ccm_limits.txt", _) => &[],
             ("types_rs.txt", _) => &[2, 3],
             (_, "header" | "aux" | "frame") => &[2, 3],
             (_, "fields" | "aux-fields") => &[2],
@@ -99,7 +100,7 @@ impl File {
             (_, "seal") => &[6, 7],
             (_, "open") => &[4, 5, 6],
             (_, "split") => &[2, 3, 4],
-            _ => &[],
+            (_, kind) => panic!("{}: no answers are known for {kind}", self.name),
         }
     }
 }
