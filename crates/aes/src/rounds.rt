@@ -1,12 +1,12 @@
 // The transformations of the state (FIPS 197, 5.1.1 to 5.1.4), and a round of them.
 ghost use mathlib.Core.Path.{_≡_};
-ghost use Rattle.field.specs.SBox.{sBox};
+ghost use Rattle.field.specs.SBox.{sBoxTable};
 ghost use Rattle.aes.specs.Rounds.{subBytes, shiftRows, mixColumn, mixColumns, addRoundKey};
 use crate::words;
 
 // SubBytes (FIPS 197, 5.1.1): the S-box at each byte.
 fn sub_bytes(table: &[u8; 256], s: [[u8; 4]; 4]) -> [[u8; 4]; 4]
-    requires { ⌜ now table ≡ sBox ⌝ }
+    requires { ⌜ now table ≡ sBoxTable ⌝ }
     ensures { λ r. ⌜ r ≡ subBytes s ⌝ }
 {
     [
@@ -67,7 +67,7 @@ pub fn add_round_key(s: [[u8; 4]; 4], k: [[u8; 4]; 4]) -> [[u8; 4]; 4]
 
 // A round but the last (FIPS 197, 5.1).
 pub fn round(table: &[u8; 256], s: [[u8; 4]; 4], k: [[u8; 4]; 4]) -> [[u8; 4]; 4]
-    requires { ⌜ now table ≡ sBox ⌝ }
+    requires { ⌜ now table ≡ sBoxTable ⌝ }
     ensures { λ r. ⌜ r ≡ addRoundKey (mixColumns (shiftRows (subBytes s))) k ⌝ }
 {
     add_round_key(mix_columns(shift_rows(sub_bytes(table, s))), k)
@@ -75,7 +75,7 @@ pub fn round(table: &[u8; 256], s: [[u8; 4]; 4], k: [[u8; 4]; 4]) -> [[u8; 4]; 4
 
 // The last round, which leaves the columns unmixed (FIPS 197, 5.1).
 pub fn last_round(table: &[u8; 256], s: [[u8; 4]; 4], k: [[u8; 4]; 4]) -> [[u8; 4]; 4]
-    requires { ⌜ now table ≡ sBox ⌝ }
+    requires { ⌜ now table ≡ sBoxTable ⌝ }
     ensures { λ r. ⌜ r ≡ addRoundKey (shiftRows (subBytes s)) k ⌝ }
 {
     add_round_key(shift_rows(sub_bytes(table, s)), k)

@@ -1,7 +1,7 @@
 // Words of four bytes, and the words of the key schedule (FIPS 197, 5.2).
 ghost use mathlib.Core.Path.{_≡_};
 ghost use Prim.Native.Nat.{_+_, _*_, _≤_, _<_};
-ghost use Rattle.field.specs.SBox.{valuesFrom, sBox};
+ghost use Rattle.field.specs.SBox.{valuesFrom, sBoxTable};
 ghost use Rattle.aes.specs.Words.{xorWord, subWord, rotWord, powerOfX, rcon};
 ghost use Rattle.aes.specs.KeyExpansion.{nextWord};
 
@@ -14,7 +14,7 @@ pub fn xor_word(a: [u8; 4], b: [u8; 4]) -> [u8; 4]
 
 // SubWord: the S-box at each byte of a word.
 pub fn sub_word(table: &[u8; 256], w: [u8; 4]) -> [u8; 4]
-    requires { ⌜ now table ≡ sBox ⌝ }
+    requires { ⌜ now table ≡ sBoxTable ⌝ }
     ensures { λ r. ⌜ r ≡ subWord w ⌝ }
 {
     [
@@ -50,7 +50,7 @@ fn round_constant(i: usize) -> [u8; 4]
 
 // The body of KeyExpansion's loop for four words: the round key n + 1 of the round key n (FIPS 197, 5.2).
 pub fn next_round_key(table: &[u8; 256], w: [[u8; 4]; 4], n: usize) -> [[u8; 4]; 4]
-    requires { ⌜ (now table ≡ sBox) × (n < 10) ⌝ }
+    requires { ⌜ (now table ≡ sBoxTable) × (n < 10) ⌝ }
     ensures { λ r. ⌜ r ≡ nextWord (4 * n + 3) (nextWord (4 * n + 2) (nextWord (4 * n + 1) (nextWord (4 * n) w))) ⌝ }
 {
     let temp = xor_word(sub_word(table, rot_word(w[3])), round_constant(n + 1));

@@ -32,5 +32,5 @@ valuesFrom f k zero = []
 valuesFrom f k (suc n) = f k ∷ valuesFrom f (suc k) n
 
 -- Figure 7: what each of the 256 bytes is substituted by
-unfoldable pub sBox : List ℕ
-sBox = valuesFrom sbox 0 256
+unfoldable pub sBoxTable : List ℕ
+sBoxTable = valuesFrom sbox 0 256

@@ -1,18 +1,18 @@
 // The field GF(2^8) of FIPS 197: the S-box as a table, and the small multiples that MixColumns takes.
 ghost use mathlib.Core.Path.{_≡_};
 ghost use Rattle.field.specs.Field.{product};
-ghost use Rattle.field.specs.SBox.{sbox, sBox};
+ghost use Rattle.field.specs.SBox.{sbox, sBoxTable};
 
 // The S-box, for a caller to hold once and lend to each substitution (FIPS 197, 5.1.1).
 pub fn s_box() -> [u8; 256]
-    ensures { λ r. ⌜ r ≡ sBox ⌝ }
+    ensures { λ r. ⌜ r ≡ sBoxTable ⌝ }
 {
     S_BOX
 }
 
 // What the byte `x` is substituted by, looked up in the S-box (FIPS 197, 5.1.1).
 pub fn substitute(table: &[u8; 256], x: u8) -> u8
-    requires { ⌜ now table ≡ sBox ⌝ }
+    requires { ⌜ now table ≡ sBoxTable ⌝ }
     ensures { λ r. ⌜ r ≡ sbox x ⌝ }
 {
     table[x as usize]

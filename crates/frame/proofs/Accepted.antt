@@ -18,7 +18,7 @@ use Rattle.header.proofs.ControlFields.{or-false}
 use Rattle.frame.specs.declared.OptionAuxHeader.{OptionAuxHeader}
 use Rattle.frame.specs.declared.FrameRead.{FrameRead}
 use Rattle.frame.specs.Reading.{frameRefused, frameGiven, frameNumber, frameBy}
-use Rattle.frame.specs.Security.{isAbsent, auxOf, noIeee}
+use Rattle.frame.specs.Security.{isAbsent, orBlank, noIeee}
 use Rattle.frame.specs.Writing.{frameBytes, frameWriteRefusal}
 use Rattle.frame.specs.Sealing.{sealedLength, lengthRefusals, sealRefusal}
 use Rattle.frame.specs.Opening.{behind, verified, openRefusals, openRefusal, openRefused, Run, openGiven, openNothing, openBy}
@@ -28,23 +28,23 @@ use Rattle.frame.specs.Opening.{behind, verified, openRefusals, openRefu
 pub record Sealable (t : ℕ) (h : NwkHeader) (a : OptionAuxHeader) (p : List ℕ) (room : ℕ) : Type 0 where
   pub good : badHeader h ≡ false
   pub present : isAbsent a ≡ false
-  pub ieee : noIeee h (auxOf a) ≡ false
+  pub ieee : noIeee h (orBlank a) ≡ false
   pub payload : length p ≤ 108
-  pub whole : sealedLength t h (auxOf a) p ≤ 118
-  pub fits : sealedLength t h (auxOf a) p ≤ room
+  pub whole : sealedLength t h (orBlank a) p ≤ 118
+  pub fits : sealedLength t h (orBlank a) p ≤ room
 
 pub sealable : (t : ℕ) (h : NwkHeader) (a : OptionAuxHeader) (p : List ℕ) (room : ℕ) → sealRefusal t h a p room ≡ 0 → Sealable t h a p room
 unfolding sealRefusal lengthRefusals fieldRefusal
 sealable t h a p room e =
     let n = none _ e in
-    let long = or-false (ltb 108 (length p)) (ltb 118 (sealedLength t h (auxOf a) p)) (n .1 .1 .1 .0) in
+    let long = or-false (ltb 108 (length p)) (ltb 118 (sealedLength t h (orBlank a) p)) (n .1 .1 .1 .0) in
     record {
       good = none _ (n .0) .0;
       present = n .1 .0;
       ieee = n .1 .1 .0;
       payload = ltb-false 108 (length p) (long .0);
-      whole = ltb-false 118 (sealedLength t h (auxOf a) p) (long .1);
-      fits = ltb-false room (sealedLength t h (auxOf a) p) (n .1 .1 .1 .1 .0);
+      whole = ltb-false 118 (sealedLength t h (orBlank a) p) (long .1);
+      fits = ltb-false room (sealedLength t h (orBlank a) p) (n .1 .1 .1 .1 .0);
     }
 
 pub seal-accepts : (t : ℕ) (h : NwkHeader) (a : OptionAuxHeader) (p : List ℕ) (room : ℕ) → Sealable t h a p room → sealRefusal t h a p room ≡ 0
@@ -55,8 +55,8 @@ seal-accepts t h a p room s =
       s .present,
       s .ieee,
       le-ltb 108 (length p) (s .payload),
-      le-ltb 118 (sealedLength t h (auxOf a) p) (s .whole),
-      le-ltb room (sealedLength t h (auxOf a) p) (s .fits),
+      le-ltb 118 (sealedLength t h (orBlank a) p) (s .whole),
+      le-ltb room (sealedLength t h (orBlank a) p) (s .fits),
     ) refl
 
 -- ---- writing without a key
@@ -96,7 +96,7 @@ open-number l t key f r o =
 pub record Openable (l : NwkSecurityLevel) (t : ℕ) (key f : List ℕ) (r : FrameRead) (room : ℕ) : Type 0 where
   pub read : r .refusal ≡ 0
   pub present : isAbsent (r .aux) ≡ false
-  pub ieee : noIeee (r .header) (auxOf (r .aux)) ≡ false
+  pub ieee : noIeee (r .header) (orBlank (r .aux)) ≡ false
   pub tagged : t ≤ length (behind f r)
   pub fits : length (behind f r) - t ≤ room
   pub valid : verified l t key f r .valid ≡ true

@@ -29,7 +29,7 @@ use Rattle.ccm.proofs.Opening.{length-ciphertext, length-tag, opened-sealed}
 use Rattle.frame.specs.declared.OptionAuxHeader.{OptionAuxHeader}
 use Rattle.frame.specs.declared.FrameRead.{FrameRead}
 use Rattle.frame.specs.Reading.{secured, auxIf, auxBehind, frameRefusal, frameGiven, frameNumber, frameBy, readFrame}
-use Rattle.frame.specs.Security.{sentLevel, atLevel, auxOf, noIeee, nonce, authenticated}
+use Rattle.frame.specs.Security.{sentLevel, atLevel, orBlank, noIeee, nonce, authenticated}
 use Rattle.frame.specs.Sealing.{generated, sealedBytes, sealedLength}
 use Rattle.frame.specs.Opening.{behind, ciphertextOf, micOf, verified, openRefusal, openGiven, openBy}
 use Rattle.frame.proofs.Levels.{level-agrees, level-fits, level-length, level-nonce, level-authenticated, level-ieee}
@@ -121,11 +121,11 @@ module _ (l : NwkSecurityLevel) (t : ℕ) (key : List ℕ) (h : NwkHeader) (x : 
 
     -- ---- opening them
 
-    same-nonce : nonce l (readBack .header) (auxOf (readBack .aux)) ≡ nonce l h x
+    same-nonce : nonce l (readBack .header) (orBlank (readBack .aux)) ≡ nonce l h x
     unfolding readBack
     same-nonce = level-nonce l sentLevel x h (cleared h) (same-cleared h good)
 
-    same-authenticated : authenticated l (readBack .header) (auxOf (readBack .aux)) ≡ authenticated l h x
+    same-authenticated : authenticated l (readBack .header) (orBlank (readBack .aux)) ≡ authenticated l h x
     unfolding readBack
     same-authenticated = level-authenticated l sentLevel x h (cleared h) (same-cleared h good)
 

@@ -27,7 +27,7 @@ use Rattle.ccm.specs.declared.Split.{Split}
 use Rattle.ccm.specs.Verification.{Verified}
 use Rattle.ccm.specs.Operations.{micLength, sealedBy, openedBy, splitMic, givenIf}
 use Rattle.frame.specs.declared.OptionAuxHeader.{OptionAuxHeader}
-use Rattle.frame.specs.Security.{networkLevel, sentLevel, atLevel, isAbsent, auxOf, nonce, authenticated}
+use Rattle.frame.specs.Security.{networkLevel, sentLevel, atLevel, isAbsent, orBlank, nonce, authenticated}
 use Rattle.frame.specs.Sealing.{generated, sealedBytes}
 use Rattle.frame.specs.Opening.{behind, ciphertextOf, micOf, verified, openRefusals, openRefusal, openGiven, openNothing, openBy, openFrame}
 use Rattle.frame.proofs.Levels.{level-length}
@@ -109,7 +109,7 @@ ready number h a part room e =
 -- what opening needs of a frame that was read and has an auxiliary header
 pub open-facts : (f : List ℕ) → Below 256 f → readFrame f .refusal ≡ 0 → isAbsent (readFrame f .aux) ≡ false
     → (badHeader (readFrame f .header) ≡ false)
-    × (length (headerBytes (readFrame f .header)) + length (auxBytes (auxOf (readFrame f .aux))) ≤ 118)
+    × (length (headerBytes (readFrame f .header)) + length (auxBytes (orBlank (readFrame f .aux))) ≤ 118)
     × (length (drop (readFrame f .length) f) ≤ 127)
 open-facts f u e present =
     let s = secured-facts f e present in
@@ -177,7 +177,7 @@ sealed-done key h x y p o o₁ o₂ start n a size sent first en ea second =
 
 -- ---- opening, by what the calls gave
 
-pub verified-is : (key f part : List ℕ) (r : FrameRead) (x : NwkAuxHeader) → x ≡ auxOf (r .aux) → part ≡ drop (r .length) f
+pub verified-is : (key f part : List ℕ) (r : FrameRead) (x : NwkAuxHeader) → x ≡ orBlank (r .aux) → part ≡ drop (r .length) f
     → openedBy 4 key (nonce networkLevel (r .header) x) (authenticated networkLevel (r .header) x) (ciphertextOf 4 part) (micOf 4 part)
     ≡ verified networkLevel 4 key f r
 unfolding verified behind
@@ -186,7 +186,7 @@ verified-is key f part r x ex ep =
 
 pub ready-facts : (f : List ℕ) (r : FrameRead) → Below 256 f → r ≡ readFrame f → r .refusal ≡ 0 → isAbsent (r .aux) ≡ false
     → (badHeader (r .header) ≡ false)
-    × (length (headerBytes (r .header)) + length (auxBytes (auxOf (r .aux))) ≤ 118)
+    × (length (headerBytes (r .header)) + length (auxBytes (orBlank (r .aux))) ≤ 118)
     × (length (drop (r .length) f) ≤ 127)
 ready-facts f r u e read present = rw e (open-facts f u (rw e at read) (rw e at present))
 

@@ -19,7 +19,7 @@ use Rattle.frame.specs.declared.OptionAuxHeader.{OptionAuxHeader}
 use Rattle.frame.specs.declared.FrameRead.{FrameRead}
 use Rattle.frame.specs.declared.FrameOpened.{FrameOpened}
 use Rattle.frame.specs.Reading.{readFrame}
-use Rattle.frame.specs.Security.{networkLevel, auxOf}
+use Rattle.frame.specs.Security.{networkLevel, orBlank}
 use Rattle.frame.specs.Sealing.{sealRefusal, sealedBytes, sealFrame}
 use Rattle.frame.specs.Opening as opening
 use Rattle.frame.specs.Opening.{verified, openRefusal, openRefused, openGiven, openBy, openFrame}
@@ -35,20 +35,20 @@ seal-number key h a p o = written-number _ _ o
 
 -- what sealing leaves that was not refused
 seal-run : (key : List ℕ) (h : NwkHeader) (a : OptionAuxHeader) (p o : List ℕ) → sealRefusal micLength h a p (length o) ≡ 0
-    → sealFrame key h a p o ≡ wrote (sealedBytes networkLevel micLength key h (auxOf a) p) o
+    → sealFrame key h a p o ≡ wrote (sealedBytes networkLevel micLength key h (orBlank a) p) o
 unfolding sealFrame
-seal-run key h a p o e = sym (write-accepted _ _ (sealedBytes networkLevel micLength key h (auxOf a) p) o refl e)
+seal-run key h a p o e = sym (write-accepted _ _ (sealedBytes networkLevel micLength key h (orBlank a) p) o refl e)
 
 pub seal-bytes : (key : List ℕ) (h : NwkHeader) (a : OptionAuxHeader) (p o : List ℕ) → sealRefusal micLength h a p (length o) ≡ 0
-    → bytesWritten (sealFrame key h a p o) ≡ sealedBytes networkLevel micLength key h (auxOf a) p
-seal-bytes key h a p o e = ap bytesWritten (seal-run key h a p o e) ∙ take-over o (sealedBytes networkLevel micLength key h (auxOf a) p)
+    → bytesWritten (sealFrame key h a p o) ≡ sealedBytes networkLevel micLength key h (orBlank a) p
+seal-bytes key h a p o e = ap bytesWritten (seal-run key h a p o e) ∙ take-over o (sealedBytes networkLevel micLength key h (orBlank a) p)
 
 -- the length that sealing gives is within the output
 pub seal-within : (key : List ℕ) (h : NwkHeader) (a : OptionAuxHeader) (p o : List ℕ) → sealFrame key h a p o .answer .length ≤ length o
 unfolding sealFrame
 seal-within key h a p o =
     written-within _ _ o
-    (λ e. rw (sealed-length networkLevel micLength key h (auxOf a) p) (sealable micLength h a p (length o) e .fits))
+    (λ e. rw (sealed-length networkLevel micLength key h (orBlank a) p) (sealable micLength h a p (length o) e .fits))
 
 pub first-half : FirstHalf
 unfolding openFrame
@@ -81,7 +81,7 @@ opened-run key f o w s =
 
 -- sealing afresh what an accepted opening gave
 resealed : (key f out₂ : List ℕ) (h : NwkHeader) (a : OptionAuxHeader) (p : List ℕ) → length out₂ ≡ 118 → Sealable micLength h a p 118
-    → sealedBytes networkLevel micLength key h (auxOf a) p ≡ f → Resealed f (sealFrame key h a p out₂)
+    → sealedBytes networkLevel micLength key h (orBlank a) p ≡ f → Resealed f (sealFrame key h a p out₂)
 resealed key f out₂ h a p size able same =
     let e : sealRefusal micLength h a p (length out₂) ≡ 0 = rw size (seal-accepts micLength h a p 118 able) in
     record {

@@ -25,7 +25,7 @@ use Rattle.ccm.proofs.Opening.{length-payload, sealed-opened}
 use Rattle.frame.specs.declared.OptionAuxHeader.{OptionAuxHeader}
 use Rattle.frame.specs.declared.FrameRead.{FrameRead}
 use Rattle.frame.specs.Reading.{secured, auxIf, auxBehind, frameRefusal, frameRefused, frameGiven, frameNumber, frameBy, readFrame}
-use Rattle.frame.specs.Security.{sentLevel, atLevel, isAbsent, auxOf, nonce, authenticated}
+use Rattle.frame.specs.Security.{sentLevel, atLevel, isAbsent, orBlank, nonce, authenticated}
 use Rattle.frame.specs.Sealing.{generated, sealedBytes, sealedLength}
 use Rattle.frame.specs.Opening.{behind, ciphertextOf, micOf, verified}
 use Rattle.frame.proofs.Accepted.{Sealable, Openable, frame-refusal}
@@ -98,12 +98,12 @@ module _ (l : NwkSecurityLevel) (t : ℕ) (key f : List ℕ) (r : FrameRead) whe
   payload-length = length-payload t _ _ _ _ _ ∙ length-take-le _ (behind f r) (omega arith)
 
   made-again : t ≤ length (behind f r) → verified l t key f r .valid ≡ true
-      → generated l t key (r .header) (auxOf (r .aux)) (verified l t key f r .payload) .ciphertext
-      ++ generated l t key (r .header) (auxOf (r .aux)) (verified l t key f r .payload) .tag ≡ behind f r
+      → generated l t key (r .header) (orBlank (r .aux)) (verified l t key f r .payload) .ciphertext
+      ++ generated l t key (r .header) (orBlank (r .aux)) (verified l t key f r .payload) .tag ≡ behind f r
   unfolding verified generated ciphertextOf micOf
   made-again tagged valid =
       let u : length (drop (length (behind f r) - t) (behind f r)) ≡ t = simp length-drop (omega arith) in
-      let s = sealed-opened t _ (nonce l (r .header) (auxOf (r .aux))) (authenticated l (r .header) (auxOf (r .aux)))
+      let s = sealed-opened t _ (nonce l (r .header) (orBlank (r .aux))) (authenticated l (r .header) (orBlank (r .aux)))
       (take (length (behind f r) - t) (behind f r)) (drop (length (behind f r) - t) (behind f r)) u valid in
       (λ i. s .0 i ++ s .1 i) ∙ take-append-drop (length (behind f r) - t) (behind f r)
 

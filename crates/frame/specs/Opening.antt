@@ -17,7 +17,7 @@ use Rattle.frame.specs.declared.OptionAuxHeader.{OptionAuxHeader}
 use Rattle.frame.specs.declared.FrameRead.{FrameRead}
 use Rattle.frame.specs.declared.FrameOpened.{FrameOpened}
 use Rattle.frame.specs.Reading.{readFrame}
-use Rattle.frame.specs.Security.{networkLevel, isAbsent, auxOf, noIeee, nonce, authenticated}
+use Rattle.frame.specs.Security.{networkLevel, isAbsent, orBlank, noIeee, nonce, authenticated}
 
 -- what is behind the two headers: the ciphertext, and its last t bytes, the MIC
 unfoldable pub behind : List ℕ → FrameRead → List ℕ
@@ -32,7 +32,7 @@ micOf t s = drop (length s - t) s
 -- what CCM makes of them
 unfoldable pub verified : NwkSecurityLevel → ℕ → List ℕ → List ℕ → FrameRead → Verified
 verified l t key f r =
-    openedBy t key (nonce l (r .header) (auxOf (r .aux))) (authenticated l (r .header) (auxOf (r .aux)))
+    openedBy t key (nonce l (r .header) (orBlank (r .aux))) (authenticated l (r .header) (orBlank (r .aux)))
     (ciphertextOf t (behind f r)) (micOf t (behind f r))
 
 -- document 01's numbers 1 to 12 as reading gives them, then 14, 15, 16 and 18, for the bytes behind the headers
@@ -40,7 +40,7 @@ unfoldable pub openRefusals : ℕ → ℕ → NwkHeader → OptionAuxHeader → 
 openRefusals t number h a part room =
     by number
     ∷ on 14 (isAbsent a)
-    ∷ on 15 (noIeee h (auxOf a))
+    ∷ on 15 (noIeee h (orBlank a))
     ∷ on 16 (ltb part t)
     ∷ on 18 (ltb room (part - t))
     ∷ []

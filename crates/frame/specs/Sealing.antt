@@ -15,7 +15,7 @@ use Rattle.header.specs.Writing.{headerBytes, fieldRefusal}
 use Rattle.ccm.specs.Generation.{Generated}
 use Rattle.ccm.specs.Operations.{micLength, sealedBy}
 use Rattle.frame.specs.declared.OptionAuxHeader.{OptionAuxHeader}
-use Rattle.frame.specs.Security.{networkLevel, sentLevel, atLevel, isAbsent, auxOf, noIeee, nonce, authenticated}
+use Rattle.frame.specs.Security.{networkLevel, sentLevel, atLevel, isAbsent, orBlank, noIeee, nonce, authenticated}
 
 -- what CCM makes of the payload p
 unfoldable pub generated : NwkSecurityLevel → ℕ → List ℕ → NwkHeader → NwkAuxHeader → List ℕ → Generated
@@ -42,9 +42,9 @@ unfoldable pub sealRefusal : ℕ → NwkHeader → OptionAuxHeader → List ℕ 
 sealRefusal t h a p room =
     firstOf (by (fieldRefusal h)
     ∷ on 14 (isAbsent a)
-    ∷ on 15 (noIeee h (auxOf a))
-    ∷ lengthRefusals t h (auxOf a) p room)
+    ∷ on 15 (noIeee h (orBlank a))
+    ∷ lengthRefusals t h (orBlank a) p room)
 
 unfoldable pub sealFrame : List ℕ → NwkHeader → OptionAuxHeader → List ℕ → List ℕ → Run
 sealFrame key h a p o =
-    written (sealRefusal micLength h a p (length o)) (sealedBytes networkLevel micLength key h (auxOf a) p) o
+    written (sealRefusal micLength h a p (length o)) (sealedBytes networkLevel micLength key h (orBlank a) p) o

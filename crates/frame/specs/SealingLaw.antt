@@ -10,7 +10,7 @@
 --
 -- `FirstHalf` and `SecondHalf` say this below; proofs/SealingLaw.antt has a value of each. The premises `HeaderFits`,
 -- `AuxFits` and `Below 256` only say what every value of a type has, that each number is within its type's range; the
--- functions of src/ranges.rt promise them of every value.
+-- functions of `header::ranges` and of src/ranges.rt promise them of every value.
 -- Assumes nothing.
 use mathlib.Core.Path.{_≡_}
 use Prim.Native.Nat.{ℕ, _≤_, _/_, _%_}

@@ -37,9 +37,9 @@ isAbsent OptionAuxHeader.Absent = true
 isAbsent (OptionAuxHeader.Present a) = false
 
 -- the auxiliary header that there is, or the blank one
-abbrev pub auxOf : OptionAuxHeader → NwkAuxHeader
-auxOf OptionAuxHeader.Absent = blankAux
-auxOf (OptionAuxHeader.Present a) = a
+abbrev pub orBlank : OptionAuxHeader → NwkAuxHeader
+orBlank OptionAuxHeader.Absent = blankAux
+orBlank (OptionAuxHeader.Present a) = a
 
 -- the nonce's IEEE: the auxiliary one, else the header's source
 abbrev pub ieeeOf : OptionEui64 → OptionEui64 → ℕ

@@ -2,9 +2,10 @@
 use crate::FrameOpened;
 use crate::OptionAuxHeader;
 use crate::opening;
-use crate::ranges;
+use crate::ranges::aux_option_fits;
 use crate::sealing;
 use header::nwk::NwkHeader;
+use header::ranges;
 use octets::Written;
 use types::Key;
 ghost use mathlib.Core.Path.{_≡_};
@@ -32,7 +33,7 @@ pub fn seal_then_open(
     ensures law { λ r. ⌜ (sealFrame (key .0) h aux (now (payload .entry)) (now (frame .entry)) .answer .refusal ≡ 0 → h .«frame_control» .security ≡ true → Agrees h → AuxOptionAgrees aux → length (now (payload .entry)) ≤ length (now (out .entry)) → Reopened h aux (now (payload .entry)) (record { answer = r; out = now (out .exit) })) ⌝ }
 {
     ranges::header_fits(h);
-    ranges::aux_option_fits(aux);
+    aux_option_fits(aux);
     let written = sealing::seal(key, h, aux, payload, frame);
     let n = written.length;
     opening::open(key, &frame[..n], out)

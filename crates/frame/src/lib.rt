@@ -12,7 +12,7 @@ ghost use Prim.Native.Nat.{_+_, _≤_};
 ghost use lib.ListN.{drop};
 ghost use Rattle.frame.specs.Reading.{auxIf, frameRefused, frameRefusal, readFrame, payloadOf};
 ghost use Rattle.frame.specs.Writing.{frameWriteRefusal, writeFrame};
-ghost use Rattle.frame.specs.Security.{isAbsent, auxOf};
+ghost use Rattle.frame.specs.Security.{isAbsent, orBlank};
 
 pub mod law;
 pub mod opening;
@@ -77,7 +77,7 @@ impl OptionAuxHeader {
 
     // The auxiliary header that there is, or the blank one.
     pub fn or_blank(self) -> NwkAuxHeader
-        ensures { λ r. ⌜ r ≡ auxOf self ⌝ }
+        ensures { λ r. ⌜ r ≡ orBlank self ⌝ }
     {
         match self {
             OptionAuxHeader::Absent => NwkAuxHeader::blank(),

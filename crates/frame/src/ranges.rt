@@ -1,103 +1,7 @@
-// What every value has: each number is within its type's range. The sealing law's premises on ranges are exactly these
-// promises.
-use header::auxiliary::NwkAuxHeader;
-use header::nwk::NwkHeader;
-use header::optional::NwkSourceRoute;
-use header::optional::OptionMulticast;
-use types::OptionEui64;
-ghost use Prim.Native.Nat.{_^_};
-ghost use Rattle.octets.specs.Strings.{Below};
-ghost use Rattle.header.specs.Same.{IeeeFits, MulticastFits, RouteFits, HeaderFits, AuxFits};
-ghost use Rattle.frame.specs.SealingLaw.{AuxOptionFits};
+// Support for proofs, as `header::ranges`: what every optional auxiliary header has.
 use crate::OptionAuxHeader;
-
-// The number of a slice's bytes.
-fn count8(s: &[u8]) -> usize {
-    s.len()
-}
-
-// The number of a slice's 16-bit numbers.
-fn count16(s: &[u16]) -> usize {
-    s.len()
-}
-
-// Every byte of a slice is a byte.
-pub fn bytes_fit(f: &[u8])
-    ensures { λ _. ⌜ Below 256 (now (f .entry)) ⌝ }
-{
-    count8(f);
-}
-
-// Every 16-bit number of a slice is one.
-pub fn numbers_fit(f: &[u16])
-    ensures { λ _. ⌜ Below (2 ^ 16) (now (f .entry)) ⌝ }
-{
-    count16(f);
-}
-
-// Every optional long address is within its range.
-pub fn ieee_fits(o: OptionEui64)
-    ensures { λ _. ⌜ IeeeFits o ⌝ }
-{
-    match o {
-        OptionEui64::Absent => {}
-        OptionEui64::Present(x) => {
-            let _y = x;
-        }
-    }
-}
-
-// Every optional multicast control is within its range.
-pub fn multicast_fits(o: OptionMulticast)
-    ensures { λ _. ⌜ MulticastFits o ⌝ }
-{
-    match o {
-        OptionMulticast::Absent => {}
-        OptionMulticast::Present(x) => {
-            let _y = x;
-        }
-    }
-}
-
-// Every optional source route is within its range.
-pub fn route_fits(o: NwkSourceRoute)
-    ensures { λ _. ⌜ RouteFits o ⌝ }
-{
-    match o {
-        NwkSourceRoute::Absent => {}
-        NwkSourceRoute::Present {
-            relay_count,
-            relay_index,
-        } => {
-            let _y = relay_count;
-            let _z = relay_index;
-        }
-    }
-}
-
-// Every header is within its types' ranges.
-pub fn header_fits(h: NwkHeader)
-    ensures { λ _. ⌜ HeaderFits h ⌝ }
-{
-    let destination_ieee = h.destination_ieee;
-    let source_ieee = h.source_ieee;
-    let multicast_control = h.multicast_control;
-    let source_route = h.source_route;
-    let relays = h.relays;
-    ieee_fits(destination_ieee);
-    ieee_fits(source_ieee);
-    multicast_fits(multicast_control);
-    route_fits(source_route);
-    numbers_fit(&relays);
-}
-
-// Every auxiliary header is within its types' ranges.
-pub fn aux_fits(a: NwkAuxHeader)
-    ensures { λ _. ⌜ AuxFits a ⌝ }
-{
-    let extended_source = a.extended_source;
-    ieee_fits(extended_source);
-}
+use header::ranges;
+ghost use Rattle.frame.specs.SealingLaw.{AuxOptionFits};
 
 // Every optional auxiliary header is within its types' ranges.
 pub fn aux_option_fits(o: OptionAuxHeader)
@@ -105,6 +9,6 @@ pub fn aux_option_fits(o: OptionAuxHeader)
 {
     match o {
         OptionAuxHeader::Absent => {}
-        OptionAuxHeader::Present(a) => aux_fits(a),
+        OptionAuxHeader::Present(a) => ranges::aux_fits(a),
     }
 }

@@ -15,8 +15,8 @@ use Rattle.octets.proofs.Fields.{fields-packed, packed-fields, packed-lt}
 use Rattle.header.specs.declared.control.NwkFrameControl.{NwkFrameControl}
 use Rattle.header.specs.declared.auxiliary.NwkSecurityHeaderControlField.{NwkSecurityHeaderControlField}
 use Rattle.octets.specs.Fields.{bit}
-use Rattle.header.specs.Control.{controlSizes, controlValues, controlRecord, controlWord, controlOf}
-use Rattle.header.specs.AuxiliaryControl.{securitySizes, securityValues, securityRecord, securityByte, securityOf}
+use Rattle.header.specs.Control.{controlSizes, controlValues, controlFrom, controlWord, controlOf}
+use Rattle.header.specs.AuxiliaryControl.{securitySizes, securityValues, securityFrom, securityByte, securityOf}
 use Rattle.header.specs.Writing.{badControl}
 use Rattle.header.proofs.Codes.{bit-back, bit-lt, bit-of, type-back, type-lt, type-of, type-declared, discovery-back, discovery-lt, discovery-of, discovery-declared, level-back, level-lt, level-of, keyId-back, keyId-lt, keyId-of}
 
@@ -55,7 +55,7 @@ control-held c e =
       ),
     )
 
-record-back : (c : NwkFrameControl) → controlRecord (controlValues c) ≡ c
+record-back : (c : NwkFrameControl) → controlFrom (controlValues c) ≡ c
 record-back c =
     λ i. record {
       «frame_type» = type-back (c .«frame_type») i;
@@ -73,7 +73,7 @@ record-back c =
 -- reading the word of a record gives the record
 pub control-back : (c : NwkFrameControl) → badControl c ≡ false → controlOf (controlWord c) ≡ c
 unfolding controlOf controlWord
-control-back c e = ap controlRecord (fields-packed controlSizes (controlValues c) (control-held c e)) ∙ record-back c
+control-back c e = ap controlFrom (fields-packed controlSizes (controlValues c) (control-held c e)) ∙ record-back c
 
 pub controlWord-lt : (c : NwkFrameControl) → badControl c ≡ false → controlWord c < 2 ^ 16
 unfolding controlWord bitsOf
@@ -135,7 +135,7 @@ security-held c = (
 pub security-back : (c : NwkSecurityHeaderControlField) → securityOf (securityByte c) ≡ c
 unfolding securityOf securityByte
 security-back c =
-    ap securityRecord (fields-packed securitySizes (securityValues c) (security-held c))
+    ap securityFrom (fields-packed securitySizes (securityValues c) (security-held c))
     ∙ (λ i. record {
       «security_level» = level-back (c .«security_level») i;
       «key_id» = keyId-back (c .«key_id») i;

@@ -23,7 +23,7 @@ use Rattle.header.specs.Optional.{multicastIf, multicastBytes, hasMultic
 use Rattle.types.specs.Optional.{ieeeIf, ieeeBytes, hasIeee}
 use Rattle.octets.specs.Fields.{bit}
 use Rattle.header.specs.Control.{controlWord, controlOf}
-use Rattle.header.specs.Reading.{control, sourceAt, multicastAt, routeAt, relaysAt, headerEnd, headerRefusal, optionalRefusals, relaysOf, headerBy, headerGiven, readHeader}
+use Rattle.header.specs.Reading.{control, sourceAt, multicastAt, routeAt, relaysAnnounced, headerEnd, headerRefusal, optionalRefusals, relaysOf, headerBy, headerGiven, readHeader}
 use Rattle.header.specs.Writing.{fixedBytes, optionalBytes, headerBytes, badControl, badHeader}
 use Rattle.header.specs.Same.{Agrees, SameHeader, cleared, HeaderFits}
 use Rattle.header.proofs.ControlFields.{or-false, control-back, controlWord-lt, word-type, word-discovery}
@@ -178,8 +178,8 @@ module _ (h : NwkHeader) (rest : List ℕ) (fits : HeaderFits h) (agrees : Agree
       (λ i. routeIf (agrees .route i) ((ap (λ (k : ℕ). getD (headerBytes h ++ rest) k 0) (sym (add-zero (routeAt (h .«frame_control»)))) ∙ at-place 0) i) (at-place 1 i))
       ∙ route-back (h .«source_route») (h .relays) rest (fits .route)
 
-  count-read : relaysAt (headerBytes h ++ rest) (h .«frame_control») ≡ relayCount (h .«source_route»)
-  unfolding relaysAt
+  count-read : relaysAnnounced (headerBytes h ++ rest) (h .«frame_control») ≡ relayCount (h .«source_route»)
+  unfolding relaysAnnounced
   count-read =
       sym (route-count (h .«frame_control» .«source_route») _ (getD (headerBytes h ++ rest) (routeAt (h .«frame_control») + 1) 0))
       ∙ ap relayCount route-read

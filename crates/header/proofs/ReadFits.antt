@@ -16,7 +16,7 @@ use Rattle.types.specs.Optional.{ieeeIf}
 use Rattle.header.specs.declared.control.NwkFrameControl.{NwkFrameControl}
 use Rattle.header.specs.declared.auxiliary.NwkSecurityHeaderControlField.{NwkSecurityHeaderControlField}
 use Rattle.header.specs.Optional.{multicastIf, routeIf}
-use Rattle.header.specs.Reading.{sourceAt, multicastAt, routeAt, relaysAt, relaysOf, headerBy}
+use Rattle.header.specs.Reading.{sourceAt, multicastAt, routeAt, relaysAnnounced, relaysOf, headerBy}
 use Rattle.header.specs.Auxiliary.{keySequenceAt, auxBy}
 use Rattle.header.specs.Same.{IeeeFits, MulticastFits, RouteFits, HeaderFits, AuxFits}
 
@@ -56,7 +56,7 @@ read-fits f c u =
       sourceIeee = ieee-fits (c .«extended_source») (leAt 8 f (sourceAt c)) (leAt-lt 8 f (sourceAt c) u);
       multicast = multicast-fits (c .multicast) (getD f (multicastAt c) 0) (u (multicastAt c));
       route = route-fits (c .«source_route») (getD f (routeAt c) 0) (getD f (routeAt c + 1) 0) (u (routeAt c)) (u (routeAt c + 1));
-      relays = tab-below _ 54 (2 ^ 16) (omega arith) (λ i. cond-below (ltb i (relaysAt f c)) _ (2 ^ 16) (omega arith) (leAt-lt 2 f (routeAt c + 2 + 2 * i) u));
+      relays = tab-below _ 54 (2 ^ 16) (omega arith) (λ i. cond-below (ltb i (relaysAnnounced f c)) _ (2 ^ 16) (omega arith) (leAt-lt 2 f (routeAt c + 2 + 2 * i) u));
     }
 
 pub aux-read-fits : (f : List ℕ) (c : NwkSecurityHeaderControlField) → Below 256 f → AuxFits (auxBy f c)

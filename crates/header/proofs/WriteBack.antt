@@ -20,7 +20,7 @@ use Rattle.header.specs.Optional.{multicastIf, multicastBytes, routeIf, 
 use Rattle.types.specs.Optional.{ieeeIf, ieeeBytes}
 use Rattle.octets.specs.Fields.{bit}
 use Rattle.header.specs.Control.{controlWord}
-use Rattle.header.specs.Reading.{control, sourceAt, multicastAt, routeAt, relaysAt, headerEnd, headerRefusal, optionalRefusals, relaysOf, headerBy}
+use Rattle.header.specs.Reading.{control, sourceAt, multicastAt, routeAt, relaysAnnounced, headerEnd, headerRefusal, optionalRefusals, relaysOf, headerBy}
 use Rattle.header.specs.Writing.{fixedBytes, optionalBytes, headerBytes, badHeader}
 use Rattle.header.specs.Same.{Agrees}
 use Rattle.header.proofs.ControlFields.{word-back, control-good}
@@ -64,23 +64,23 @@ few-relays true n r l e p h = omega arith
 few-relays false n r l e p h = omega arith
 
 -- a frame has no room for a 55th relay
-few : (f : List ℕ) → Read f → relaysAt f (control f) ≤ 54
-unfolding headerEnd relaysAt
+few : (f : List ℕ) → Read f → relaysAnnounced f (control f) ≤ 54
+unfolding headerEnd relaysAnnounced
 few f r =
     let p = places f (control f) in
     few-relays (control f .«source_route») (getD f (routeAt (control f)) 0) (routeAt (control f)) (length f) (r .ends) (omega arith) (r .short)
 
 -- a relay below the count is the one at its place
-relay-kept : (f : List ℕ) (c : NwkFrameControl) (i : ℕ) → relaysAt f c ≤ 54 → i < relaysAt f c
+relay-kept : (f : List ℕ) (c : NwkFrameControl) (i : ℕ) → relaysAnnounced f c ≤ 54 → i < relaysAnnounced f c
     → getD (relaysOf f c) i 0 ≡ leAt 2 f (routeAt c + 2 + 2 * i)
 unfolding relaysOf
 relay-kept f c i h l =
     getD-tab _ 54 i 0 (omega arith)
-    ∙ ap (λ (b : Bool). cond b (leAt 2 f (routeAt c + 2 + 2 * i)) 0) (lt-ltb i (relaysAt f c) l)
+    ∙ ap (λ (b : Bool). cond b (leAt 2 f (routeAt c + 2 + 2 * i)) 0) (lt-ltb i (relaysAnnounced f c) l)
 
 pub write-back : (f : List ℕ) → Below 256 f → headerRefusal f ≡ 0
     → headerBytes (headerBy f (control f)) ≡ take (headerEnd f (control f)) f
-unfolding headerBytes optionalBytes headerBy headerEnd routeAt multicastAt sourceAt relaysAt
+unfolding headerBytes optionalBytes headerBy headerEnd routeAt multicastAt sourceAt relaysAnnounced
 write-back f u e =
     let r = header-read f e in
     let c : NwkFrameControl = control f in
@@ -101,7 +101,7 @@ write-back f u e =
 -- ---- a header that was read meets every condition
 
 pub read-good : (f : List ℕ) → headerRefusal f ≡ 0 → badHeader (headerBy f (control f)) ≡ false
-unfolding badHeader headerBy relaysAt
+unfolding badHeader headerBy relaysAnnounced
 read-good f e =
     let n = route-count (control f .«source_route») (getD f (routeAt (control f)) 0) (getD f (routeAt (control f) + 1) 0) in
     rw (control-good (leAt 2 f 0)) (ap (ltb 54) n ∙ le-ltb 54 _ (few f (header-read f e)))

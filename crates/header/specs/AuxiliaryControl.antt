@@ -55,8 +55,8 @@ securityValues c =
     levelCode (c .«security_level») ∷ keyIdCode (c .«key_id») ∷ bit (c .«extended_nonce»)
     ∷ bit (c .«require_verified_frame_counter») ∷ 0 ∷ []
 
-abbrev pub securityRecord : List ℕ → NwkSecurityHeaderControlField
-securityRecord v =
+abbrev pub securityFrom : List ℕ → NwkSecurityHeaderControlField
+securityFrom v =
     record {
       «security_level» = levelOf (getD v 0 0);
       «key_id» = keyIdOf (getD v 1 0);
@@ -70,7 +70,7 @@ securityByte c = packed securitySizes (securityValues c)
 
 -- what a byte says
 unfoldable pub securityOf : ℕ → NwkSecurityHeaderControlField
-securityOf b = securityRecord (fields securitySizes b)
+securityOf b = securityFrom (fields securitySizes b)
 
 -- the field with another level
 unfoldable pub withLevel : NwkSecurityHeaderControlField → NwkSecurityLevel → NwkSecurityHeaderControlField

@@ -47,8 +47,8 @@ controlValues c =
     ∷ bit (c .«extended_source») ∷ bit (c .«end_device_initiator») ∷ c .reserved1 ∷ []
 
 -- the record of ten values
-abbrev pub controlRecord : List ℕ → NwkFrameControl
-controlRecord v =
+abbrev pub controlFrom : List ℕ → NwkFrameControl
+controlFrom v =
     record {
       «frame_type» = typeOf (getD v 0 0);
       «protocol_version» = getD v 1 0;
@@ -68,4 +68,4 @@ controlWord c = packed controlSizes (controlValues c)
 
 -- what 16 bits say
 unfoldable pub controlOf : ℕ → NwkFrameControl
-controlOf w = controlRecord (fields controlSizes w)
+controlOf w = controlFrom (fields controlSizes w)

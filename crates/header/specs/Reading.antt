@@ -35,12 +35,12 @@ unfoldable pub routeAt : NwkFrameControl → ℕ
 routeAt c = multicastAt c + bit (c .multicast)
 
 -- the relays that the frame announces, if it has a source route
-unfoldable pub relaysAt : List ℕ → NwkFrameControl → ℕ
-relaysAt f c = cond (c .«source_route») (getD f (routeAt c) 0) 0
+unfoldable pub relaysAnnounced : List ℕ → NwkFrameControl → ℕ
+relaysAnnounced f c = cond (c .«source_route») (getD f (routeAt c) 0) 0
 
 -- behind the header: a source route has 2 + 2n bytes
 unfoldable pub headerEnd : List ℕ → NwkFrameControl → ℕ
-headerEnd f c = routeAt c + cond (c .«source_route») (2 + 2 * relaysAt f c) 0
+headerEnd f c = routeAt c + cond (c .«source_route») (2 + 2 * relaysAnnounced f c) 0
 
 -- ---- the refusals, document 01's numbers 1 to 8
 
@@ -65,7 +65,7 @@ headerRefusal f =
 
 -- the addresses of the relays, and 0 past their count
 unfoldable pub relaysOf : List ℕ → NwkFrameControl → List ℕ
-relaysOf f c = tab (λ (i : ℕ). cond (ltb i (relaysAt f c)) (leAt 2 f (routeAt c + 2 + 2 * i)) 0) 54
+relaysOf f c = tab (λ (i : ℕ). cond (ltb i (relaysAnnounced f c)) (leAt 2 f (routeAt c + 2 + 2 * i)) 0) 54
 
 unfoldable pub headerBy : List ℕ → NwkFrameControl → NwkHeader
 headerBy f c =

@@ -4,3 +4,4 @@ pub mod auxiliary;
 pub mod control;
 pub mod nwk;
 pub mod optional;
+pub mod ranges;

@@ -18,7 +18,7 @@ ghost use Rattle.octets.specs.Numbers.{le, leAt};
 ghost use Rattle.octets.specs.Refusals.{firstOf};
 ghost use Rattle.header.specs.Optional.{multicastBytes, routeBytes, relayCount};
 ghost use Rattle.types.specs.Optional.{ieeeBytes};
-ghost use Rattle.header.specs.Reading.{optionalRefusals, sourceAt, multicastAt, routeAt, relaysAt, headerEnd, headerRefusal, relaysOf, headerBy, blankHeader, readHeader};
+ghost use Rattle.header.specs.Reading.{optionalRefusals, sourceAt, multicastAt, routeAt, relaysAnnounced, headerEnd, headerRefusal, relaysOf, headerBy, blankHeader, readHeader};
 ghost use Rattle.header.specs.Writing.{headerBytes, badHeader, fieldRefusal, headerWriteRefusal, writeHeader};
 
 // The largest MAC payload, and so the largest NWK frame.
@@ -86,8 +86,8 @@ fn route_at(c: NwkFrameControl) -> usize
 }
 
 // How many relays the frame announces.
-fn relays_at(f: &[u8], c: NwkFrameControl) -> usize
-    ensures { λ r. ⌜ (r ≡ relaysAt (now (f .entry)) c) × (r < 256) ⌝ }
+fn relays_announced(f: &[u8], c: NwkFrameControl) -> usize
+    ensures { λ r. ⌜ (r ≡ relaysAnnounced (now (f .entry)) c) × (r < 256) ⌝ }
 {
     if c.source_route {
         octets::byte_at(f, route_at(c)) as usize
@@ -101,7 +101,7 @@ fn header_end(f: &[u8], c: NwkFrameControl) -> usize
     ensures { λ r. ⌜ r ≡ headerEnd (now (f .entry)) c ⌝ }
 {
     if c.source_route {
-        route_at(c) + (2 + 2 * relays_at(f, c))
+        route_at(c) + (2 + 2 * relays_announced(f, c))
     } else {
         route_at(c)
     }
@@ -150,7 +150,7 @@ fn header_refusal(f: &[u8]) -> u8
 fn relays_of(f: &[u8], c: NwkFrameControl) -> [u16; 54]
     ensures { λ r. ⌜ r ≡ relaysOf (now (f .entry)) c ⌝ }
 {
-    let n = relays_at(f, c);
+    let n = relays_announced(f, c);
     let first = route_at(c) + 2;
     let mut relays = [0u16; 54];
     let mut i = 0;

@@ -56,7 +56,7 @@ sealRecordsRefusal r x p room =
 
 -- the sealed frame
 unfoldable pub sealedRecords : List ℕ → List ℕ → List ℕ → List ℕ → List ℕ
-sealedRecords key r x p = sealedBytes security.networkLevel micLength key (headerOf r) (security.auxOf (optionOf x)) p
+sealedRecords key r x p = sealedBytes security.networkLevel micLength key (headerOf r) (security.orBlank (optionOf x)) p
 
 -- of the two records r and x and the payload p, with o in the output before
 abbrev pub sealAnswer : List ℕ → List ℕ → List ℕ → List ℕ → List ℕ → ℕ

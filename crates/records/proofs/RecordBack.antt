@@ -16,7 +16,7 @@ use Rattle.octets.specs.Numbers.{leAt}
 use Rattle.octets.proofs.Strings.{getD-tab, tab-getD}
 use Rattle.octets.proofs.Numbers.{le-leAt}
 use Rattle.header.specs.Optional.{relayBytes}
-use Rattle.header.specs.Control.{controlValues, controlRecord}
+use Rattle.header.specs.Control.{controlValues, controlFrom}
 use Rattle.header.proofs.Codes.{bit-of, type-of, discovery-of, level-of, keyId-of}
 use Rattle.header.proofs.ControlFields.{or-false}
 use Rattle.header.proofs.Pieces.{byte-read, relay-read}
@@ -48,7 +48,7 @@ header-tests r e =
     let t = or-false (eqb (getD r 0 0) 2) (exceeds headerLimits r) (a .1) in
     record { size = eqb-true (length r) 147 (not-false _ (a .0)); type = t .0; keeps-to = λ i h. keeps headerLimits r i (t .1) h }
 
-control-piece : (r : List ℕ) → HeaderTests r → Piece r 0 10 (controlValues (controlRecord r))
+control-piece : (r : List ℕ) → HeaderTests r → Piece r 0 10 (controlValues (controlFrom r))
 unfolding tab
 control-piece r t =
     let l : 10 ≤ length r = omega (arith, t .size) in

@@ -20,7 +20,7 @@ use Rattle.octets.specs.Fields.{bit}
 use Rattle.header.proofs.Codes.{bit-of}
 use Rattle.header.proofs.Pieces.{byte-read, ieee-has, multicast-has, route-has}
 use Rattle.records.specs.Limits.{exceeds}
-use Rattle.records.specs.Optional.{ieeeValue, ieeeRecord, ieeeAt, multicastValue, multicastRecord, multicastAt, relayIndex, routeRecord, routeAt}
+use Rattle.records.specs.Optional.{ieeeValue, ieeeRecord, ieeeIn, multicastValue, multicastRecord, multicastIn, relayIndex, routeRecord, routeIn}
 use Rattle.records.proofs.Tests.{any-found}
 
 -- ---- pieces of a record
@@ -64,8 +64,8 @@ module _ (r : List ℕ) (b : Below 256 r) (i : ℕ) (small : getD r i 0 ≤ 1) w
   presence-piece : (t : Bool) → t ≡ eqb (getD r i 0) 1 → i < length r → Piece r i 1 (le 1 (bit t))
   presence-piece t e l = ap (λ (s : Bool). le 1 (bit s)) e ∙ ap (le 1) (bit-of (getD r i 0) (omega arith)) ∙ byte-read r i b l
 
-  pub ieee-piece : Blank r i 8 → i + 9 ≤ length r → Piece r i 9 (ieeeRecord (ieeeAt r i))
-  unfolding ieeeRecord ieeeAt
+  pub ieee-piece : Blank r i 8 → i + 9 ≤ length r → Piece r i 9 (ieeeRecord (ieeeIn r i))
+  unfolding ieeeRecord ieeeIn
   ieee-piece z l =
       let x : ℕ = leAt 8 r (i + 1) in
       let t : Bool = eqb (getD r i 0) 1 in
@@ -74,8 +74,8 @@ module _ (r : List ℕ) (b : Below 256 r) (i : ℕ) (small : getD r i 0 ≤ 1) w
       ∙ le-leAt 8 r (i + 1) b (omega arith))
 
 module _ (r : List ℕ) (b : Below 256 r) where
-  pub multicast-piece : getD r 34 0 ≤ 1 → Blank r 34 1 → 36 ≤ length r → Piece r 34 2 (multicastRecord (multicastAt r 34))
-  unfolding multicastRecord multicastAt
+  pub multicast-piece : getD r 34 0 ≤ 1 → Blank r 34 1 → 36 ≤ length r → Piece r 34 2 (multicastRecord (multicastIn r 34))
+  unfolding multicastRecord multicastIn
   multicast-piece small z l =
       let x : ℕ = getD r 35 0 in
       let t : Bool = eqb (getD r 34 0) 1 in
@@ -84,8 +84,8 @@ module _ (r : List ℕ) (b : Below 256 r) where
       (ap (le 1) (present-or-zero (λ (s : Bool). multicastValue (multicastIf s x)) t x refl refl (λ e. z (absent r b 34 small e) 0 (omega arith)))
       ∙ byte-read r 35 b (omega arith))
 
-  pub route-piece : getD r 36 0 ≤ 1 → Blank r 36 2 → 39 ≤ length r → Piece r 36 3 (routeRecord (routeAt r 36))
-  unfolding routeRecord routeAt
+  pub route-piece : getD r 36 0 ≤ 1 → Blank r 36 2 → 39 ≤ length r → Piece r 36 3 (routeRecord (routeIn r 36))
+  unfolding routeRecord routeIn
   route-piece small z l =
       let n : ℕ = getD r 37 0 in
       let k : ℕ = getD r 38 0 in

@@ -18,35 +18,35 @@ use Rattle.header.specs.declared.optional.NwkSourceRoute.{NwkSourceRoute}
 use Rattle.header.specs.declared.control.NwkFrameControl.{NwkFrameControl}
 use Rattle.header.specs.declared.nwk.NwkHeader.{NwkHeader}
 use Rattle.header.specs.declared.auxiliary.NwkAuxHeader.{NwkAuxHeader}
-use Rattle.header.specs.Control.{controlValues, controlRecord}
+use Rattle.header.specs.Control.{controlValues, controlFrom}
 use Rattle.header.specs.Optional.{relayBytes}
 use Rattle.header.specs.Same.{IeeeFits, MulticastFits, RouteFits, HeaderFits, AuxFits}
 use Rattle.header.proofs.Codes.{bit-back, type-back, discovery-back, level-back, keyId-back}
 use Rattle.header.proofs.Pieces.{relay-at}
-use Rattle.records.specs.Optional.{ieeeRecord, ieeeAt, multicastRecord, multicastAt, routeRecord, routeAt}
+use Rattle.records.specs.Optional.{ieeeRecord, ieeeIn, multicastRecord, multicastIn, routeRecord, routeIn}
 use Rattle.records.specs.HeaderRecord.{addressRecord, optionalRecord, headerRecord, relaysFrom, headerOf}
 use Rattle.records.specs.AuxiliaryRecord.{counterRecord, auxRecord, securityAt, auxOf, auxPresent}
 
 -- ---- the optional fields
 
-ieee-written : (o : OptionEui64) (rest : List ℕ) → IeeeFits o → ieeeAt (ieeeRecord o ++ rest) 0 ≡ o
-unfolding ieeeAt ieeeRecord le leAt
+ieee-written : (o : OptionEui64) (rest : List ℕ) → IeeeFits o → ieeeIn (ieeeRecord o ++ rest) 0 ≡ o
+unfolding ieeeIn ieeeRecord le leAt
 ieee-written OptionEui64.Absent rest h = refl
 ieee-written (OptionEui64.Present x) rest h = ap OptionEui64.Present (leAt-le 8 x rest h)
 
-multicast-written : (o : OptionMulticast) (rest : List ℕ) → MulticastFits o → multicastAt (multicastRecord o ++ rest) 0 ≡ o
-unfolding multicastAt multicastRecord le
+multicast-written : (o : OptionMulticast) (rest : List ℕ) → MulticastFits o → multicastIn (multicastRecord o ++ rest) 0 ≡ o
+unfolding multicastIn multicastRecord le
 multicast-written OptionMulticast.Absent rest h = refl
 multicast-written (OptionMulticast.Present x) rest h = ap OptionMulticast.Present (mod-eq-of-lt h)
 
-route-written : (o : NwkSourceRoute) (rest : List ℕ) → RouteFits o → routeAt (routeRecord o ++ rest) 0 ≡ o
-unfolding routeAt routeRecord le
+route-written : (o : NwkSourceRoute) (rest : List ℕ) → RouteFits o → routeIn (routeRecord o ++ rest) 0 ≡ o
+unfolding routeIn routeRecord le
 route-written NwkSourceRoute.Absent rest h = refl
 route-written (NwkSourceRoute.Present n k) rest h = λ i. NwkSourceRoute.Present (mod-eq-of-lt (h .0) i) (mod-eq-of-lt (h .1) i)
 
 -- ---- the frame control
 
-control-back : (c : NwkFrameControl) (rest : List ℕ) → controlRecord (controlValues c ++ rest) ≡ c
+control-back : (c : NwkFrameControl) (rest : List ℕ) → controlFrom (controlValues c ++ rest) ≡ c
 control-back c rest =
     λ i. record {
       «frame_type» = type-back (c .«frame_type») i;
@@ -80,7 +80,7 @@ relays-back p rs i e l b =
 
 -- the header of a header's record, whose relays have their 54 places
 pub header-back : (h : NwkHeader) → HeaderFits h → length (h .relays) ≡ 54 → headerOf (headerRecord h) ≡ h
-unfolding headerOf headerRecord addressRecord optionalRecord ieeeRecord multicastRecord routeRecord ieeeAt multicastAt routeAt le leAt
+unfolding headerOf headerRecord addressRecord optionalRecord ieeeRecord multicastRecord routeRecord ieeeIn multicastIn routeIn le leAt
 header-back h f l =
     let rl = relayBytes 54 (h .relays) in
     let rt = routeRecord (h .«source_route») ++ rl in
@@ -102,7 +102,7 @@ header-back h f l =
 
 -- the auxiliary header of an auxiliary header's record, and its presence
 pub aux-back : (present : Bool) (a : NwkAuxHeader) → AuxFits a → auxOf (auxRecord present a) ≡ a
-unfolding auxOf securityAt auxRecord counterRecord ieeeRecord ieeeAt le leAt
+unfolding auxOf securityAt auxRecord counterRecord ieeeRecord ieeeIn le leAt
 aux-back present a f =
     let c = a .«security_control» in
     λ i. record {

@@ -18,7 +18,7 @@ use Rattle.records.specs.AuxiliaryRecord.{counterRecord, auxRecord}
 use Rattle.records.specs.OpenedRecord.{optionRecord, openedFront, openedRecord}
 use Rattle.frame.specs.declared.OptionAuxHeader.{OptionAuxHeader}
 use Rattle.frame.specs.declared.FrameOpened.{FrameOpened}
-use Rattle.frame.specs.Security.{isAbsent, auxOf}
+use Rattle.frame.specs.Security.{isAbsent, orBlank}
 
 pub length-ieee : (o : OptionEui64) → length (ieeeRecord o) ≡ 9
 unfolding ieeeRecord
@@ -54,7 +54,7 @@ length-aux p a = simp length-counter
 
 pub length-option : (o : OptionAuxHeader) → length (optionRecord o) ≡ 19
 unfolding optionRecord
-length-option o = length-aux (not (isAbsent o)) (auxOf o)
+length-option o = length-aux (not (isAbsent o)) (orBlank o)
 
 pub length-front : (refusal n : ℕ) → length (openedFront refusal n) ≡ 16
 unfolding openedFront

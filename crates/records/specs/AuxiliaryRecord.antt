@@ -13,7 +13,7 @@ use Rattle.header.specs.declared.auxiliary.NwkAuxHeader.{NwkAuxHeader}
 use Rattle.octets.specs.Fields.{bit}
 use Rattle.header.specs.AuxiliaryControl.{levelCode, levelOf, keyIdCode, keyIdOf}
 use Rattle.records.specs.Limits.{exceeds}
-use Rattle.records.specs.Optional.{ieeeRecord, ieeeAt}
+use Rattle.records.specs.Optional.{ieeeRecord, ieeeIn}
 
 abbrev pub auxRecordSize : ℕ
 auxRecordSize = 19
@@ -49,7 +49,7 @@ auxOf r =
     record {
       «security_control» = securityAt r;
       «frame_counter» = leAt 4 r 5;
-      «extended_source» = ieeeAt r 9;
+      «extended_source» = ieeeIn r 9;
       «key_sequence_number» = getD r 18 0;
     }
 

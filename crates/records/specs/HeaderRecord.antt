@@ -11,10 +11,10 @@ use lib.Dec.{eqb}
 use Rattle.octets.specs.Strings.{tab}
 use Rattle.octets.specs.Numbers.{le, leAt}
 use Rattle.header.specs.declared.nwk.NwkHeader.{NwkHeader}
-use Rattle.header.specs.Control.{controlValues, controlRecord}
+use Rattle.header.specs.Control.{controlValues, controlFrom}
 use Rattle.header.specs.Optional.{relayBytes}
 use Rattle.records.specs.Limits.{exceeds}
-use Rattle.records.specs.Optional.{ieeeRecord, ieeeAt, multicastRecord, multicastAt, routeRecord, routeAt}
+use Rattle.records.specs.Optional.{ieeeRecord, ieeeIn, multicastRecord, multicastIn, routeRecord, routeIn}
 
 abbrev pub headerRecordSize : ℕ
 headerRecordSize = 147
@@ -44,15 +44,15 @@ relaysFrom r i = tab (λ (k : ℕ). leAt 2 r (i + 2 * k)) 54
 unfoldable pub headerOf : List ℕ → NwkHeader
 headerOf r =
     record {
-      «frame_control» = controlRecord r;
+      «frame_control» = controlFrom r;
       destination = record { 0 = leAt 2 r 10 };
       source = record { 0 = leAt 2 r 12 };
       radius = getD r 14 0;
       «sequence_number» = getD r 15 0;
-      «destination_ieee» = ieeeAt r 16;
-      «source_ieee» = ieeeAt r 25;
-      «multicast_control» = multicastAt r 34;
-      «source_route» = routeAt r 36;
+      «destination_ieee» = ieeeIn r 16;
+      «source_ieee» = ieeeIn r 25;
+      «multicast_control» = multicastIn r 34;
+      «source_route» = routeIn r 36;
       relays = relaysFrom r 39;
     }
 

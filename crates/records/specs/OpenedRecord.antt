@@ -17,7 +17,7 @@ use Rattle.records.specs.AuxiliaryRecord.{auxRecord, auxOf, auxPresent}
 
 -- the record of an auxiliary header or none, and what a record says
 unfoldable pub optionRecord : OptionAuxHeader → List ℕ
-optionRecord o = auxRecord (not (security.isAbsent o)) (security.auxOf o)
+optionRecord o = auxRecord (not (security.isAbsent o)) (security.orBlank o)
 
 unfoldable pub optionOf : List ℕ → OptionAuxHeader
 optionOf r = auxIf (auxPresent r) (auxOf r)

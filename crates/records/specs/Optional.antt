@@ -23,8 +23,8 @@ unfoldable pub ieeeRecord : OptionEui64 → List ℕ
 ieeeRecord o = le 1 (bit (hasIeee o)) ++ le 8 (ieeeValue o)
 
 -- the address whose presence byte stands at place i
-unfoldable pub ieeeAt : List ℕ → ℕ → OptionEui64
-ieeeAt r i = ieeeIf (eqb (getD r i 0) 1) (leAt 8 r (i + 1))
+unfoldable pub ieeeIn : List ℕ → ℕ → OptionEui64
+ieeeIn r i = ieeeIf (eqb (getD r i 0) 1) (leAt 8 r (i + 1))
 
 -- ---- the multicast control byte: 2 bytes
 
@@ -35,8 +35,8 @@ multicastValue (OptionMulticast.Present x) = x
 unfoldable pub multicastRecord : OptionMulticast → List ℕ
 multicastRecord o = le 1 (bit (hasMulticast o)) ++ le 1 (multicastValue o)
 
-unfoldable pub multicastAt : List ℕ → ℕ → OptionMulticast
-multicastAt r i = multicastIf (eqb (getD r i 0) 1) (getD r (i + 1) 0)
+unfoldable pub multicastIn : List ℕ → ℕ → OptionMulticast
+multicastIn r i = multicastIf (eqb (getD r i 0) 1) (getD r (i + 1) 0)
 
 -- ---- the source route: its count and index, 3 bytes; the relays stand behind it
 
@@ -47,5 +47,5 @@ relayIndex (NwkSourceRoute.Present n i) = i
 unfoldable pub routeRecord : NwkSourceRoute → List ℕ
 routeRecord o = le 1 (bit (hasRoute o)) ++ (le 1 (relayCount o) ++ le 1 (relayIndex o))
 
-unfoldable pub routeAt : List ℕ → ℕ → NwkSourceRoute
-routeAt r i = routeIf (eqb (getD r i 0) 1) (getD r (i + 1) 0) (getD r (i + 2) 0)
+unfoldable pub routeIn : List ℕ → ℕ → NwkSourceRoute
+routeIn r i = routeIf (eqb (getD r i 0) 1) (getD r (i + 1) 0) (getD r (i + 2) 0)

@@ -1,6 +1,6 @@
 // The auxiliary record, 19 bytes.
 use crate::limits::exceeds;
-use crate::optional::ieee_at;
+use crate::optional::ieee_in;
 use crate::optional::put_ieee;
 use header::auxiliary::NwkAuxHeader;
 use header::auxiliary::NwkSecurityHeaderControlField;
@@ -101,7 +101,7 @@ pub fn aux_of(bytes: &[u8]) -> NwkAuxHeader
     NwkAuxHeader {
         security_control: security_of(bytes),
         frame_counter: octets::read_u32(bytes, 5),
-        extended_source: ieee_at(bytes, 9),
+        extended_source: ieee_in(bytes, 9),
         key_sequence_number: octets::byte_at(bytes, 18),
     }
 }

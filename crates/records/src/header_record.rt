@@ -1,11 +1,11 @@
 // The header record, 147 bytes.
 use crate::limits::exceeds;
-use crate::optional::ieee_at;
-use crate::optional::multicast_at;
+use crate::optional::ieee_in;
+use crate::optional::multicast_in;
 use crate::optional::put_ieee;
 use crate::optional::put_multicast;
 use crate::optional::put_route;
-use crate::optional::route_at;
+use crate::optional::route_in;
 use header::control::NwkFrameControl;
 use header::control::NwkFrameType;
 use header::control::NwkRouteDiscovery;
@@ -20,7 +20,7 @@ ghost use mathlib.Core.List.{_++_};
 ghost use Prim.Native.Nat.{_+_, _≤_, _<_};
 ghost use lib.ListN.{length};
 ghost use Rattle.octets.specs.Strings.{over};
-ghost use Rattle.header.specs.Control.{controlValues, controlRecord};
+ghost use Rattle.header.specs.Control.{controlValues, controlFrom};
 ghost use Rattle.header.specs.Optional.{relayBytes};
 ghost use Rattle.records.specs.Optional.{ieeeRecord, multicastRecord, routeRecord};
 ghost use Rattle.records.specs.HeaderRecord.{addressRecord, headerRecord, relaysFrom, headerOf, badHeaderRecord};
@@ -180,7 +180,7 @@ pub fn put_header(out: &mut [u8], h: NwkHeader)
 
 // The frame control that the first ten bytes say.
 fn control_of(bytes: &[u8]) -> NwkFrameControl
-    ensures { λ r. ⌜ r ≡ controlRecord (now (bytes .entry)) ⌝ }
+    ensures { λ r. ⌜ r ≡ controlFrom (now (bytes .entry)) ⌝ }
 {
     NwkFrameControl {
         frame_type: NwkFrameType::from_code(octets::byte_at(bytes, 0) as u16),
@@ -219,10 +219,10 @@ pub fn header_of(bytes: &[u8]) -> NwkHeader
         source: Nwk(octets::read_u16(bytes, 12)),
         radius: octets::byte_at(bytes, 14),
         sequence_number: octets::byte_at(bytes, 15),
-        destination_ieee: ieee_at(bytes, 16),
-        source_ieee: ieee_at(bytes, 25),
-        multicast_control: multicast_at(bytes, 34),
-        source_route: route_at(bytes, 36),
+        destination_ieee: ieee_in(bytes, 16),
+        source_ieee: ieee_in(bytes, 25),
+        multicast_control: multicast_in(bytes, 34),
+        source_route: route_in(bytes, 36),
         relays: relays_of(bytes),
     }
 }

@@ -10,7 +10,7 @@ ghost use Rattle.octets.specs.Strings.{over};
 ghost use Rattle.header.specs.Optional.{hasMulticast, hasRoute};
 ghost use Rattle.types.specs.Optional.{hasIeee};
 ghost use Rattle.octets.specs.Fields.{bit};
-ghost use Rattle.records.specs.Optional.{ieeeValue, ieeeRecord, ieeeAt, multicastValue, multicastRecord, multicastAt, relayIndex, routeRecord, routeAt};
+ghost use Rattle.records.specs.Optional.{ieeeValue, ieeeRecord, ieeeIn, multicastValue, multicastRecord, multicastIn, relayIndex, routeRecord, routeIn};
 
 // Whether the address is present, as a byte.
 fn ieee_presence(o: OptionEui64) -> u8
@@ -42,9 +42,9 @@ pub fn put_ieee(out: &mut [u8], i: usize, o: OptionEui64)
 }
 
 // The optional address at place i.
-pub fn ieee_at(bytes: &[u8], i: usize) -> OptionEui64
+pub fn ieee_in(bytes: &[u8], i: usize) -> OptionEui64
     requires { ⌜ i < 1000 ⌝ }
-    ensures { λ r. ⌜ r ≡ ieeeAt (now (bytes .entry)) i ⌝ }
+    ensures { λ r. ⌜ r ≡ ieeeIn (now (bytes .entry)) i ⌝ }
 {
     OptionEui64::when(
         octets::byte_at(bytes, i) == 1,
@@ -82,9 +82,9 @@ pub fn put_multicast(out: &mut [u8], i: usize, o: OptionMulticast)
 }
 
 // The optional multicast control at place i.
-pub fn multicast_at(bytes: &[u8], i: usize) -> OptionMulticast
+pub fn multicast_in(bytes: &[u8], i: usize) -> OptionMulticast
     requires { ⌜ i < 1000 ⌝ }
-    ensures { λ r. ⌜ r ≡ multicastAt (now (bytes .entry)) i ⌝ }
+    ensures { λ r. ⌜ r ≡ multicastIn (now (bytes .entry)) i ⌝ }
 {
     OptionMulticast::when(
         octets::byte_at(bytes, i) == 1,
@@ -129,9 +129,9 @@ pub fn put_route(out: &mut [u8], i: usize, o: NwkSourceRoute)
 }
 
 // The optional source route at place i.
-pub fn route_at(bytes: &[u8], i: usize) -> NwkSourceRoute
+pub fn route_in(bytes: &[u8], i: usize) -> NwkSourceRoute
     requires { ⌜ i < 1000 ⌝ }
-    ensures { λ r. ⌜ r ≡ routeAt (now (bytes .entry)) i ⌝ }
+    ensures { λ r. ⌜ r ≡ routeIn (now (bytes .entry)) i ⌝ }
 {
     NwkSourceRoute::when(
         octets::byte_at(bytes, i) == 1,

@@ -5,11 +5,13 @@
 ghost use mathlib.Core.Path.{_≡_};
 ghost use Prim.Native.Nat.{_+_, _≤_};
 ghost use lib.ListN.{length};
-ghost use Rattle.octets.specs.Strings.{Below, over};
+ghost use Rattle.octets.specs.Strings.{over};
 ghost use Rattle.octets.specs.Numbers.{le, leAt};
 ghost use Rattle.types.specs.Addresses.{readNwk, readPanId, readEui64, reversed};
 ghost use Rattle.types.specs.Keys.{readKey, keyBytes};
 ghost use Rattle.types.specs.Optional.{ieeeIf, ieeeBytes};
+
+pub mod ranges;
 
 // A 16-bit network address.
 pub struct Nwk(pub u16);
@@ -159,13 +161,6 @@ impl Eui64 {
             bytes[0],
         ])
     }
-
-    // Every address is eight bytes, each below 256: the premises of the laws about addresses.
-    pub fn is_bytes(self) -> bool
-        ensures { λ _. ⌜ (length (self .0) ≡ 8) × Below 256 (self .0) ⌝ }
-    {
-        true
-    }
 }
 
 impl OptionEui64 {
@@ -236,13 +231,6 @@ impl Key {
         ensures { λ r. ⌜ r ≡ self .0 ⌝ }
     {
         self.0
-    }
-
-    // Every key is sixteen bytes, each below 256: the premises of the laws about keys.
-    pub fn is_bytes(self) -> bool
-        ensures { λ _. ⌜ (length (self .0) ≡ 16) × Below 256 (self .0) ⌝ }
-    {
-        true
     }
 
     // The key of two numbers.

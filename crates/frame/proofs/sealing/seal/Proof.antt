@@ -9,7 +9,7 @@ use Rattle.header.specs.declared.auxiliary.NwkAuxHeader.{NwkAuxHeader}
 use Rattle.octets.specs.Strings.{over}
 use Rattle.octets.specs.Writing.{Run}
 use Rattle.octets.proofs.Writing.{write-accepted, write-refused}
-use Rattle.frame.specs.Security.{networkLevel, auxOf}
+use Rattle.frame.specs.Security.{networkLevel, orBlank}
 use Rattle.frame.specs.Sealing.{sealedLength, sealedBytes, sealFrame}
 use Rattle.frame.proofs.Accepted.{sealable}
 use Rattle.frame.proofs.FirstHalf.{sealed-length}
@@ -19,7 +19,7 @@ unfolding sealFrame
 returns c =
     let a = c .before .before .before .before .args in
     let seal-refusal = c .before .seal-refusal in
-    let bs = sealedBytes networkLevel 4 (a .key .0) (a .h) (auxOf (a .aux)) (a .payload .now) in
+    let bs = sealedBytes networkLevel 4 (a .key .0) (a .h) (orBlank (a .aux)) (a .payload .now) in
     let w = write-refused _ _ bs (a .out .now) (seal-refusal .ensures) (c .if1 .taken) in
     (ap (λ (r : Run). r .answer) w, ap (λ (r : Run). r .out) w)
 
@@ -50,10 +50,10 @@ returns-2 c =
     let or-blank = c .before .before .before .before .before .before .or-blank in
     let sealed-length′ = c .before .before .before .before .sealed-length in
     let seal-frame = c .before .before .seal-frame in
-    let bs = sealedBytes networkLevel 4 (a .key .0) (a .h) (auxOf (a .aux)) (a .payload .now) in
+    let bs = sealedBytes networkLevel 4 (a .key .0) (a .h) (orBlank (a .aux)) (a .payload .now) in
     let x = or-blank .ensures in
     let w = write-accepted _ _ bs (a .out .now) (seal-refusal .ensures) (if1 .left) in
-    let size = sealed-length′ .ensures ∙ ap (λ (z : NwkAuxHeader). sealedLength 4 (a .h) z (a .payload .now)) x ∙ sym (sealed-length networkLevel 4 (a .key .0) (a .h) (auxOf (a .aux)) (a .payload .now)) in (
+    let size = sealed-length′ .ensures ∙ ap (λ (z : NwkAuxHeader). sealedLength 4 (a .h) z (a .payload .now)) x ∙ sym (sealed-length networkLevel 4 (a .key .0) (a .h) (orBlank (a .aux)) (a .payload .now)) in (
       (λ i. record { refusal = 0; length = size i }) ∙ ap (λ (r : Run). r .answer) w,
       seal-frame .ensures ∙ ap (λ (z : NwkAuxHeader). over (a .out .now) 0 (sealedBytes networkLevel 4 (a .key .0) (a .h) z (a .payload .now))) x
           ∙ ap (λ (r : Run). r .out) w,

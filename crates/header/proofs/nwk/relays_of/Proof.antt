@@ -63,7 +63,7 @@ unfolding relaysOf
 returns c =
     let l = c .before .loop in
     let done : l .i ≡ 54 = omega arith in
-    let n = c .before .before .before .relays-at .ensures .0 in
+    let n = c .before .before .before .relays-announced .ensures .0 in
     let place = c .before .before .route-at .ensures .0 in
     filled _ (l .i) _ (l .relays) (omega arith) (l .inv .2) ∙ ap (tab _) done
     ∙ (λ j. tab (λ (i : ℕ). cond (ltb i (n j)) (leAt 2 (c .before .before .before .before .before .args .f .now) (place j + 2 + 2 * i)) 0) 54)

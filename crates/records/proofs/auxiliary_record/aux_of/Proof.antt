@@ -10,7 +10,7 @@ returns c =
     λ i. record {
       «security_control» = c .before .before .before .security-of .ensures i;
       «frame_counter» = c .before .before .read-u32 .ensures i;
-      «extended_source» = c .before .ieee-at .ensures i;
+      «extended_source» = c .before .ieee-in .ensures i;
       «key_sequence_number» = c .byte-at .ensures i;
     }
 

@@ -13,10 +13,10 @@ returns c =
       source = record { 0 = c .before .before .before .before .before .before .before .read-u162 .ensures i };
       radius = c .before .before .before .before .before .before .byte-at .ensures i;
       «sequence_number» = c .before .before .before .before .before .byte-at2 .ensures i;
-      «destination_ieee» = c .before .before .before .before .ieee-at .ensures i;
+      «destination_ieee» = c .before .before .before .before .ieee-in .ensures i;
       «source_ieee» = c .before .before .before .ieee-at2 .ensures i;
-      «multicast_control» = c .before .before .multicast-at .ensures i;
-      «source_route» = c .before .route-at .ensures i;
+      «multicast_control» = c .before .before .multicast-in .ensures i;
+      «source_route» = c .before .route-in .ensures i;
       relays = c .relays-of .ensures i;
     }
 

@@ -7,10 +7,10 @@ use Rattle.octets.specs.Strings.{tab}
 use Rattle.octets.specs.Numbers.{leAt}
 use Rattle.octets.specs.Fields.{fields}
 use Rattle.header.specs.Control.{controlOf}
-use Rattle.header.specs.Reading.{blankHeader, headerBy, relaysOf, relaysAt, routeAt, multicastAt, sourceAt}
+use Rattle.header.specs.Reading.{blankHeader, headerBy, relaysOf, relaysAnnounced, routeAt, multicastAt, sourceAt}
 
 returns : tie.Need-returns
-unfolding blankHeader headerBy relaysOf relaysAt routeAt multicastAt sourceAt controlOf fields tab leAt
+unfolding blankHeader headerBy relaysOf relaysAnnounced routeAt multicastAt sourceAt controlOf fields tab leAt
 returns c = rw (c .from-word .ensures) refl
 
 pub blank-spec : {M : Type 1} → statement M

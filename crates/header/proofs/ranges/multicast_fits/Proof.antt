@@ -2,9 +2,9 @@
 use borrow.Author.Needs.{needs}
 use mathlib.Core.Path.{sym, subst}
 use native.Mathlib.Omega.{arith}
-use Rattle.frame.proofs.ranges.multicast_fits.Statement.{statement}
-use Rattle.frame.proofs.ranges.multicast_fits.Tie as tie
+use Rattle.header.proofs.ranges.multicast_fits.Statement.{statement}
+use Rattle.header.proofs.ranges.multicast_fits.Tie as tie
 use Rattle.header.specs.Same.{MulticastFits}
 
 returns : tie.Need-returns
 returns c = subst MulticastFits (sym (c .enum-told .given .1)) tt

@@ -2,9 +2,9 @@
 use borrow.Author.Needs.{needs}
 use mathlib.Core.Path.{sym, subst}
 use native.Mathlib.Omega.{arith}
-use Rattle.frame.proofs.ranges.route_fits.Statement.{statement}
-use Rattle.frame.proofs.ranges.route_fits.Tie as tie
+use Rattle.header.proofs.ranges.route_fits.Statement.{statement}
+use Rattle.header.proofs.ranges.route_fits.Tie as tie
 use Rattle.header.specs.Same.{RouteFits}
 
 returns : tie.Need-returns
 returns c = subst RouteFits (sym (c .enum-told .given .1)) tt
