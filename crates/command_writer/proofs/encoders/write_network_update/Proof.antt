@@ -12,7 +12,7 @@ use Rattle.commands.specs.Format.{partSizes, keptCount, filled, width, writeFie
 use Rattle.commands.specs.Commands.{networkUpdateFormat, networkUpdateValues}
 use Rattle.commands.specs.Reading.{formatOf}
 use Rattle.commands.specs.Writing.{wireBytes}
-use Rattle.command_writer.proofs.Chain.{next}
+use Rattle.commands.proofs.Chain.{next}
 use Rattle.commands.specs.Codes.{updateIdentifierCode}
 use Rattle.commands.proofs.CodeLaws.{updateIdentifier-lt}
 

@@ -13,7 +13,7 @@ use Rattle.commands.specs.Format.{partSizes, keptCount, filled, width, writeFie
 use Rattle.commands.specs.Commands.{routeRecordFormat, routeRecordValues, relayEntry}
 use Rattle.commands.specs.Reading.{formatOf}
 use Rattle.commands.specs.Writing.{wireBytes}
-use Rattle.command_writer.proofs.Chain.{next}
+use Rattle.commands.proofs.Chain.{next}
 
 returns : tie.Need-returns
 unfolding wireBytes bodyBytes formatOf partSizes keptCount filled width writeField writeFields le routeRecordFormat routeRecordValues

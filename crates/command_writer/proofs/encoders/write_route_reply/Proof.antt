@@ -7,7 +7,7 @@ use native.Mathlib.Nat.{zero-add}
 use Rattle.command_writer.proofs.encoders.write_route_reply.Statement.{statement}
 use Rattle.command_writer.proofs.encoders.write_route_reply.Tie as tie
 use Rattle.octets.specs.Strings.{over}
-use Rattle.command_writer.proofs.Chain.{next}
+use Rattle.commands.proofs.Chain.{next}
 use Rattle.command_writer.specs.Reply.{replyHead}
 use Rattle.command_writer.proofs.ReplyBytes.{addressBytes, length-head, responder-at, reply-bytes}
 

@@ -12,7 +12,7 @@ use Rattle.commands.specs.Format.{partSizes, keptCount, filled, width, writeFie
 use Rattle.commands.specs.Commands.{routeRequestFormat, routeRequestValues, has, addressEntry}
 use Rattle.commands.specs.Reading.{formatOf}
 use Rattle.commands.specs.Writing.{wireBytes}
-use Rattle.command_writer.proofs.Chain.{next}
+use Rattle.commands.proofs.Chain.{next}
 use Rattle.commands.specs.Codes.{manyToOneCode}
 use Rattle.commands.proofs.CodeLaws.{manyToOne-lt}
 

@@ -10,7 +10,7 @@ use Rattle.octets.specs.Strings.{over}
 use Rattle.octets.specs.Numbers.{le}
 use Rattle.commands.specs.Format.{partSizes, filled, keptCount, width, writeField, writeFields}
 use Rattle.commands.specs.Commands.{linkStatusFormat, linkEntry}
-use Rattle.command_writer.proofs.Chain.{next}
+use Rattle.commands.proofs.Chain.{next}
 
 returns : tie.Need-returns
 unfolding le partSizes filled keptCount width writeField writeFields linkStatusFormat linkEntry

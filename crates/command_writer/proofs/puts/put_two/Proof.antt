@@ -5,7 +5,7 @@ use mathlib.Core.Path.{refl}
 use mathlib.Core.List.{[], _∷_}
 use Rattle.command_writer.proofs.puts.put_two.Statement.{statement}
 use Rattle.command_writer.proofs.puts.put_two.Tie as tie
-use Rattle.command_writer.proofs.Chain.{next}
+use Rattle.commands.proofs.Chain.{next}
 
 returns : tie.Need-returns
 returns c =

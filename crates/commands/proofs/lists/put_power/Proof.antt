@@ -1,14 +1,14 @@
--- `command_writer::puts::put_power` meets its contract: the address and the delta, one behind the other. Assumes nothing.
+-- `commands::lists::put_power` meets its contract: the address and the delta, one behind the other. Assumes nothing.
 use borrow.Author.Needs.{needs}
 use native.Mathlib.Omega.{arith}
 use mathlib.Core.Path.{refl}
 use mathlib.Core.List.{[], _∷_}
-use Rattle.command_writer.proofs.puts.put_power.Statement.{statement}
-use Rattle.command_writer.proofs.puts.put_power.Tie as tie
+use Rattle.commands.proofs.lists.put_power.Statement.{statement}
+use Rattle.commands.proofs.lists.put_power.Tie as tie
 use Rattle.octets.specs.Numbers.{le}
 use Rattle.commands.specs.Format.{width, writeField, writeFields}
 use Rattle.commands.specs.Commands.{linkPowerDeltaFormat, powerEntry}
-use Rattle.command_writer.proofs.Chain.{next}
+use Rattle.commands.proofs.Chain.{next}
 
 returns : tie.Need-returns
 unfolding le width writeField writeFields linkPowerDeltaFormat powerEntry
