@@ -9,7 +9,7 @@ use Rattle.commands.proofs.lists.put_numbers.Statement.{statement}
 use Rattle.commands.proofs.lists.put_numbers.Tie as tie
 use Rattle.octets.specs.Strings.{over, tab}
 use Rattle.commands.specs.Format.{size, sizes, width, writeField, writeFields, writeEntries}
-use Rattle.commands.proofs.Chain.{entries-none, entries-turn, entries-end}
+use Rattle.commands.proofs.EntriesWritten.{entries-none, entries-turn, entries-end}
 use Rattle.octets.specs.Numbers.{le}
 use Rattle.commands.specs.Commands.{routeRecordFormat, relayEntry}
 

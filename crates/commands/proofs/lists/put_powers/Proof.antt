@@ -8,7 +8,7 @@ use Rattle.commands.proofs.lists.put_powers.Statement.{statement}
 use Rattle.commands.proofs.lists.put_powers.Tie as tie
 use Rattle.octets.specs.Strings.{over, tab}
 use Rattle.commands.specs.Format.{size, sizes, writeEntries}
-use Rattle.commands.proofs.Chain.{entries-none, entries-turn, entries-end}
+use Rattle.commands.proofs.EntriesWritten.{entries-none, entries-turn, entries-end}
 use Rattle.commands.specs.Commands.{linkPowerDeltaFormat, powerEntry, noPower}
 
 abbrev Inv-loop : tie.InvT-loop
