@@ -1,9 +1,9 @@
 -- Two digits more are read, and one byte is stored; the answer at the end.
 -- Assumes nothing.
-use mathlib.Core.Bool.{true, false, and-false}
-use mathlib.Core.Path.{_≡_, ap, _∙_}
+use mathlib.Core.Bool.{Bool, true, false, and-false}
+use mathlib.Core.Path.{_≡_, refl, ap, _∙_}
 use mathlib.Core.List.{List, [], _∷_, _++_, append-assoc, append-nil}
-use Prim.Native.Nat.{ℕ, _+_, _*_, _≤_, _<_}
+use Prim.Native.Nat.{ℕ, zero, suc, _+_, _*_, _≤_, _<_}
 use native.Mathlib.Numerals.{add-one}
 use native.Mathlib.Omega.{arith}
 use borrow.Author.Tests.{lt-ltb, eq-eqb, ne-eqb}
@@ -43,13 +43,20 @@ byte-stored ds out i v h k e =
 
 -- ---- the answer
 
+pub hex-none : (ds : List ℕ) (n : ℕ) → length ds ≡ 0 → isHex ds n ≡ false
+unfolding isHex
+hex-none ds zero h = refl
+hex-none ds (suc n) h = rw (ne-eqb (length ds) (2 * suc n) (λ e. omega arith), and-false)
+
 pub hex-not : (ds : List ℕ) (n : ℕ) → (length ds ≡ 2 * n → ⊥) → isHex ds n ≡ false
 unfolding isHex
-hex-not ds n h = rw (ne-eqb (length ds) (2 * n) h)
+hex-not ds n h = rw (ne-eqb (length ds) (2 * n) h, and-false)
 
-pub hex-digits : (ds : List ℕ) (n : ℕ) → length ds ≡ 2 * n → isHex ds n ≡ allDigits ds
+-- where the digits passed are digits, the answer is that of the pairs left
+pub hex-by : (ds : List ℕ) (n i : ℕ) {b : Bool} → 0 < n → length ds ≡ 2 * n → allDigits ds ≡ allDigits (drop (2 * i) ds) → allDigits (drop (2 * i) ds) ≡ b
+    → isHex ds n ≡ b
 unfolding isHex
-hex-digits ds n h = rw (eq-eqb (length ds) (2 * n) h)
+hex-by ds n i p h e r = rw (lt-ltb 0 n p, eq-eqb (length ds) (2 * n) h) (e ∙ r)
 
 pub digits-end : (ds : List ℕ) (i : ℕ) → length ds ≤ i → allDigits (drop i ds) ≡ true
 unfolding allDigits

@@ -1,23 +1,16 @@
 -- The fields of a line: words of hexadecimal digits, "-" for nothing.
 -- Assumes nothing.
-use mathlib.Core.Bool.{Bool, true, false, cond}
+use mathlib.Core.Bool.{Bool, true, cond}
 use mathlib.Core.List.{List, [], _∷_}
-use Prim.Native.Nat.{ℕ, _-_, _/_, min}
-use lib.Dec.{eqb}
-use lib.ListN.{length, take, drop}
+use Prim.Native.Nat.{ℕ, _/_, min}
+use lib.ListN.{length}
 use Rattle.casefile.specs.declared.fields.FieldRead.{FieldRead}
 use Rattle.casefile.specs.Hex.{hexBytes, isHex}
-use Rattle.casefile.specs.Texts.{wordStart, wordEnd}
-
--- word k of a line
-unfoldable pub wordOf : List ℕ → ℕ → List ℕ
-wordOf line k = take (wordEnd line k - wordStart line k) (drop (wordStart line k) line)
+use Rattle.casefile.specs.Texts.{sameText}
 
 -- whether a word is "-" (0x2d)
-unfoldable pub isDash : List ℕ → Bool
-isDash [] = false
-isDash (b ∷ []) = eqb b 0x2d
-isDash (b ∷ d ∷ w) = false
+abbrev pub isDash : List ℕ → Bool
+isDash w = sameText w (0x2d ∷ [])
 
 -- how many bytes of digits a word is read as, at most as many as there is room for
 abbrev pub fieldCount : List ℕ → ℕ → ℕ

@@ -4,8 +4,8 @@ use mathlib.Core.Bool.{Bool, true, _&&_}
 use mathlib.Core.List.{List, [], _∷_}
 use Prim.Native.Nat.{ℕ}
 use lib.Dec.{eqb}
-use lib.ListN.{length, drop}
-use Rattle.casefile.specs.Texts.{startsWith}
+use lib.ListN.{length, take, drop}
+use Rattle.casefile.specs.Texts.{sameText}
 
 -- whether every byte of s is the filler
 unfoldable pub allFiller : List ℕ → Bool
@@ -14,4 +14,4 @@ allFiller (y ∷ s) = eqb y 0xa5 && allFiller s
 
 -- whether the output starts with the text, and every byte after it is the filler
 unfoldable pub textThenFiller : List ℕ → List ℕ → Bool
-textThenFiller text out = startsWith text out && allFiller (drop (length text) out)
+textThenFiller text out = sameText (take (length text) out) text && allFiller (drop (length text) out)

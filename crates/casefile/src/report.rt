@@ -19,24 +19,14 @@ pub fn of_file(name: &[u8], what: &[u8]) {
     text(b"\n");
 }
 
-// What is wrong with a line: "name, line n (section): what".
-pub fn of_line(name: &[u8], line: u64, section: &[u8], what: &[u8]) {
+// What is wrong with a line: "name, line n: what".
+pub fn of_line(name: &[u8], line: u64, what: &[u8]) {
     text(name);
     text(b", line ");
     number(line);
-    text(b" (");
-    text(section);
-    text(b"): ");
+    text(b": ");
     text(what);
     text(b"\n");
-}
-
-// A case of a table that differs: "table, case i: differs".
-pub fn of_case(table: &[u8], i: u64) {
-    text(table);
-    text(b", case ");
-    number(i);
-    text(b": differs\n");
 }
 
 // How many agree: "name: a of n things agree".

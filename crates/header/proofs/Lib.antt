@@ -6,4 +6,5 @@ pub mod ReadBack
 pub mod WriteBack
 pub mod AuxiliaryLaws
 pub mod Writable
+pub mod ReadFits
 pub mod ReadFacts

@@ -9,22 +9,30 @@ use native.Mathlib.Omega.{arith}
 use lib.ListN.{length, getD, take}
 use Rattle.octets.specs.Strings.{Below}
 use Rattle.octets.specs.Fields.{bit, fields}
+use Rattle.octets.proofs.Strings.{length-tab}
 use Rattle.octets.proofs.Conditions.{accepted, answer-number, unless-either}
 use Rattle.header.specs.declared.auxiliary.NwkSecurityLevel.{NwkSecurityLevel}
+use Rattle.header.specs.declared.control.NwkFrameControl.{NwkFrameControl}
 use Rattle.header.specs.declared.nwk.HeaderRead.{HeaderRead}
 use Rattle.header.specs.declared.auxiliary.AuxRead.{AuxRead}
-use Rattle.header.specs.Reading.{control, headerRefusal, headerGiven, headerRefused, readHeader}
+use Rattle.header.specs.Reading.{control, relaysOf, headerBy, headerRefusal, headerGiven, headerRefused, readHeader}
 use Rattle.header.specs.Writing.{headerBytes, badHeader}
 use Rattle.header.specs.Auxiliary.{security, keySequenceAt, auxRefusal, auxBy, auxGiven, auxRefused, readAux, auxBytes}
 use Rattle.header.specs.AuxiliaryControl.{levelOf, securityOf}
-use Rattle.header.specs.Same.{Agrees, AuxAgrees}
+use Rattle.header.specs.Same.{Agrees, AuxAgrees, HeaderFits, AuxFits}
 use Rattle.header.proofs.Codes.{bit-lt}
 use Rattle.header.proofs.Pieces.{ieee-has}
+use Rattle.header.proofs.ReadFits.{read-fits, aux-read-fits}
 use Rattle.header.proofs.ReadBack.{places}
 use Rattle.header.proofs.WriteBack.{header-read, write-back, read-good, read-agrees}
 use Rattle.header.proofs.AuxiliaryLaws.{aux-read, aux-length, aux-write-exact, aux-agrees}
 
 -- ---- the header
+
+-- the number beside a header that was read
+pub header-number : (f : List ℕ) → readHeader f .refusal ≡ headerRefusal f
+unfolding readHeader
+header-number f = answer-number (λ (r : HeaderRead). r .refusal) (headerRefusal f) (headerGiven f) headerRefused refl refl
 
 pub record HeaderFacts (f : List ℕ) (r : HeaderRead) : Type 0 where
   pub short : length f ≤ 118
@@ -32,7 +40,13 @@ pub record HeaderFacts (f : List ℕ) (r : HeaderRead) : Type 0 where
   pub within : r .length ≤ length f
   pub good : badHeader (r .header) ≡ false
   pub agrees : Agrees (r .header)
+  pub fits : HeaderFits (r .header)
+  pub places : length (r .header .relays) ≡ 54
   pub bytes : headerBytes (r .header) ≡ take (r .length) f
+
+relay-places : (f : List ℕ) (c : NwkFrameControl) → length (headerBy f c .relays) ≡ 54
+unfolding headerBy relaysOf
+relay-places f c = length-tab _ 54
 
 read-facts : (f : List ℕ) → Below 256 f → headerRefusal f ≡ 0 → HeaderFacts f (headerGiven f)
 read-facts f u none =
@@ -45,13 +59,15 @@ read-facts f u none =
       within = ends;
       good = read-good f none;
       agrees = read-agrees f;
+      fits = read-fits f (control f) u;
+      places = relay-places f (control f);
       bytes = write-back f u none;
     }
 
 pub header-facts : (f : List ℕ) → Below 256 f → readHeader f .refusal ≡ 0 → HeaderFacts f (readHeader f)
 unfolding readHeader
 header-facts f u e =
-    let none : headerRefusal f ≡ 0 = sym (answer-number (λ (r : HeaderRead). r .refusal) (headerRefusal f) (headerGiven f) headerRefused refl refl) ∙ e in
+    let none : headerRefusal f ≡ 0 = sym (header-number f) ∙ e in
     rw (accepted (headerRefusal f) (headerGiven f) (headerRefused (headerRefusal f)) none) (read-facts f u none)
 
 -- whatever is answered, the header ends within the bytes
@@ -63,9 +79,14 @@ header-within f u =
 
 -- ---- the auxiliary header
 
+pub aux-number : (f : List ℕ) → readAux f .refusal ≡ auxRefusal f
+unfolding readAux
+aux-number f = answer-number (λ (r : AuxRead). r .refusal) (auxRefusal f) (auxGiven f) auxRefused refl refl
+
 pub record AuxFacts (f : List ℕ) (r : AuxRead) : Type 0 where
   pub within : r .length ≤ length f
   pub agrees : AuxAgrees (r .aux)
+  pub fits : AuxFits (r .aux)
   pub size : length (auxBytes (r .aux)) ≡ r .length
   pub exact : getD f 0 0 < 128 → auxBytes (r .aux) ≡ take (r .length) f
   pub plain : getD f 0 0 % 8 ≡ 0 → r .aux .«security_control» .«security_level» ≡ NwkSecurityLevel.NoSecurity
@@ -86,6 +107,7 @@ read-aux-facts f u none =
     record {
       within = ends;
       agrees = aux-agrees f;
+      fits = aux-read-fits f (security f) u;
       size = aux-size f;
       exact = λ h. aux-write-exact f u none h;
       plain = λ h. plain-level f h;
@@ -94,7 +116,7 @@ read-aux-facts f u none =
 pub aux-facts : (f : List ℕ) → Below 256 f → readAux f .refusal ≡ 0 → AuxFacts f (readAux f)
 unfolding readAux
 aux-facts f u e =
-    let none : auxRefusal f ≡ 0 = sym (answer-number (λ (r : AuxRead). r .refusal) (auxRefusal f) (auxGiven f) auxRefused refl refl) ∙ e in
+    let none : auxRefusal f ≡ 0 = sym (aux-number f) ∙ e in
     rw (accepted (auxRefusal f) (auxGiven f) (auxRefused (auxRefusal f)) none) (read-aux-facts f u none)
 
 -- whatever is answered, the auxiliary header ends within the bytes, and a header within 118

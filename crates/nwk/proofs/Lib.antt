@@ -2,3 +2,4 @@
 pub mod Calls
 pub mod Refusals
 pub mod FrameRefusals
+pub mod ReadThenWritten

@@ -1,17 +1,13 @@
 -- The refusals of the C functions in their order, at each return of the code, over plain numbers.
 -- Assumes nothing.
-use mathlib.Core.Path.{_≡_, refl, sym, _∙_}
+use mathlib.Core.Path.{_≡_, sym, _∙_}
 use mathlib.Core.Bool.{Bool, false}
 use mathlib.Core.List.{List, [], _∷_}
 use Prim.Native.Nat.{ℕ, _≤_, _<_}
 use borrow.Author.Tests.{lt-ltb, le-ltb}
 use lib.Dec.{ltb}
 use Rattle.octets.specs.Refusals.{Condition, on, by, firstOf}
-use Rattle.octets.proofs.Conditions.{answer-number, unless-number, stop, skip, stop-by, skip-by, empty}
-use Rattle.header.specs.declared.nwk.HeaderRead.{HeaderRead}
-use Rattle.header.specs.declared.auxiliary.AuxRead.{AuxRead}
-use Rattle.header.specs.Reading.{headerRefusal, headerGiven, headerRefused, readHeader}
-use Rattle.header.specs.Auxiliary.{auxRefusal, auxGiven, auxRefused, readAux}
+use Rattle.octets.proofs.Conditions.{unless-number, stop, skip, stop-by, skip-by, empty}
 
 -- ---- reading: the reader's own number n, then 18 for a record with too little room
 
@@ -24,15 +20,6 @@ read-short n size room e h = sym (skip-by n _ e ∙ stop 18 (ltb room size) [] (
 
 pub read-none : (n size room : ℕ) → n ≡ 0 → size ≤ room → firstOf (by n ∷ on 18 (ltb room size) ∷ []) ≡ 0
 read-none n size room e h = skip-by n _ e ∙ skip 18 (ltb room size) [] (le-ltb room size h) ∙ empty
-
--- the number beside a header that was read
-pub header-number : (f : List ℕ) → readHeader f .refusal ≡ headerRefusal f
-unfolding readHeader
-header-number f = answer-number (λ (r : HeaderRead). r .refusal) (headerRefusal f) (headerGiven f) headerRefused refl refl
-
-pub aux-number : (f : List ℕ) → readAux f .refusal ≡ auxRefusal f
-unfolding readAux
-aux-number f = answer-number (λ (r : AuxRead). r .refusal) (auxRefusal f) (auxGiven f) auxRefused refl refl
 
 -- ---- writing: 13 for the record, then the writer's own number n
 

@@ -1,12 +1,14 @@
-// The CCM validation entries: lines of a key, a nonce, associated data, a payload, a ciphertext, a tag, and pass or fail, in
-// hexadecimal digits with a space between, "-" for nothing. An entry that passes is sealed and opened to the byte; one that
-// fails is refused by 19 with the lent output unchanged. Where it fails the payload is "?".
-use crate::lines::Line;
+// The CCM entries: lines of a key, a nonce, associated data, a payload, a ciphertext, a tag, in hexadecimal digits, "-" for
+// nothing, and a verdict. An entry that passes is sealed and opened to the byte; one that fails is refused by 19 with the
+// lent output unchanged, and its payload is "?". Where the verdict is a number, sealing and opening are refused by it.
 use casefile::fields::field;
 use casefile::fields::whole;
 use casefile::file;
+use casefile::lines::Line;
+use casefile::lines::shown;
 use casefile::outputs;
 use casefile::outputs::FILLER;
+use casefile::words;
 
 // The parts of an entry whose lengths are fixed.
 struct Fixed {
@@ -16,7 +18,7 @@ struct Fixed {
     mic: [u8; 4],
 }
 
-// Reads them.
+// Reads them, and sees that the line ends behind its seventh word.
 fn fixed_parts(line: &[u8]) -> Fixed {
     let mut key = [0u8; 16];
     let mut nonce = [0u8; 13];
@@ -24,7 +26,7 @@ fn fixed_parts(line: &[u8]) -> Fixed {
     let k = field(line, 0, &mut key);
     let n = field(line, 1, &mut nonce);
     let t = field(line, 5, &mut mic);
-    let good = whole(k, 16) && whole(n, 13) && whole(t, 4);
+    let good = words::is_last(line, 6) && whole(k, 16) && whole(n, 13) && whole(t, 4);
     Fixed {
         good,
         key,
@@ -33,116 +35,122 @@ fn fixed_parts(line: &[u8]) -> Fixed {
     }
 }
 
-// An entry that passes: the payload seals to the ciphertext and the MIC.
-fn seals(f: Fixed, auth: &[u8], payload: &[u8], ciphertext: &[u8]) -> bool {
+// Whether a MIC is the expected one, and 0 beside a refusal.
+fn is_mic(given: [u8; 4], refusal: usize, expected: [u8; 4]) -> bool {
+    if refusal == 0 {
+        return check::same(&given, &expected);
+    }
+    check::same(&given, &[0u8; 4])
+}
+
+// Whether sealing to an output of the room given leaves the number, the MIC and the ciphertext, and the rest as it was.
+fn seals(
+    f: Fixed,
+    auth: &[u8],
+    payload: &[u8],
+    room: usize,
+    refusal: usize,
+    ciphertext: &[u8],
+    out: &mut [u8],
+) -> bool {
     let key = f.key;
     let nonce = f.nonce;
     let expected = f.mic;
-    let mut out = [FILLER; 64];
-    let s = ccm::encrypt_ccm(key, nonce, auth, payload, &mut out);
+    let k = file::within(room, out);
+    let s = ccm::encrypt_ccm(key, nonce, auth, payload, &mut out[..k]);
     let mic = s.mic;
-    if s.refusal != 0 {
+    if !is_mic(mic, refusal, expected) {
         return false;
     }
-    if s.length != ciphertext.len() {
-        return false;
-    }
-    if !check::same(&mic, &expected) {
-        return false;
-    }
-    outputs::holds(&out, ciphertext)
+    s.refusal as usize == refusal && s.length == ciphertext.len() && outputs::holds(out, ciphertext)
 }
 
-// An entry that passes: the ciphertext opens to the payload.
-fn opens(f: Fixed, auth: &[u8], payload: &[u8], ciphertext: &[u8]) -> bool {
+// The same for opening, with the payload.
+fn opens(
+    f: Fixed,
+    auth: &[u8],
+    ciphertext: &[u8],
+    room: usize,
+    refusal: usize,
+    payload: &[u8],
+    out: &mut [u8],
+) -> bool {
     let key = f.key;
     let nonce = f.nonce;
     let mic = f.mic;
-    let mut out = [FILLER; 64];
-    let o = ccm::decrypt_ccm(key, nonce, auth, ciphertext, mic, &mut out);
-    if o.refusal != 0 {
-        return false;
-    }
-    if o.length != payload.len() {
-        return false;
-    }
-    outputs::holds(&out, payload)
-}
-
-// An entry that fails: refused by 19, and the output as it was.
-fn refused(f: Fixed, auth: &[u8], ciphertext: &[u8]) -> bool {
-    let key = f.key;
-    let nonce = f.nonce;
-    let mic = f.mic;
-    let mut out = [FILLER; 64];
-    let o = ccm::decrypt_ccm(key, nonce, auth, ciphertext, mic, &mut out);
-    if o.refusal != 19 {
-        return false;
-    }
-    if o.length != 0 {
-        return false;
-    }
-    outputs::untouched(&out)
-}
-
-// What an entry shows.
-fn shown(agrees: bool) -> Line {
-    if agrees { Line::Agrees } else { Line::Differs }
+    let k = file::within(room, out);
+    let o = ccm::decrypt_ccm(key, nonce, auth, ciphertext, mic, &mut out[..k]);
+    o.refusal as usize == refusal && o.length == payload.len() && outputs::holds(out, payload)
 }
 
 // An entry to pass.
 fn check_pass(line: &[u8], f: Fixed, auth: &[u8], ciphertext: &[u8]) -> Line {
-    let mut payload = [0u8; 64];
+    let mut payload = [0u8; 160];
+    let mut first = [FILLER; 160];
+    let mut second = [FILLER; 160];
     let p = field(line, 3, &mut payload);
-    if !p.good {
-        return Line::Damaged;
-    }
     let n = p.n;
-    let sealed = seals(f, auth, &payload[..n], ciphertext);
-    let opened = opens(f, auth, &payload[..n], ciphertext);
-    shown(sealed && opened)
+    let sealed = seals(f, auth, &payload[..n], 160, 0, ciphertext, &mut first);
+    let opened = opens(f, auth, ciphertext, 160, 0, &payload[..n], &mut second);
+    shown(p.good, sealed && opened)
 }
 
-// An entry, by its last word.
-fn check_entry(line: &[u8], f: Fixed) -> Line {
-    let mut auth = [0u8; 64];
-    let mut ciphertext = [0u8; 64];
+// An entry to fail.
+fn check_fail(line: &[u8], f: Fixed, auth: &[u8], ciphertext: &[u8]) -> Line {
+    let mut out = [FILLER; 160];
+    let refused = opens(f, auth, ciphertext, 160, 19, b"", &mut out);
+    shown(words::is(line, 3, b"?"), refused)
+}
+
+// Whether sealing and opening to an output of the room given are both refused by the number.
+fn refused_in(
+    f: Fixed,
+    auth: &[u8],
+    payload: &[u8],
+    ciphertext: &[u8],
+    room: usize,
+    refusal: usize,
+) -> bool {
+    let mut out = [FILLER; 160];
+    let sealing = seals(f, auth, payload, room, refusal, b"", &mut out);
+    let opening = opens(f, auth, ciphertext, room, refusal, b"", &mut out);
+    sealing && opening
+}
+
+// An entry at a limit: refused by 1 with any room, or by 18 with one byte less than it takes.
+fn check_limit(line: &[u8], f: Fixed, auth: &[u8], ciphertext: &[u8]) -> Line {
+    let mut payload = [0u8; 160];
+    let p = field(line, 3, &mut payload);
+    let refusal = words::number(line, 6);
+    let n = p.n;
+    let short = if 0 < n { n - 1 } else { 0 };
+    let room = if refusal == 1 { 160 } else { short };
+    let in_short = refused_in(f, auth, &payload[..n], ciphertext, short, refusal);
+    let in_room = refused_in(f, auth, &payload[..n], ciphertext, room, refusal);
+    shown(
+        p.good && (refusal == 1 || refusal == 18),
+        in_short && in_room,
+    )
+}
+
+// What one line shows, by its last word.
+pub fn check_line(line: &[u8]) -> Line {
+    let mut auth = [0u8; 160];
+    let mut ciphertext = [0u8; 160];
+    let f = fixed_parts(line);
     let a = field(line, 2, &mut auth);
     let c = field(line, 4, &mut ciphertext);
-    if !a.good {
-        return Line::Damaged;
-    }
-    if !c.good {
+    let good = f.good && a.good && c.good;
+    if !good {
         return Line::Damaged;
     }
     let i = a.n;
     let j = c.n;
-    let w = file::word(line, 6);
-    let from = w.start;
-    let to = w.end;
-    if check::same(&line[from..to], b"pass") {
+    if words::is(line, 6, b"pass") {
         return check_pass(line, f, &auth[..i], &ciphertext[..j]);
     }
-    if check::same(&line[from..to], b"fail") {
-        return shown(refused(f, &auth[..i], &ciphertext[..j]));
+    if words::is(line, 6, b"fail") {
+        return check_fail(line, f, &auth[..i], &ciphertext[..j]);
     }
-    Line::Damaged
-}
-
-// What one line shows, without its newline.
-pub fn check_line(line: &[u8]) -> Line {
-    if line.len() == 0 {
-        return Line::Comment;
-    }
-    if line[0] == b'#' {
-        return Line::Comment;
-    }
-    if !file::ends_at(line, 7) {
-        return Line::Damaged;
-    }
-    let f = fixed_parts(line);
-    if !f.good {
-        return Line::Damaged;
-    }
-    check_entry(line, f)
+    check_limit(line, f, &auth[..i], &ciphertext[..j])
 }

@@ -9,7 +9,7 @@ use denote.Ref.{now}
 use lib.ListN.{length, take, drop, length-set}
 use borrow.Author.Needs.{needs}
 use Rattle.casefile.specs.Hex.{hexBytes, allDigits}
-use Rattle.casefile.proofs.Digits.{digits-more, high-not, low-not, byte-stored, hex-not, hex-digits, digits-end, bytes-end}
+use Rattle.casefile.proofs.Digits.{digits-more, high-not, low-not, byte-stored, hex-none, hex-not, hex-by, digits-end, bytes-end}
 use Rattle.casefile.proofs.hex.decode.Statement.{statement}
 use Rattle.casefile.proofs.hex.decode.Tie as tie
 
@@ -23,10 +23,13 @@ abbrev μ-loop : tie.MeasureT-loop
 μ-loop digits out₀ i₀ out i = length out₀ - i
 
 returns : tie.Need-returns Inv-loop μ-loop
-returns c = (sym (hex-not _ _ (λ e. omega arith)), λ t. absurd (false≢true t))
+returns c = (sym (hex-none _ _ (c .if1 .taken)), λ t. absurd (false≢true t))
 
 returns-2 : tie.Need-returns-2 Inv-loop μ-loop
 returns-2 c = (sym (hex-not _ _ (λ e. omega arith)), λ t. absurd (false≢true t))
+
+returns-3 : tie.Need-returns-3 Inv-loop μ-loop
+returns-3 c = (sym (hex-not _ _ (λ e. omega arith)), λ t. absurd (false≢true t))
 
 mul-digit : tie.Need-mul-digit Inv-loop μ-loop
 mul-digit c = omega arith
@@ -43,19 +46,19 @@ add-digit c = omega arith
 shared-slice-read-digit-2 : tie.Need-shared-slice-read-digit-2 Inv-loop μ-loop
 shared-slice-read-digit-2 c = omega arith
 
-returns-3 : tie.Need-returns-3 Inv-loop μ-loop
-returns-3 c =
-    let loop = c .before .before .before .before .before .before .loop in
-    let high = c .before .before .before .digit in
-    let entry = c .before .before .before .before .before .before .before .before .before .before .before .args in
-    (sym (hex-digits (now (entry .digits)) (length (now (entry .out))) (omega arith) ∙ loop .inv .2 ∙ high-not (now (entry .digits)) (loop .i) (omega arith) (sym (high .ensures .0) ∙ c .if3 .taken)), λ t. absurd (false≢true t))
-
 returns-4 : tie.Need-returns-4 Inv-loop μ-loop
 returns-4 c =
+    let ds : List ℕ = now (c .before .before .before .before .before .before .before .before .before .before .before .before .args .digits) in
+    let loop = c .before .before .before .before .before .before .loop in
+    let none = high-not ds (loop .i) (omega arith) (sym (c .before .before .before .digit .ensures .0) ∙ c .if4 .taken) in
+    (sym (hex-by _ _ (loop .i) (omega arith) (omega arith) (loop .inv .2) none), λ t. absurd (false≢true t))
+
+returns-5 : tie.Need-returns-5 Inv-loop μ-loop
+returns-5 c =
+    let ds : List ℕ = now (c .before .before .before .before .before .before .before .before .before .before .before .before .before .args .digits) in
     let loop = c .before .before .before .before .before .before .before .loop in
-    let low = c .before .before .digit2 in
-    let entry = c .before .before .before .before .before .before .before .before .before .before .before .before .args in
-    (sym (hex-digits (now (entry .digits)) (length (now (entry .out))) (omega arith) ∙ loop .inv .2 ∙ low-not (now (entry .digits)) (loop .i) (omega arith) (sym (low .ensures .0) ∙ c .if4 .taken)), λ t. absurd (false≢true t))
+    let none = low-not ds (loop .i) (omega arith) (sym (c .before .before .digit2 .ensures .0) ∙ c .if5 .taken) in
+    (sym (hex-by _ _ (loop .i) (omega arith) (omega arith) (loop .inv .2) none), λ t. absurd (false≢true t))
 
 mul-out : tie.Need-mul-out Inv-loop μ-loop
 mul-out c = omega arith
@@ -74,7 +77,7 @@ loop-less c = omega arith
 
 loop-again : tie.Need-loop-again Inv-loop μ-loop
 loop-again c =
-    let ds : List ℕ = now (c .before .before .before .before .before .before .before .before .before .before .before .before .args .digits) in
+    let ds : List ℕ = now (c .before .before .before .before .before .before .before .before .before .before .before .before .before .args .digits) in
     let out : List ℕ = c .before .before .before .before .before .before .before .loop .out in
     let i : ℕ = c .before .before .before .before .before .before .before .loop .i in
     let inv = c .before .before .before .before .before .before .before .loop .inv in
@@ -89,11 +92,12 @@ loop-again c =
       inv .3 ∙ byte-stored ds out i (high .result * 16 + low .result) pair inside (rw (high .ensures .0, low .ensures .0)),
     )
 
-returns-5 : tie.Need-returns-5 Inv-loop μ-loop
-returns-5 c =
-    let loop = c .before .loop in
-    let entry = c .before .before .before .before .before .before .args in
-    (sym (hex-digits (now (entry .digits)) (length (now (entry .out))) (omega arith) ∙ loop .inv .2 ∙ digits-end (now (entry .digits)) (2 * loop .i) (omega arith)), λ t. sym (loop .inv .3 ∙ bytes-end (now (entry .digits)) (loop .out) (loop .i) (omega arith) (omega arith)))
+returns-6 : tie.Need-returns-6 Inv-loop μ-loop
+returns-6 c =
+    let loop = c .before .loop in (
+      sym (hex-by _ _ (loop .i) (omega arith) (omega arith) (loop .inv .2) (digits-end _ (2 * loop .i) (omega arith))),
+      λ t. sym (loop .inv .3 ∙ bytes-end _ (loop .out) (loop .i) (omega arith) (omega arith)),
+    )
 
 pub decode-spec : {M : Type 1} → statement M
 decode-spec =
@@ -103,6 +107,7 @@ decode-spec =
     μ-loop
     returns
     returns-2
+    returns-3
     (λ c. (search needs, refl, refl, refl))
     mul-digit
     shared-slice-read-digit
@@ -112,9 +117,9 @@ decode-spec =
     shared-slice-read-digit-2
     (λ c κs. search needs)
     (λ c. search needs)
-    returns-3
-    (λ c. search needs)
     returns-4
+    (λ c. search needs)
+    returns-5
     mul-out
     add-out
     slice-write-out
@@ -122,4 +127,4 @@ decode-spec =
     loop-less
     loop-again
     (λ c. search needs)
-    returns-5)
+    returns-6)

@@ -1,5 +1,4 @@
--- `casefile::hex::digit` meets its contract: each answer by the tests that led to it.
--- Assumes nothing.
+-- `casefile::hex::digit` meets its contract: each answer by the tests that led to it. Assumes nothing.
 use borrow.Author.Tests.{lt-ltb, le-ltb}
 use borrow.Author.Needs.{needs}
 use Rattle.casefile.specs.Hex.{digitValue}
@@ -12,38 +11,23 @@ returns c = (rw (le-ltb _ _ (c .before .if1 .left), lt-ltb _ _ (c .if2 .taken)),
 
 returns-2 : tie.Need-returns-2
 unfolding digitValue
-returns-2 c = (rw (le-ltb _ _ (c .before .before .before .if1 .left), le-ltb _ _ (c .before .before .if2 .left), le-ltb _ _ (c .before .if3 .left), lt-ltb _ _ (c .if4 .taken)), search needs)
+returns-2 c =
+    let high = le-ltb _ _ (c .before .before .if2 .left) in
+    (rw (le-ltb _ _ (c .before .before .before .if1 .left), high, le-ltb _ _ (c .before .if3 .left), lt-ltb _ _ (c .if4 .taken)), search needs)
 
 returns-3 : tie.Need-returns-3
 unfolding digitValue
-returns-3 c = (rw (le-ltb _ _ (c .before .before .before .before .before .if1 .left), le-ltb _ _ (c .before .before .before .before .if2 .left), le-ltb _ _ (c .before .before .before .if3 .left), le-ltb _ _ (c .before .before .if4 .left), le-ltb _ _ (c .before .if5 .left), lt-ltb _ _ (c .if6 .taken)), search needs)
+returns-3 c = (rw (lt-ltb _ _ (c .if1 .taken)), search needs)
 
 returns-4 : tie.Need-returns-4
 unfolding digitValue
-returns-4 c = (rw (lt-ltb _ _ (c .if1 .taken)), search needs)
+returns-4 c = (rw (le-ltb _ _ (c .before .before .if1 .left), le-ltb _ _ (c .before .if2 .left), lt-ltb _ _ (c .if3 .taken)), search needs)
 
 returns-5 : tie.Need-returns-5
 unfolding digitValue
-returns-5 c = (rw (le-ltb _ _ (c .before .before .if1 .left), le-ltb _ _ (c .before .if2 .left), lt-ltb _ _ (c .if3 .taken)), search needs)
-
-returns-6 : tie.Need-returns-6
-unfolding digitValue
-returns-6 c = (rw (le-ltb _ _ (c .before .before .before .before .if1 .left), le-ltb _ _ (c .before .before .before .if2 .left), le-ltb _ _ (c .before .before .if3 .left), le-ltb _ _ (c .before .if4 .left), lt-ltb _ _ (c .if5 .taken)), search needs)
-
-returns-7 : tie.Need-returns-7
-unfolding digitValue
-returns-7 c = (rw (le-ltb _ _ (c .before .before .before .before .before .if1 .left), le-ltb _ _ (c .before .before .before .before .if2 .left), le-ltb _ _ (c .before .before .before .if3 .left), le-ltb _ _ (c .before .before .if4 .left), le-ltb _ _ (c .before .if5 .left), le-ltb _ _ (c .if6 .left)), search needs)
+returns-5 c =
+    let high = le-ltb _ _ (c .before .before .if2 .left) in
+    (rw (le-ltb _ _ (c .before .before .before .if1 .left), high, le-ltb _ _ (c .before .if3 .left), le-ltb _ _ (c .if4 .left)), search needs)
 
 pub digit-spec : {M : Type 1} → statement M
-digit-spec =
-    tie.close
-    (tie.spec
-    (λ c. search needs)
-    (λ c. search needs)
-    returns
-    returns-2
-    returns-3
-    returns-4
-    returns-5
-    returns-6
-    returns-7)
+digit-spec = tie.close (tie.spec (λ c. search needs) returns returns-2 returns-3 returns-4 returns-5)

@@ -12,7 +12,8 @@ use Rattle.records.specs.AuxiliaryRecord.{auxRecord}
 use Rattle.nwk.specs.Headers.{readAuxRefusal}
 use Rattle.nwk.specs.Answer.{answer}
 use Rattle.nwk.proofs.Calls.{refused-by, passed-by}
-use Rattle.nwk.proofs.Refusals.{read-number, read-short, read-none, aux-number}
+use Rattle.header.proofs.ReadFacts.{aux-number}
+use Rattle.nwk.proofs.Refusals.{read-number, read-short, read-none}
 
 returns : tie.Need-returns
 unfolding readAuxRefusal

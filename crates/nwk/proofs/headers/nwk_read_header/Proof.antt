@@ -11,7 +11,8 @@ use Rattle.records.specs.HeaderRecord.{headerRecord}
 use Rattle.nwk.specs.Headers.{readHeaderRefusal}
 use Rattle.nwk.specs.Answer.{answer}
 use Rattle.nwk.proofs.Calls.{refused-by, passed-by}
-use Rattle.nwk.proofs.Refusals.{read-number, read-short, read-none, header-number}
+use Rattle.header.proofs.ReadFacts.{header-number}
+use Rattle.nwk.proofs.Refusals.{read-number, read-short, read-none}
 
 returns : tie.Need-returns
 unfolding readHeaderRefusal
