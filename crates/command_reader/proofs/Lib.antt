@@ -1,5 +1,4 @@
 -- The loops that fill a list, and a command with its list.
-mod Filling
 mod Listed
 mod Whole
 mod Entries

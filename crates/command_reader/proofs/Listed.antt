@@ -22,7 +22,7 @@ use Rattle.commands.specs.declared.NwkCommandList.{NwkCommandList}
 use Rattle.commands.specs.declared.NwkLinkStatus.{NwkLinkStatus}
 use Rattle.commands.specs.declared.NwkPowerListEntry.{NwkPowerListEntry}
 use Rattle.commands.specs.declared.TypedBody.{TypedBody}
-use Rattle.command_reader.specs.Entries.{linkAt, powerAt}
+use Rattle.commands.specs.Commands.{linkAt, powerAt}
 
 -- the entries that a format reads, each turned into its value
 read-list : {A : Type 0} (of : List ℕ → A) (f : Format) (s : List ℕ) (n : ℕ) → n ≡ announced f s

@@ -6,5 +6,5 @@ use Rattle.octets.specs.Fields.{fields}
 use Rattle.commands.specs.Commands.{capabilityOf}
 use Rattle.commands.specs.declared.NwkRejoinCapabilityInformation.{NwkRejoinCapabilityInformation}
 
-unfoldable pub capabilityByte : ℕ → NwkRejoinCapabilityInformation
-capabilityByte b = capabilityOf (fields (1 ∷ 1 ∷ 1 ∷ 1 ∷ 1 ∷ 1 ∷ 1 ∷ 1 ∷ []) b)
+unfoldable pub capabilityOfByte : ℕ → NwkRejoinCapabilityInformation
+capabilityOfByte b = capabilityOf (fields (1 ∷ 1 ∷ 1 ∷ 1 ∷ 1 ∷ 1 ∷ 1 ∷ 1 ∷ []) b)

@@ -1,3 +1,2 @@
--- What the readers of a list's entries give.
-pub mod Entries
+-- What the reader of a part of a body gives.
 pub mod Capability

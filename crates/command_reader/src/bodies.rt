@@ -6,7 +6,7 @@ ghost use Rattle.octets.specs.Numbers.{leAt};
 ghost use Rattle.commands.specs.declared.NwkCommandId.{NwkCommandId};
 ghost use Rattle.commands.specs.Commands.{addressOf};
 ghost use Rattle.commands.specs.Reading.{bodyOf, typed};
-ghost use Rattle.command_reader.specs.Capability.{capabilityByte};
+ghost use Rattle.command_reader.specs.Capability.{capabilityOfByte};
 use commands::EndDeviceTimeout;
 use commands::EndDeviceTimeoutCode;
 use commands::Nwk802154AssociationStatus;
@@ -61,7 +61,7 @@ fn address_at(s: &[u8], i: usize, has: u8) -> OptionEui64
 
 // The capability information of a byte (Zigbee 3.4.6), its reserved bits kept.
 fn capability_of(b: u8) -> NwkRejoinCapabilityInformation
-    ensures { λ r. ⌜ r ≡ capabilityByte b ⌝ }
+    ensures { λ r. ⌜ r ≡ capabilityOfByte b ⌝ }
 {
     NwkRejoinCapabilityInformation {
         alternate_pan_coordinator: b % 2 == 1,

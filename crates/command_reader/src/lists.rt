@@ -4,54 +4,14 @@ ghost use mathlib.Core.Path.{_≡_};
 ghost use Prim.Native.Nat.{ℕ, _+_, _*_, _%_, _≤_};
 ghost use lib.ListN.{length, getD};
 ghost use Rattle.octets.specs.Strings.{tab};
-ghost use Rattle.octets.specs.Numbers.{leAt};
-ghost use Rattle.commands.specs.Commands.{noLink, noPower};
+ghost use Rattle.commands.specs.Commands.{linkAt, noLink};
 ghost use Rattle.commands.specs.Reading.{listed, places, unparsed};
 ghost use Rattle.commands.specs.declared.NwkCommandList.{NwkCommandList};
-ghost use Rattle.command_reader.specs.Entries.{linkAt, powerAt};
+use commands::NO_LINK;
 use commands::NwkCommand;
 use commands::NwkCommandWithLists;
 use commands::NwkLinkStatus;
-use commands::NwkPowerListEntry;
-
-const NO_LINK: NwkLinkStatus = NwkLinkStatus {
-    address: 0,
-    incoming_cost: 0,
-    outgoing_cost: 0,
-};
-
-const NO_POWER: NwkPowerListEntry = NwkPowerListEntry {
-    device_address: 0,
-    power_delta: 0,
-};
-
-// The n relays of a route record.
-fn read_relays(s: &[u8], n: usize) -> [u16; 53]
-    requires { ⌜ n ≤ 53 ⌝ }
-    ensures { λ r. ⌜ r ≡ places 0 53 (tab (λ (k : ℕ). leAt 2 (now (s .entry)) (2 + k * 2)) n) ⌝ }
-{
-    let mut relays = [0u16; 53];
-    let mut k = 0;
-    while k < n {
-        relays[k] = octets::read_u16(s, 2 + k * 2);
-        k += 1;
-    }
-    relays
-}
-
-// The n PAN ids of a network report.
-fn read_pan_ids(s: &[u8], n: usize) -> [u16; 31]
-    requires { ⌜ n ≤ 31 ⌝ }
-    ensures { λ r. ⌜ r ≡ places 0 31 (tab (λ (k : ℕ). leAt 2 (now (s .entry)) (10 + k * 2)) n) ⌝ }
-{
-    let mut pan_ids = [0u16; 31];
-    let mut k = 0;
-    while k < n {
-        pan_ids[k] = octets::read_u16(s, 10 + k * 2);
-        k += 1;
-    }
-    pan_ids
-}
+use commands::lists;
 
 // The link status entry at place i: an address, and the two costs in one byte.
 fn link_at(s: &[u8], i: usize) -> NwkLinkStatus
@@ -80,31 +40,6 @@ fn read_link_statuses(s: &[u8], n: usize) -> [NwkLinkStatus; 31]
     links
 }
 
-// The power list entry at place i.
-fn power_at(s: &[u8], i: usize) -> NwkPowerListEntry
-    requires { ⌜ i ≤ 1000 ⌝ }
-    ensures { λ r. ⌜ r ≡ powerAt (now (s .entry)) i ⌝ }
-{
-    NwkPowerListEntry {
-        device_address: octets::read_u16(s, i),
-        power_delta: octets::byte_at(s, i + 2),
-    }
-}
-
-// The n entries of a link power delta.
-fn read_power_list(s: &[u8], n: usize) -> [NwkPowerListEntry; 35]
-    requires { ⌜ n ≤ 35 ⌝ }
-    ensures { λ r. ⌜ r ≡ places noPower 35 (tab (λ (k : ℕ). powerAt (now (s .entry)) (3 + k * 3)) n) ⌝ }
-{
-    let mut powers = [NO_POWER; 35];
-    let mut k = 0;
-    while k < n {
-        powers[k] = power_at(s, 3 + k * 3);
-        k += 1;
-    }
-    powers
-}
-
 // A route record with its relays.
 pub fn with_relays(command: NwkCommand, s: &[u8]) -> NwkCommandWithLists
     requires { ⌜ getD (now s) 1 0 ≤ 53 ⌝ }
@@ -112,7 +47,7 @@ pub fn with_relays(command: NwkCommand, s: &[u8]) -> NwkCommandWithLists
 {
     let mut filled = NwkCommandWithLists::blank(command);
     let n = octets::byte_at(s, 1);
-    let relays = read_relays(s, n as usize);
+    let relays = lists::read_relays(s, 2, n as usize);
     filled.relay_count = n;
     filled.relays = relays;
     filled
@@ -136,7 +71,7 @@ pub fn with_pan_ids(command: NwkCommand, s: &[u8]) -> NwkCommandWithLists
 {
     let mut filled = NwkCommandWithLists::blank(command);
     let n = octets::byte_at(s, 1) % 32;
-    let pan_ids = read_pan_ids(s, n as usize);
+    let pan_ids = lists::read_pan_ids(s, 10, n as usize);
     filled.report_information_count = n;
     filled.pan_ids = pan_ids;
     filled
@@ -149,7 +84,7 @@ pub fn with_power_list(command: NwkCommand, s: &[u8]) -> NwkCommandWithLists
 {
     let mut filled = NwkCommandWithLists::blank(command);
     let n = octets::byte_at(s, 2);
-    let powers = read_power_list(s, n as usize);
+    let powers = lists::read_power_list(s, 3, n as usize);
     filled.list_count = n;
     filled.power_list = powers;
     filled

@@ -2,15 +2,18 @@
 -- writes them, and what a reader of single entries finds.
 -- Assumes nothing.
 use mathlib.Core.Path.{_≡_, refl, sym, ap, _∙_}
-use mathlib.Core.List.{List, _++_, append-assoc}
+use mathlib.Core.List.{List, _++_, append-assoc, append-nil}
 use mathlib.Core.Logic.{⊎-elim}
 use Prim.Native.Nat.{ℕ, zero, suc, _+_, _*_, _≤_, _<_}
 use native.Mathlib.Numerals.{add-one}
-use native.Mathlib.Nat.{mul-suc, mul-zero, add-zero}
+use native.Mathlib.Nat.{mul-suc, mul-zero, mul-comm, add-zero}
 use native.Mathlib.Omega.{arith}
-use lib.ListN.{length, length-append}
+use lib.ListN.{length, replicate, length-append, length-replicate, drop-of-length-le}
 use Rattle.octets.specs.Strings.{tab, over}
-use Rattle.octets.proofs.Strings.{over-over, over-nil, tab-ext, below-or-last}
+use Rattle.octets.proofs.Strings.{over-over, over-nil, length-tab, tab-ext, below-or-last}
+use Rattle.commands.specs.Format.{Field, writeFields, writeEntries}
+use Rattle.commands.specs.Reading.{places}
+use Rattle.commands.proofs.Format as format
 use Rattle.command_records.specs.Lists.{entries}
 
 module _ (f : ℕ → List ℕ) (m : ℕ) (size : (k : ℕ) → length (f k) ≡ m) where
@@ -49,3 +52,18 @@ module _ (f : ℕ → List ℕ) (m : ℕ) (size : (k : ℕ) → length (f k) ≡
 pub entries-none : (f : ℕ → List ℕ) (o : List ℕ) (i : ℕ) → o ≡ over o i (entries f 0)
 unfolding entries
 entries-none f o i = sym (over-nil o i)
+
+-- the entries of a format, as a command's bytes have them
+pub entries-written : (fs : List Field) (g : ℕ → List ℕ) (n : ℕ) → writeEntries fs (tab g n) ≡ entries (λ (k : ℕ). writeFields fs (g k)) n
+unfolding entries tab writeEntries
+entries-written fs g zero = refl
+entries-written fs g (suc n) =
+    ap (λ (k : ℕ). writeEntries fs (tab g k)) (sym (add-one n)) ∙ format.entries-more fs g n ∙ ap (λ (l : List ℕ). l ++ writeFields fs (g n)) (entries-written fs g n)
+
+-- every place of an array, read at k * m from place i on
+pub whole-places : {A : Type 0} (read : ℕ → A) (d : A) (i m n : ℕ) → places d n (tab (λ (k : ℕ). read (i + k * m)) n) ≡ tab (λ (k : ℕ). read (i + m * k)) n
+unfolding places
+whole-places {A} read d i m n =
+    let xs : List A = tab (λ (k : ℕ). read (i + k * m)) n in
+    ap (λ (l : List A). xs ++ l) (drop-of-length-le (replicate n d) {i = length xs} (rw (length-tab (λ (k : ℕ). read (i + k * m)) n, length-replicate n d) (omega arith)))
+    ∙ append-nil xs ∙ tab-ext _ _ n (λ k h. ap (λ (j : ℕ). read (i + j)) (mul-comm k m))

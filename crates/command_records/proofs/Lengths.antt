@@ -15,23 +15,25 @@ use Rattle.commands.specs.declared.NwkCommand.{NwkCommand}
 use Rattle.commands.specs.declared.NwkCommandWithLists.{NwkCommandWithLists}
 use Rattle.commands.specs.declared.NwkLinkStatus.{NwkLinkStatus}
 use Rattle.commands.specs.declared.NwkPowerListEntry.{NwkPowerListEntry}
-use Rattle.commands.specs.Commands.{capabilityValues}
+use Rattle.commands.specs.Format.{size, sizes}
+use Rattle.commands.specs.Commands.{capabilityValues, linkPowerDeltaFormat, powerEntry, noPower}
 use Rattle.commands.specs.Reading.{places}
+use Rattle.commands.proofs.Format.{length-writeFields}
 use Rattle.command_records.specs.Fields.{addressRecord, fieldBytes, fieldsRecord}
-use Rattle.command_records.specs.Lists.{entries, numberEntry, linkRecord, linkEntry, powerRecord, powerEntry}
+use Rattle.command_records.specs.Lists.{entries, numbersRecord, linkRecord, linksRecord, powerRecord, powersRecord}
 use Rattle.command_records.specs.CommandRecord.{routingRecord, networkRecord}
 use Rattle.command_records.proofs.Entries.{entries-length}
 
-pub length-number : (xs : List ℕ) (k : ℕ) → length (numberEntry xs k) ≡ 2
+pub length-number : (xs : List ℕ) (k : ℕ) → length (numbersRecord xs k) ≡ 2
 length-number xs k = length-le 2 (getD xs k 0)
 
-pub length-link : (ls : List NwkLinkStatus) (k : ℕ) → length (linkEntry ls k) ≡ 4
+pub length-link : (ls : List NwkLinkStatus) (k : ℕ) → length (linksRecord ls k) ≡ 4
 unfolding linkRecord
 length-link ls k = simp (length-append, length-le)
 
-pub length-power : (ps : List NwkPowerListEntry) (k : ℕ) → length (powerEntry ps k) ≡ 3
-unfolding powerRecord
-length-power ps k = simp (length-append, length-le)
+pub length-power : (ps : List NwkPowerListEntry) (k : ℕ) → length (powersRecord ps k) ≡ 3
+unfolding powerRecord linkPowerDeltaFormat size sizes
+length-power ps k = length-writeFields (linkPowerDeltaFormat .entry) (powerEntry (getD ps k noPower))
 
 pub length-address : (a : OptionEui64) → length (addressRecord a) ≡ 9
 unfolding addressRecord
@@ -45,9 +47,9 @@ pub length-routing : (f : NwkCommandWithLists) → length (routingRecord f) ≡ 
 unfolding routingRecord
 length-routing f =
     rw (
-      length-append (le 1 (f .«relay_count») ++ entries (numberEntry (f .relays)) 53) (le 1 (f .«link_statuses_len») ++ entries (linkEntry (f .«link_statuses»)) 31),
-      length-counted (numberEntry (f .relays)) 2 (length-number (f .relays)) (f .«relay_count») 53,
-      length-counted (linkEntry (f .«link_statuses»)) 4 (length-link (f .«link_statuses»)) (f .«link_statuses_len») 31,
+      length-append (le 1 (f .«relay_count») ++ entries (numbersRecord (f .relays)) 53) (le 1 (f .«link_statuses_len») ++ entries (linksRecord (f .«link_statuses»)) 31),
+      length-counted (numbersRecord (f .relays)) 2 (length-number (f .relays)) (f .«relay_count») 53,
+      length-counted (linksRecord (f .«link_statuses»)) 4 (length-link (f .«link_statuses»)) (f .«link_statuses_len») 31,
     )
     refl
 
@@ -55,9 +57,9 @@ pub length-network : (f : NwkCommandWithLists) → length (networkRecord f) ≡ 
 unfolding networkRecord
 length-network f =
     rw (
-      length-append (le 1 (f .«report_information_count») ++ entries (numberEntry (f .«pan_ids»)) 31) (le 1 (f .«list_count») ++ entries (powerEntry (f .«power_list»)) 35),
-      length-counted (numberEntry (f .«pan_ids»)) 2 (length-number (f .«pan_ids»)) (f .«report_information_count») 31,
-      length-counted (powerEntry (f .«power_list»)) 3 (length-power (f .«power_list»)) (f .«list_count») 35,
+      length-append (le 1 (f .«report_information_count») ++ entries (numbersRecord (f .«pan_ids»)) 31) (le 1 (f .«list_count») ++ entries (powersRecord (f .«power_list»)) 35),
+      length-counted (numbersRecord (f .«pan_ids»)) 2 (length-number (f .«pan_ids»)) (f .«report_information_count») 31,
+      length-counted (powersRecord (f .«power_list»)) 3 (length-power (f .«power_list»)) (f .«list_count») 35,
     )
     refl
 

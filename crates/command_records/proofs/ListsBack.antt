@@ -2,7 +2,7 @@
 -- length, and one law reads a counted list back from the laws of a single entry.
 -- Assumes nothing.
 use mathlib.Core.Path.{_≡_, refl, sym, ap, subst, _∙_}
-use mathlib.Core.List.{List, _++_, append-assoc}
+use mathlib.Core.List.{List, _∷_, _++_, append-assoc}
 use Prim.Native.Nat.{ℕ, _+_, _*_, _%_, _<_}
 use native.Mathlib.Nat.{add-assoc, mod-eq-of-lt}
 use native.Mathlib.Omega.{arith}
@@ -12,10 +12,11 @@ use Rattle.octets.specs.Strings.{tab}
 use Rattle.octets.specs.Numbers.{le, leAt}
 use Rattle.octets.proofs.Strings.{tab-ext, tab-getD}
 use Rattle.octets.proofs.Numbers.{length-le, leAt-le, leAt-behind}
-use Rattle.commands.specs.Commands.{noLink, noPower}
+use Rattle.commands.specs.Format.{size, width, readField, readFields, writeField, writeFields}
+use Rattle.commands.specs.Commands.{noLink, linkPowerDeltaFormat, powerOf, powerEntry, powerAt, noPower}
 use Rattle.commands.specs.declared.NwkCommandWithLists.{NwkCommandWithLists}
 use Rattle.command_records.specs.Fields.{fieldsRecord}
-use Rattle.command_records.specs.Lists.{entries, numberEntry, linkRecord, linkEntry, powerRecord, powerEntry, linkAt, powerAt, withListsAt}
+use Rattle.command_records.specs.Lists.{entries, numbersRecord, linkRecord, linksRecord, powerRecord, powersRecord, linkRecordAt, withListsAt}
 use Rattle.command_records.specs.CommandRecord.{routingRecord, networkRecord, commandRecord}
 use Rattle.command_records.proofs.Entries.{entries-back}
 use Rattle.command_records.proofs.Lengths.{length-number, length-counted, length-fieldsRecord, length-routing, length-network}
@@ -63,8 +64,8 @@ getD-behind p s i j = rw (add-assoc (length p) i j) (getD-append-add p s (i + j)
 number : Entry Below16 2 (le 2) (leAt 2)
 number = record { length-write = length-le 2; behind = leAt-behind 2; back = leAt-le 2 }
 
-link : Entry LinkFits 4 linkRecord linkAt
-unfolding linkAt linkRecord le leAt
+link : Entry LinkFits 4 linkRecord linkRecordAt
+unfolding linkRecordAt linkRecord le leAt
 link =
     record {
       length-write = λ l. refl;
@@ -75,12 +76,12 @@ link =
     }
 
 power : Entry PowerFits 3 powerRecord powerAt
-unfolding powerAt powerRecord le leAt
+unfolding powerAt powerOf powerRecord powerEntry linkPowerDeltaFormat size width readFields readField writeFields writeField le leAt
 power =
     record {
       length-write = λ x. refl;
       behind = λ p s i j. record { «device_address» = leAt-behind 2 p s i j; «power_delta» = getD-behind p s i 2 j };
-      back = λ x s h j. record { «device_address» = leAt-le 2 (x .«device_address») (le 1 (x .«power_delta») ++ s) (h .0) j; «power_delta» = mod-eq-of-lt (h .1) j };
+      back = λ x s h j. record { «device_address» = leAt-le 2 (x .«device_address») (x .«power_delta» ∷ s) (h .0) j; «power_delta» = x .«power_delta» };
     }
 
 -- the bytes of an unparsed command stand as they are
@@ -99,29 +100,29 @@ module _ (f : NwkCommandWithLists) (w : CommandFits f) where
   fields = fieldsRecord (f .command)
 
   abbrev relays : List ℕ
-  relays = le 1 (f .«relay_count») ++ entries (numberEntry (f .relays)) 53
+  relays = le 1 (f .«relay_count») ++ entries (numbersRecord (f .relays)) 53
 
   abbrev links : List ℕ
-  links = le 1 (f .«link_statuses_len») ++ entries (linkEntry (f .«link_statuses»)) 31
+  links = le 1 (f .«link_statuses_len») ++ entries (linksRecord (f .«link_statuses»)) 31
 
   abbrev panIds : List ℕ
-  panIds = le 1 (f .«report_information_count») ++ entries (numberEntry (f .«pan_ids»)) 31
+  panIds = le 1 (f .«report_information_count») ++ entries (numbersRecord (f .«pan_ids»)) 31
 
   abbrev powers : List ℕ
-  powers = le 1 (f .«list_count») ++ entries (powerEntry (f .«power_list»)) 35
+  powers = le 1 (f .«list_count») ++ entries (powersRecord (f .«power_list»)) 35
 
   abbrev bytes : List ℕ
   bytes = le 1 (f .«unparsed_len») ++ f .unparsed
 
   -- how long the parts before each list are
   before-links : length (fields ++ relays) ≡ 132
-  before-links = joined-length fields relays 25 107 (length-fieldsRecord (f .command)) (length-counted (numberEntry (f .relays)) 2 (length-number (f .relays)) (f .«relay_count») 53)
+  before-links = joined-length fields relays 25 107 (length-fieldsRecord (f .command)) (length-counted (numbersRecord (f .relays)) 2 (length-number (f .relays)) (f .«relay_count») 53)
 
   before-panIds : length (fields ++ routingRecord f) ≡ 257
   before-panIds = joined-length fields (routingRecord f) 25 232 (length-fieldsRecord (f .command)) (length-routing f)
 
   before-powers : length ((fields ++ routingRecord f) ++ panIds) ≡ 320
-  before-powers = joined-length (fields ++ routingRecord f) panIds 257 63 before-panIds (length-counted (numberEntry (f .«pan_ids»)) 2 (length-number (f .«pan_ids»)) (f .«report_information_count») 31)
+  before-powers = joined-length (fields ++ routingRecord f) panIds 257 63 before-panIds (length-counted (numbersRecord (f .«pan_ids»)) 2 (length-number (f .«pan_ids»)) (f .«report_information_count») 31)
 
   before-bytes : length ((fields ++ routingRecord f) ++ networkRecord f) ≡ 426
   before-bytes = joined-length (fields ++ routingRecord f) (networkRecord f) 257 169 before-panIds (length-network f)
@@ -132,10 +133,10 @@ module _ (f : NwkCommandWithLists) (w : CommandFits f) where
       subst (λ (r : List ℕ). Stands (leAt 2) 2 53 (f .«relay_count») (f .relays) r 25) (simp append-assoc)
       (counted-back 0 number 53 (f .«relay_count») (f .relays) (w .relays) fields (links ++ (networkRecord f ++ bytes)) 25 (length-fieldsRecord (f .command)))
 
-  links-stand : Stands linkAt 4 31 (f .«link_statuses_len») (f .«link_statuses») (commandRecord f) 132
+  links-stand : Stands linkRecordAt 4 31 (f .«link_statuses_len») (f .«link_statuses») (commandRecord f) 132
   unfolding commandRecord routingRecord
   links-stand =
-      subst (λ (r : List ℕ). Stands linkAt 4 31 (f .«link_statuses_len») (f .«link_statuses») r 132) (simp append-assoc)
+      subst (λ (r : List ℕ). Stands linkRecordAt 4 31 (f .«link_statuses_len») (f .«link_statuses») r 132) (simp append-assoc)
       (counted-back noLink link 31 (f .«link_statuses_len») (f .«link_statuses») (w .links) (fields ++ relays) (networkRecord f ++ bytes) 132 before-links)
 
   panIds-stand : Stands (leAt 2) 2 31 (f .«report_information_count») (f .«pan_ids») (commandRecord f) 257

@@ -3,7 +3,7 @@
 -- Assumes nothing.
 use mathlib.Core.Path.{_≡_, refl, ap, _∙_}
 use mathlib.Core.Bool.{Bool, true, false, _||_}
-use mathlib.Core.List.{List, [], _∷_, map}
+use mathlib.Core.List.{List, [], _∷_}
 use Prim.Native.Nat.{ℕ, _+_, _-_, _≤_, _<_}
 use native.Mathlib.Decide.{decLt}
 use native.Mathlib.Omega.{arith}
@@ -18,7 +18,7 @@ use Rattle.octets.proofs.Numbers.{leAt-lt}
 use Rattle.octets.proofs.Conditions.{unless-number, skip-by}
 use Rattle.commands.specs.Format.{partSizes, kept, readField, readFields, values, announced}
 use Rattle.commands.specs.Commands.{noLink, noPower, linkStatusFormat, linkOf}
-use Rattle.commands.specs.Reading.{places, withLists, listOf, listed, typed, unparsed, parsed, readAs, readCommand}
+use Rattle.commands.specs.Reading.{places, withLists, listOf, listed, typed, unparsed, parsed, readCommand}
 use Rattle.commands.specs.Writing.{commandBytes, writeRefusal}
 use Rattle.commands.proofs.Ranges.{Ranged, RangedList, tooBig}
 use Rattle.commands.proofs.Reread.{getD-places, entryAt, entry-read, Writable}
@@ -30,7 +30,7 @@ use Rattle.commands.specs.declared.NwkCommandWithLists.{NwkCommandWithLists}
 use Rattle.commands.specs.declared.NwkLinkStatus.{NwkLinkStatus}
 use Rattle.commands.specs.declared.NwkPowerListEntry.{NwkPowerListEntry}
 use Rattle.commands.specs.declared.TypedBody.{TypedBody}
-use Rattle.command_records.specs.CommandRecord.{commandRecord, readRecord, writeRecordRefusal}
+use Rattle.command_records.specs.CommandRecord.{commandRecord, writeRecordRefusal}
 use Rattle.command_records.proofs.Lengths.{length-places}
 use Rattle.command_records.proofs.Fits.{Below16, LinkFits, PowerFits, ListFits, CommandFits}
 use Rattle.command_records.proofs.RoundTrip.{record-back}

@@ -1,7 +1,7 @@
 -- The tests of a record's fields: bytes that are each 0 or 1, looked at one by one, and the command that is said past the
 -- tests of identifier and flags.
 -- Assumes nothing.
-use mathlib.Core.Path.{_≡_, refl, sym, ap, _∙_}
+use mathlib.Core.Path.{_≡_, refl, sym, ap}
 use mathlib.Core.Bool.{Bool, true, false, cond}
 use mathlib.Core.List.{List}
 use mathlib.Core.Logic.{⊎-elim}

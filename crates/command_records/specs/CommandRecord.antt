@@ -13,7 +13,7 @@ use Rattle.commands.specs.declared.NwkCommandWithLists.{NwkCommandWithLists}
 use Rattle.commands.specs.declared.NwkCommandRead.{NwkCommandRead}
 use Rattle.commands.specs.declared.TypedBody.{TypedBody}
 use Rattle.command_records.specs.Fields.{fieldsRecord, said}
-use Rattle.command_records.specs.Lists.{entries, numberEntry, linkEntry, powerEntry, withListsAt}
+use Rattle.command_records.specs.Lists.{entries, numbersRecord, linksRecord, powersRecord, withListsAt}
 
 abbrev pub commandRecordSize : ℕ
 commandRecordSize = 535
@@ -23,14 +23,14 @@ commandRecordSize = 535
 -- 25 to 256
 unfoldable pub routingRecord : NwkCommandWithLists → List ℕ
 routingRecord f =
-    (le 1 (f .«relay_count») ++ entries (numberEntry (f .relays)) 53)
-    ++ (le 1 (f .«link_statuses_len») ++ entries (linkEntry (f .«link_statuses»)) 31)
+    (le 1 (f .«relay_count») ++ entries (numbersRecord (f .relays)) 53)
+    ++ (le 1 (f .«link_statuses_len») ++ entries (linksRecord (f .«link_statuses»)) 31)
 
 -- 257 to 425
 unfoldable pub networkRecord : NwkCommandWithLists → List ℕ
 networkRecord f =
-    (le 1 (f .«report_information_count») ++ entries (numberEntry (f .«pan_ids»)) 31)
-    ++ (le 1 (f .«list_count») ++ entries (powerEntry (f .«power_list»)) 35)
+    (le 1 (f .«report_information_count») ++ entries (numbersRecord (f .«pan_ids»)) 31)
+    ++ (le 1 (f .«list_count») ++ entries (powersRecord (f .«power_list»)) 35)
 
 unfoldable pub commandRecord : NwkCommandWithLists → List ℕ
 commandRecord f =

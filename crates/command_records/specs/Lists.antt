@@ -12,7 +12,8 @@ use Rattle.commands.specs.declared.NwkLinkStatus.{NwkLinkStatus}
 use Rattle.commands.specs.declared.NwkPowerListEntry.{NwkPowerListEntry}
 use Rattle.commands.specs.declared.NwkCommand.{NwkCommand}
 use Rattle.commands.specs.declared.NwkCommandWithLists.{NwkCommandWithLists}
-use Rattle.commands.specs.Commands.{noLink, noPower}
+use Rattle.commands.specs.Format.{writeFields}
+use Rattle.commands.specs.Commands.{noLink, linkPowerDeltaFormat, powerEntry, powerAt, noPower}
 
 -- the bytes of n entries, those of entry k being f k
 unfoldable pub entries : (ℕ → List ℕ) → ℕ → List ℕ
@@ -21,28 +22,26 @@ entries f (suc n) = entries f n ++ f n
 
 -- ---- an entry of each list
 
-abbrev pub numberEntry : List ℕ → ℕ → List ℕ
-numberEntry xs k = le 2 (getD xs k 0)
+abbrev pub numbersRecord : List ℕ → ℕ → List ℕ
+numbersRecord xs k = le 2 (getD xs k 0)
 
 unfoldable pub linkRecord : NwkLinkStatus → List ℕ
 linkRecord l = le 2 (l .address) ++ (le 1 (l .«incoming_cost») ++ le 1 (l .«outgoing_cost»))
 
-abbrev pub linkEntry : List NwkLinkStatus → ℕ → List ℕ
-linkEntry ls k = linkRecord (getD ls k noLink)
+abbrev pub linksRecord : List NwkLinkStatus → ℕ → List ℕ
+linksRecord ls k = linkRecord (getD ls k noLink)
 
+-- as in a link power delta
 unfoldable pub powerRecord : NwkPowerListEntry → List ℕ
-powerRecord p = le 2 (p .«device_address») ++ le 1 (p .«power_delta»)
+powerRecord p = writeFields (linkPowerDeltaFormat .entry) (powerEntry p)
 
-abbrev pub powerEntry : List NwkPowerListEntry → ℕ → List ℕ
-powerEntry ps k = powerRecord (getD ps k noPower)
+abbrev pub powersRecord : List NwkPowerListEntry → ℕ → List ℕ
+powersRecord ps k = powerRecord (getD ps k noPower)
 
 -- ---- and back
 
-unfoldable pub linkAt : List ℕ → ℕ → NwkLinkStatus
-linkAt r i = record { address = leAt 2 r i; «incoming_cost» = getD r (i + 2) 0; «outgoing_cost» = getD r (i + 3) 0 }
-
-unfoldable pub powerAt : List ℕ → ℕ → NwkPowerListEntry
-powerAt r i = record { «device_address» = leAt 2 r i; «power_delta» = getD r (i + 2) 0 }
+unfoldable pub linkRecordAt : List ℕ → ℕ → NwkLinkStatus
+linkRecordAt r i = record { address = leAt 2 r i; «incoming_cost» = getD r (i + 2) 0; «outgoing_cost» = getD r (i + 3) 0 }
 
 -- the command c with the lists of the record r
 unfoldable pub withListsAt : NwkCommand → List ℕ → NwkCommandWithLists
@@ -52,7 +51,7 @@ withListsAt c r =
       «relay_count» = getD r 25 0;
       relays = tab (λ (k : ℕ). leAt 2 r (26 + 2 * k)) 53;
       «link_statuses_len» = getD r 132 0;
-      «link_statuses» = tab (λ (k : ℕ). linkAt r (133 + 4 * k)) 31;
+      «link_statuses» = tab (λ (k : ℕ). linkRecordAt r (133 + 4 * k)) 31;
       «report_information_count» = getD r 257 0;
       «pan_ids» = tab (λ (k : ℕ). leAt 2 r (258 + 2 * k)) 31;
       «list_count» = getD r 320 0;

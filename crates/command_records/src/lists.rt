@@ -6,21 +6,10 @@ ghost use Prim.Native.Nat.{_+_, _*_, _≤_, _<_};
 ghost use lib.ListN.{length};
 ghost use Rattle.octets.specs.Strings.{over};
 ghost use Rattle.octets.specs.Numbers.{le};
-ghost use Rattle.command_records.specs.Lists.{entries, numberEntry, linkRecord, linkEntry, powerRecord, powerEntry};
+ghost use Rattle.command_records.specs.Lists.{entries, numbersRecord, linkRecord, linksRecord, powersRecord};
 use commands::NwkLinkStatus;
 use commands::NwkPowerListEntry;
-
-// Write 16-bit numbers at place i.
-fn put_numbers(out: &mut [u8], i: usize, xs: &[u16])
-    requires { ⌜ (i + 2 * length (now xs) ≤ length (now out)) × (length (now xs) < 256) ⌝ }
-    ensures { λ _. ⌜ now (out .exit) ≡ over (now (out .entry)) i (entries (numberEntry (now (xs .entry))) (length (now (xs .entry)))) ⌝ }
-{
-    let mut k = 0;
-    while k < xs.len() {
-        octets::put_u16(out, i + 2 * k, xs[k]);
-        k += 1;
-    }
-}
+use commands::lists;
 
 // Write a link status at place i.
 fn put_link(out: &mut [u8], i: usize, link: NwkLinkStatus)
@@ -35,7 +24,7 @@ fn put_link(out: &mut [u8], i: usize, link: NwkLinkStatus)
 // Write the 31 link statuses at place i.
 fn put_links(out: &mut [u8], i: usize, links: [NwkLinkStatus; 31])
     requires { ⌜ i + 124 ≤ length (now out) ⌝ }
-    ensures { λ _. ⌜ now (out .exit) ≡ over (now (out .entry)) i (entries (linkEntry links) 31) ⌝ }
+    ensures { λ _. ⌜ now (out .exit) ≡ over (now (out .entry)) i (entries (linksRecord links) 31) ⌝ }
 {
     let mut k = 0;
     while k < 31 {
@@ -45,41 +34,19 @@ fn put_links(out: &mut [u8], i: usize, links: [NwkLinkStatus; 31])
     }
 }
 
-// Write a power list entry at place i.
-fn put_power(out: &mut [u8], i: usize, power: NwkPowerListEntry)
-    requires { ⌜ i + 3 ≤ length (now out) ⌝ }
-    ensures { λ _. ⌜ now (out .exit) ≡ over (now (out .entry)) i (powerRecord power) ⌝ }
-{
-    octets::put_u16(out, i, power.device_address);
-    octets::put_u8(out, i + 2, power.power_delta);
-}
-
-// Write the 35 entries of a power list at place i.
-fn put_powers(out: &mut [u8], i: usize, powers: [NwkPowerListEntry; 35])
-    requires { ⌜ i + 105 ≤ length (now out) ⌝ }
-    ensures { λ _. ⌜ now (out .exit) ≡ over (now (out .entry)) i (entries (powerEntry powers) 35) ⌝ }
-{
-    let mut k = 0;
-    while k < 35 {
-        let power = powers[k];
-        put_power(out, i + 3 * k, power);
-        k += 1;
-    }
-}
-
 // Write a count and numbers behind it at place i.
 fn put_counted(out: &mut [u8], i: usize, n: u8, xs: &[u16])
     requires { ⌜ (i + 1 + 2 * length (now xs) ≤ length (now out)) × (length (now xs) < 256) ⌝ }
-    ensures { λ _. ⌜ now (out .exit) ≡ over (now (out .entry)) i (le 1 n ++ entries (numberEntry (now (xs .entry))) (length (now (xs .entry)))) ⌝ }
+    ensures { λ _. ⌜ now (out .exit) ≡ over (now (out .entry)) i (le 1 n ++ entries (numbersRecord (now (xs .entry))) (length (now (xs .entry)))) ⌝ }
 {
     octets::put_u8(out, i, n);
-    put_numbers(out, i + 1, xs);
+    lists::put_numbers(out, i + 1, xs, xs.len());
 }
 
 // Write a count and the link statuses behind it at place i.
 fn put_counted_links(out: &mut [u8], i: usize, n: u8, links: [NwkLinkStatus; 31])
     requires { ⌜ i + 125 ≤ length (now out) ⌝ }
-    ensures { λ _. ⌜ now (out .exit) ≡ over (now (out .entry)) i (le 1 n ++ entries (linkEntry links) 31) ⌝ }
+    ensures { λ _. ⌜ now (out .exit) ≡ over (now (out .entry)) i (le 1 n ++ entries (linksRecord links) 31) ⌝ }
 {
     octets::put_u8(out, i, n);
     put_links(out, i + 1, links);
@@ -88,10 +55,10 @@ fn put_counted_links(out: &mut [u8], i: usize, n: u8, links: [NwkLinkStatus; 31]
 // Write a count and the power list behind it at place i.
 fn put_counted_powers(out: &mut [u8], i: usize, n: u8, powers: [NwkPowerListEntry; 35])
     requires { ⌜ i + 106 ≤ length (now out) ⌝ }
-    ensures { λ _. ⌜ now (out .exit) ≡ over (now (out .entry)) i (le 1 n ++ entries (powerEntry powers) 35) ⌝ }
+    ensures { λ _. ⌜ now (out .exit) ≡ over (now (out .entry)) i (le 1 n ++ entries (powersRecord powers) 35) ⌝ }
 {
     octets::put_u8(out, i, n);
-    put_powers(out, i + 1, powers);
+    lists::put_powers(out, i + 1, powers, 35);
 }
 
 // Write the relays and the link statuses at their places.
@@ -103,7 +70,7 @@ pub fn put_routing(
     links: [NwkLinkStatus; 31],
 )
     requires { ⌜ 257 ≤ length (now out) ⌝ }
-    ensures { λ _. ⌜ now (out .exit) ≡ over (now (out .entry)) 25 ((le 1 «relay_count» ++ entries (numberEntry relays) 53) ++ (le 1 «links_len» ++ entries (linkEntry links) 31)) ⌝ }
+    ensures { λ _. ⌜ now (out .exit) ≡ over (now (out .entry)) 25 ((le 1 «relay_count» ++ entries (numbersRecord relays) 53) ++ (le 1 «links_len» ++ entries (linksRecord links) 31)) ⌝ }
 {
     put_counted(out, 25, relay_count, &relays);
     put_counted_links(out, 132, links_len, links);
@@ -118,7 +85,7 @@ pub fn put_network(
     powers: [NwkPowerListEntry; 35],
 )
     requires { ⌜ 426 ≤ length (now out) ⌝ }
-    ensures { λ _. ⌜ now (out .exit) ≡ over (now (out .entry)) 257 ((le 1 «pan_count» ++ entries (numberEntry «pan_ids») 31) ++ (le 1 «powers_len» ++ entries (powerEntry powers) 35)) ⌝ }
+    ensures { λ _. ⌜ now (out .exit) ≡ over (now (out .entry)) 257 ((le 1 «pan_count» ++ entries (numbersRecord «pan_ids») 31) ++ (le 1 «powers_len» ++ entries (powersRecord powers) 35)) ⌝ }
 {
     put_counted(out, 257, pan_count, &pan_ids);
     put_counted_powers(out, 320, powers_len, powers);

@@ -2,5 +2,4 @@
 mod Ready
 mod LinkCosts
 mod WriteRefusal
-mod Chain
 mod ReplyBytes

@@ -29,6 +29,7 @@ use commands::NwkRejoinResponseCommand;
 use commands::NwkRouteReplyCommand;
 use commands::NwkRouteRequestCommand;
 use commands::has_address;
+use commands::lists;
 
 // 3.4.1 Route Request.
 pub fn write_route_request(c: NwkRouteRequestCommand, out: &mut [u8])
@@ -40,7 +41,7 @@ pub fn write_route_request(c: NwkRouteRequestCommand, out: &mut [u8])
     let flags = options::route_request_options(many_to_one.code(), has_address(address));
     puts::put_three(out, 0x01, flags, c.route_request_identifier);
     octets::put_u16(out, 3, c.destination_address);
-    puts::put_byte(out, 5, c.path_cost);
+    lists::put_byte(out, 5, c.path_cost);
     puts::put_address(out, 6, address);
 }
 
@@ -55,7 +56,7 @@ fn write_route_reply_head(c: NwkRouteReplyCommand, out: &mut [u8])
     puts::put_three(out, 0x02, flags, c.route_request_identifier);
     octets::put_u16(out, 3, c.originator_nwk);
     octets::put_u16(out, 5, c.responder_nwk);
-    puts::put_byte(out, 7, c.path_cost);
+    lists::put_byte(out, 7, c.path_cost);
 }
 
 // 3.4.2 Route Reply.
@@ -96,7 +97,7 @@ pub fn write_route_record(relays: [u16; 53], n: u8, out: &mut [u8])
     ensures { λ _. ⌜ now (out .exit) ≡ over (now (out .entry)) 0 (wireBytes (Wire.body NwkCommandId.RouteRecord (routeRecordValues relays n))) ⌝ }
 {
     puts::put_two(out, 0x05, n);
-    puts::put_numbers(out, 2, &relays, n as usize);
+    lists::put_numbers(out, 2, &relays, n as usize);
 }
 
 // 3.4.6 Rejoin Request.
@@ -114,9 +115,9 @@ pub fn write_rejoin_response(c: NwkRejoinResponseCommand, out: &mut [u8])
     ensures { λ _. ⌜ now (out .exit) ≡ over (now (out .entry)) 0 (wireBytes (Wire.body NwkCommandId.RejoinResponse (rejoinResponseValues c))) ⌝ }
 {
     let rejoin_status = c.rejoin_status;
-    puts::put_byte(out, 0, 0x07);
+    lists::put_byte(out, 0, 0x07);
     octets::put_u16(out, 1, c.network_address);
-    puts::put_byte(out, 3, rejoin_status.code());
+    lists::put_byte(out, 3, rejoin_status.code());
 }
 
 // 3.4.8 Link Status.
@@ -138,7 +139,7 @@ pub fn write_network_report(c: NwkNetworkReportCommand, ids: [u16; 31], n: u8, o
     let flags = options::count_and_identifier(n, identifier.code());
     puts::put_two(out, 0x09, flags);
     octets::put_u64(out, 2, c.epid);
-    puts::put_numbers(out, 10, &ids, n as usize);
+    lists::put_numbers(out, 10, &ids, n as usize);
 }
 
 // 3.4.10 Network Update.
@@ -150,7 +151,7 @@ pub fn write_network_update(c: NwkNetworkUpdateCommand, out: &mut [u8])
     let flags = options::count_and_identifier(c.update_information_count, identifier.code());
     puts::put_two(out, 0x0a, flags);
     octets::put_u64(out, 2, c.epid);
-    puts::put_byte(out, 10, c.update_id);
+    lists::put_byte(out, 10, c.update_id);
     octets::put_u16(out, 11, c.new_pan_id);
 }
 
@@ -190,7 +191,7 @@ pub fn write_link_power_delta(
     let command_type = c.command_type;
     let flags = options::power_options(command_type.code());
     puts::put_three(out, 0x0d, flags, n);
-    puts::put_powers(out, 3, powers, n as usize);
+    lists::put_powers(out, 3, powers, n as usize);
 }
 
 // 3.4.14 Network Commissioning Request.
@@ -210,7 +211,7 @@ pub fn write_commissioning_response(c: NwkNetworkCommissioningResponseCommand, o
     ensures { λ _. ⌜ now (out .exit) ≡ over (now (out .entry)) 0 (wireBytes (Wire.body NwkCommandId.NetworkCommissioningResponse (commissioningResponseValues c))) ⌝ }
 {
     let status = c.status;
-    puts::put_byte(out, 0, 0x0f);
+    lists::put_byte(out, 0, 0x0f);
     octets::put_u16(out, 1, c.network_address);
-    puts::put_byte(out, 3, status.code());
+    lists::put_byte(out, 3, status.code());
 }

@@ -6,27 +6,19 @@ ghost use Prim.Native.Nat.{ℕ, _+_, _*_, _≤_, _<_};
 ghost use lib.ListN.{length, getD};
 ghost use Rattle.octets.specs.Strings.{over, tab};
 ghost use Rattle.commands.specs.Format.{writeFields, writeEntries};
-ghost use Rattle.commands.specs.Commands.{routeRequestFormat, routeRecordFormat, linkStatusFormat, linkPowerDeltaFormat, has, addressEntry, relayEntry, linkEntry, noLink, powerEntry, noPower};
+ghost use Rattle.commands.specs.Commands.{routeRequestFormat, linkStatusFormat, has, addressEntry, linkEntry, noLink};
 ghost use Rattle.command_writer.specs.Options.{LowCosts};
 use commands::NwkLinkStatus;
-use commands::NwkPowerListEntry;
+use commands::lists;
 use types::OptionEui64;
-
-// One byte.
-pub fn put_byte(out: &mut [u8], i: usize, x: u8)
-    requires { ⌜ i + 1 ≤ length (now out) ⌝ }
-    ensures { λ _. ⌜ now (out .exit) ≡ over (now (out .entry)) i (x ∷ []) ⌝ }
-{
-    out[i] = x;
-}
 
 // The identifier and the byte behind it.
 pub fn put_two(out: &mut [u8], a: u8, b: u8)
     requires { ⌜ 2 ≤ length (now out) ⌝ }
     ensures { λ _. ⌜ now (out .exit) ≡ over (now (out .entry)) 0 (a ∷ b ∷ []) ⌝ }
 {
-    put_byte(out, 0, a);
-    put_byte(out, 1, b);
+    lists::put_byte(out, 0, a);
+    lists::put_byte(out, 1, b);
 }
 
 // The identifier and the two bytes behind it.
@@ -35,7 +27,7 @@ pub fn put_three(out: &mut [u8], a: u8, b: u8, x: u8)
     ensures { λ _. ⌜ now (out .exit) ≡ over (now (out .entry)) 0 (a ∷ b ∷ x ∷ []) ⌝ }
 {
     put_two(out, a, b);
-    put_byte(out, 2, x);
+    lists::put_byte(out, 2, x);
 }
 
 // An optional IEEE address.
@@ -51,18 +43,6 @@ pub fn put_address(out: &mut [u8], i: usize, address: OptionEui64)
     }
 }
 
-// The first n of a list of 16-bit numbers.
-pub fn put_numbers(out: &mut [u8], i: usize, xs: &[u16], n: usize)
-    requires { ⌜ (n ≤ length (now xs)) × (i + n * 2 ≤ length (now out)) ⌝ }
-    ensures { λ _. ⌜ now (out .exit) ≡ over (now (out .entry)) i (writeEntries (routeRecordFormat .entry) (tab (λ (k : ℕ). relayEntry (getD (now (xs .entry)) k 0)) n)) ⌝ }
-{
-    let mut k = 0;
-    while k < n {
-        octets::put_u16(out, i + k * 2, xs[k]);
-        k += 1;
-    }
-}
-
 // A link status entry.
 fn put_link(out: &mut [u8], i: usize, link: NwkLinkStatus)
     requires { ⌜ (i + 3 ≤ length (now out)) × (link .«incoming_cost» ≤ 7) × (link .«outgoing_cost» ≤ 7) ⌝ }
@@ -70,7 +50,7 @@ fn put_link(out: &mut [u8], i: usize, link: NwkLinkStatus)
 {
     let costs = crate::options::costs_byte(link.incoming_cost, link.outgoing_cost);
     octets::put_u16(out, i, link.address);
-    put_byte(out, i + 2, costs);
+    lists::put_byte(out, i + 2, costs);
 }
 
 // The first n link status entries.
@@ -82,28 +62,6 @@ pub fn put_links(out: &mut [u8], i: usize, links: [NwkLinkStatus; 31], n: usize)
     while k < n {
         let link = links[k];
         put_link(out, i + k * 3, link);
-        k += 1;
-    }
-}
-
-// A power list entry.
-fn put_power(out: &mut [u8], i: usize, power: NwkPowerListEntry)
-    requires { ⌜ i + 3 ≤ length (now out) ⌝ }
-    ensures { λ _. ⌜ now (out .exit) ≡ over (now (out .entry)) i (writeFields (linkPowerDeltaFormat .entry) (powerEntry power)) ⌝ }
-{
-    octets::put_u16(out, i, power.device_address);
-    put_byte(out, i + 2, power.power_delta);
-}
-
-// The first n power list entries.
-pub fn put_powers(out: &mut [u8], i: usize, powers: [NwkPowerListEntry; 35], n: usize)
-    requires { ⌜ (n ≤ 35) × (i + n * 3 ≤ length (now out)) ⌝ }
-    ensures { λ _. ⌜ now (out .exit) ≡ over (now (out .entry)) i (writeEntries (linkPowerDeltaFormat .entry) (tab (λ (k : ℕ). powerEntry (getD powers k noPower)) n)) ⌝ }
-{
-    let mut k = 0;
-    while k < n {
-        let power = powers[k];
-        put_power(out, i + k * 3, power);
         k += 1;
     }
 }

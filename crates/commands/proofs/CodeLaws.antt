@@ -57,23 +57,6 @@ commandId-back NwkCommandId.LinkPowerDelta = refl
 commandId-back NwkCommandId.NetworkCommissioningRequest = refl
 commandId-back NwkCommandId.NetworkCommissioningResponse = refl
 
-pub commandId-lt : (k : NwkCommandId) → commandIdCode k < 256
-commandId-lt NwkCommandId.RouteRequest = lit< tt
-commandId-lt NwkCommandId.RouteReply = lit< tt
-commandId-lt NwkCommandId.NetworkStatus = lit< tt
-commandId-lt NwkCommandId.Leave = lit< tt
-commandId-lt NwkCommandId.RouteRecord = lit< tt
-commandId-lt NwkCommandId.RejoinRequest = lit< tt
-commandId-lt NwkCommandId.RejoinResponse = lit< tt
-commandId-lt NwkCommandId.LinkStatus = lit< tt
-commandId-lt NwkCommandId.NetworkReport = lit< tt
-commandId-lt NwkCommandId.NetworkUpdate = lit< tt
-commandId-lt NwkCommandId.EndDeviceTimeoutRequest = lit< tt
-commandId-lt NwkCommandId.EndDeviceTimeoutResponse = lit< tt
-commandId-lt NwkCommandId.LinkPowerDelta = lit< tt
-commandId-lt NwkCommandId.NetworkCommissioningRequest = lit< tt
-commandId-lt NwkCommandId.NetworkCommissioningResponse = lit< tt
-
 -- ---- NwkRouteRequestManyToOne
 
 pub manyToOne-back : (k : NwkRouteRequestManyToOne) → manyToOneOf (manyToOneCode k) ≡ NwkRouteRequestManyToOneCode.Known k

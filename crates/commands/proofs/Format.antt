@@ -205,11 +205,6 @@ unfolding tab heldEntries
 held-suc fs g n =
     held-append fs (tab g n) (g n ∷ []) ∙ ap (λ (b : Bool). heldEntries fs (tab g n) && b) (and-true (heldFields fs (g n)))
 
--- one more entry at the end
-pub held-more : (fs : List Field) (g : ℕ → List ℕ) (n : ℕ)
-    → heldEntries fs (tab g (n + 1)) ≡ (heldEntries fs (tab g n) && heldFields fs (g n))
-held-more fs g n = rw (add-one n) (held-suc fs g n)
-
 pub held-all : (fs : List Field) (g : ℕ → List ℕ) (n : ℕ) → ((k : ℕ) → k < n → heldFields fs (g k) ≡ true) → heldEntries fs (tab g n) ≡ true
 unfolding tab heldEntries
 held-all fs g zero h = refl

@@ -8,3 +8,5 @@ pub mod InRange
 pub mod Reread
 pub mod RoundTrip
 pub mod Seconds
+pub mod EntriesWritten
+pub mod Filling

@@ -11,7 +11,7 @@ use borrow.Author.Tests.{le-leb, lt-ltb, le-ltb, ltb-false, leb-true, not-false}
 use lib.Dec.{ltb, leb}
 use lib.ListN.{length, getD, take}
 use Rattle.octets.specs.Strings.{Below}
-use Rattle.octets.specs.Refusals.{on, by, firstOf, unless}
+use Rattle.octets.specs.Refusals.{on, firstOf, unless}
 use Rattle.octets.proofs.Conditions.{accepted, none, none-refuse, stop, skip, skip-by}
 use Rattle.octets.proofs.Writing.{write-accepted}
 use Rattle.octets.proofs.Strings.{take-over}

@@ -10,7 +10,7 @@ use lib.Dec.{eqb}
 use Rattle.octets.specs.Strings.{tab}
 use Rattle.octets.specs.Fields.{bit}
 use Rattle.commands.specs.Codes.{manyToOneCode, manyToOneOf, statusCode, statusOf, associationStatusCode, associationStatusOf, reportIdentifierCode, reportIdentifierOf, updateIdentifierCode, updateIdentifierOf, timeoutCode, timeoutOf, timeoutStatusCode, timeoutStatusOf, powerTypeCode, powerTypeOf, commissioningTypeCode, commissioningTypeOf, isSet, deviceTypeBit, deviceTypeOf, powerSourceBit, powerSourceOf}
-use Rattle.commands.specs.Format.{Field, Format, Values}
+use Rattle.commands.specs.Format.{Field, Format, Values, readFields}
 use Rattle.commands.specs.Format.Part.{keep, skip}
 use Rattle.commands.specs.Format.Field.{byte, number, bits}
 use Rattle.types.specs.declared.OptionEui64.{OptionEui64}
@@ -246,6 +246,10 @@ linkOf e = record { address = getD e 0 0; «incoming_cost» = getD e 1 0; «outg
 unfoldable pub linkEntry : NwkLinkStatus → List ℕ
 linkEntry l = l .address ∷ l .«incoming_cost» ∷ l .«outgoing_cost» ∷ []
 
+-- the entry at place i of the bytes s
+unfoldable pub linkAt : List ℕ → ℕ → NwkLinkStatus
+linkAt s i = linkOf (readFields (linkStatusFormat .entry) s i)
+
 abbrev pub noLink : NwkLinkStatus
 noLink = record { address = 0; «incoming_cost» = 0; «outgoing_cost» = 0 }
 
@@ -355,6 +359,10 @@ powerOf e = record { «device_address» = getD e 0 0; «power_delta» = getD e 1
 
 unfoldable pub powerEntry : NwkPowerListEntry → List ℕ
 powerEntry p = p .«device_address» ∷ p .«power_delta» ∷ []
+
+-- the entry at place i of the bytes s
+unfoldable pub powerAt : List ℕ → ℕ → NwkPowerListEntry
+powerAt s i = powerOf (readFields (linkPowerDeltaFormat .entry) s i)
 
 abbrev pub noPower : NwkPowerListEntry
 noPower = record { «device_address» = 0; «power_delta» = 0 }

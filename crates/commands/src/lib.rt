@@ -2,6 +2,7 @@
 // command id. What the bytes of a command are is in specs/; reading and writing them are the crates above.
 
 pub mod codes;
+pub mod lists;
 
 ghost use mathlib.Core.Path.{_≡_};
 ghost use mathlib.Core.List.{[]};
@@ -432,13 +433,13 @@ impl NwkCommand {
     }
 }
 
-const NO_LINK: NwkLinkStatus = NwkLinkStatus {
+pub const NO_LINK: NwkLinkStatus = NwkLinkStatus {
     address: 0,
     incoming_cost: 0,
     outgoing_cost: 0,
 };
 
-const NO_POWER: NwkPowerListEntry = NwkPowerListEntry {
+pub const NO_POWER: NwkPowerListEntry = NwkPowerListEntry {
     device_address: 0,
     power_delta: 0,
 };

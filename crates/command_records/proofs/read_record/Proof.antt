@@ -3,7 +3,6 @@
 use borrow.Author.Needs.{needs}
 use mathlib.Core.Path.{_≡_, sym, ap, _∙_}
 use borrow.Author.Tests.{eq-eqb, ne-eqb}
-use lib.ListN.{length}
 use Rattle.command_records.proofs.read_record.Statement.{statement}
 use Rattle.command_records.proofs.read_record.Tie as tie
 use Rattle.commands.specs.Reading.{readAs, unparsed}

@@ -1,13 +1,13 @@
 -- `command_writer::serialize` meets its contract: a refusal changes nothing, else the command stands at the front.
 -- Assumes nothing.
 use borrow.Author.Needs.{needs}
-use mathlib.Core.Path.{_≡_, sym, ap, _∙_}
+use mathlib.Core.Path.{sym, ap, _∙_}
 use lib.ListN.{length}
 use Rattle.command_writer.proofs.serialize.Statement.{statement}
 use Rattle.command_writer.proofs.serialize.Tie as tie
 use Rattle.octets.specs.Writing.{Run}
 use Rattle.octets.proofs.Writing.{write-accepted, write-refused}
-use Rattle.commands.specs.Writing.{commandBytes, writeRefusal, writeCommand}
+use Rattle.commands.specs.Writing.{commandBytes, writeCommand}
 
 returns : tie.Need-returns
 unfolding writeCommand

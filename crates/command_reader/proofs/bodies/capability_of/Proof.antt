@@ -4,10 +4,10 @@ use Rattle.command_reader.proofs.bodies.capability_of.Statement.{statem
 use Rattle.command_reader.proofs.bodies.capability_of.Tie as tie
 use Rattle.octets.specs.Fields.{fields}
 use Rattle.commands.specs.Commands.{capabilityOf}
-use Rattle.command_reader.specs.Capability.{capabilityByte}
+use Rattle.command_reader.specs.Capability.{capabilityOfByte}
 
 returns : tie.Need-returns
-unfolding capabilityByte capabilityOf fields
+unfolding capabilityOfByte capabilityOf fields
 returns c = rw (c .before .from-bit .ensures, c .from-bit2 .ensures)
 
 pub capability-of-spec : {M : Type 1} → statement M

@@ -13,7 +13,7 @@ use Rattle.commands.specs.declared.TypedBody.{TypedBody}
 use Rattle.command_reader.proofs.Whole.{short, whole}
 use Rattle.commands.specs.Codes.{commissioningTypeOf}
 use Rattle.commands.specs.Commands.{commissioningRequestFormat, commissioningRequestOf, commissioningRequestBy, capabilityField}
-use Rattle.command_reader.specs.Capability.{capabilityByte}
+use Rattle.command_reader.specs.Capability.{capabilityOfByte}
 
 returns : tie.Need-returns
 unfolding values bodyEnd headEnd announced summed plus readFields readField kept partSizes size sizes fields formatOf commandOf capabilityField commissioningRequestFormat commissioningRequestOf
@@ -21,17 +21,17 @@ returns c =
     short NwkCommandId.NetworkCommissioningRequest (c .before .before .args .s .now) (c .if1 .taken)
 
 returns-2 : tie.Need-returns-2
-unfolding values bodyEnd headEnd announced summed plus readFields readField kept partSizes size sizes fields formatOf commandOf commissioningRequestFormat commissioningRequestOf commissioningRequestBy capabilityByte capabilityField
+unfolding values bodyEnd headEnd announced summed plus readFields readField kept partSizes size sizes fields formatOf commandOf commissioningRequestFormat commissioningRequestOf commissioningRequestBy capabilityOfByte capabilityField
 returns-2 c =
     let s = c .before .before .before .before .before .before .args .s .now in
     ap (λ k. commissioningRequestBy k (values commissioningRequestFormat s)) (sym (c .enum-told .given .1) ∙ c .before .before .try-from .ensures ∙ ap (λ (x : ℕ). commissioningTypeOf (x)) (c .before .before .before .byte-at .ensures))
     ∙ whole NwkCommandId.NetworkCommissioningRequest s (c .before .before .before .before .if1 .left)
 
 returns-3 : tie.Need-returns-3
-unfolding values bodyEnd headEnd announced summed plus readFields readField kept partSizes size sizes fields formatOf commandOf commissioningRequestFormat commissioningRequestOf commissioningRequestBy capabilityByte capabilityField
+unfolding values bodyEnd headEnd announced summed plus readFields readField kept partSizes size sizes fields formatOf commandOf commissioningRequestFormat commissioningRequestOf commissioningRequestBy capabilityOfByte capabilityField
 returns-3 c =
     let s = c .before .before .before .before .before .before .before .before .before .args .s .now in
-    (λ i. TypedBody.Typed (NwkCommand.NetworkCommissioningRequest (record { «commissioning_type» = c .before .before .before .commissioning-type .given .0 .0; «capability_information» = (c .capability-of .ensures ∙ ap capabilityByte (c .before .byte-at2 .ensures)) i })))
+    (λ i. TypedBody.Typed (NwkCommand.NetworkCommissioningRequest (record { «commissioning_type» = c .before .before .before .commissioning-type .given .0 .0; «capability_information» = (c .capability-of .ensures ∙ ap capabilityOfByte (c .before .byte-at2 .ensures)) i })))
     ∙ ap (λ k. commissioningRequestBy k (values commissioningRequestFormat s)) (sym (c .before .before .before .commissioning-type .given .1) ∙ c .before .before .before .before .before .try-from .ensures ∙ ap (λ (x : ℕ). commissioningTypeOf (x)) (c .before .before .before .before .before .before .byte-at .ensures))
     ∙ whole NwkCommandId.NetworkCommissioningRequest s (c .before .before .before .before .before .before .before .if1 .left)
 

@@ -11,17 +11,17 @@ use Rattle.commands.specs.declared.NwkCommand.{NwkCommand}
 use Rattle.commands.specs.declared.TypedBody.{TypedBody}
 use Rattle.command_reader.proofs.Whole.{short, whole}
 use Rattle.commands.specs.Commands.{rejoinRequestFormat, rejoinRequestOf, capabilityField}
-use Rattle.command_reader.specs.Capability.{capabilityByte}
+use Rattle.command_reader.specs.Capability.{capabilityOfByte}
 
 returns : tie.Need-returns
 unfolding values bodyEnd headEnd announced summed plus readFields readField kept partSizes size sizes fields formatOf commandOf capabilityField rejoinRequestFormat rejoinRequestOf
 returns c = short NwkCommandId.RejoinRequest (c .before .before .args .s .now) (c .if1 .taken)
 
 returns-2 : tie.Need-returns-2
-unfolding values bodyEnd headEnd announced summed plus readFields readField kept partSizes size sizes fields formatOf commandOf rejoinRequestFormat rejoinRequestOf capabilityByte capabilityField
+unfolding values bodyEnd headEnd announced summed plus readFields readField kept partSizes size sizes fields formatOf commandOf rejoinRequestFormat rejoinRequestOf capabilityOfByte capabilityField
 returns-2 c =
     let s = c .before .before .before .before .args .s .now in
-    (λ i. TypedBody.Typed (NwkCommand.RejoinRequest (record { «capability_information» = (c .capability-of .ensures ∙ ap capabilityByte (c .before .byte-at .ensures)) i })))
+    (λ i. TypedBody.Typed (NwkCommand.RejoinRequest (record { «capability_information» = (c .capability-of .ensures ∙ ap capabilityOfByte (c .before .byte-at .ensures)) i })))
     ∙ whole NwkCommandId.RejoinRequest s (c .before .before .if1 .left)
 
 pub read-rejoin-request-spec : {M : Type 1} → statement M

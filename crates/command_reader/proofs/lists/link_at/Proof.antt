@@ -6,7 +6,7 @@ use Rattle.command_reader.proofs.lists.link_at.Tie as tie
 use Rattle.octets.specs.Fields.{fields}
 use Rattle.commands.specs.Format.{readFields, readField, kept, partSizes, size}
 use Rattle.commands.specs.Commands.{linkStatusFormat, linkOf}
-use Rattle.command_reader.specs.Entries.{linkAt}
+use Rattle.commands.specs.Commands.{linkAt}
 
 returns : tie.Need-returns
 unfolding linkAt linkOf linkStatusFormat readFields readField kept partSizes size fields

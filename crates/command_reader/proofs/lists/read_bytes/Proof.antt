@@ -6,9 +6,9 @@ use lib.ListN.{length, getD}
 use Rattle.command_reader.proofs.lists.read_bytes.Statement.{statement}
 use Rattle.command_reader.proofs.lists.read_bytes.Tie as tie
 use Rattle.octets.specs.Strings.{tab}
-use Rattle.command_reader.proofs.Filling.{Filled, fill-next, fill-end}
+use Rattle.commands.proofs.Filling.{Filled, fill-next, fill-end}
 use Rattle.commands.specs.Reading.{places}
-use Rattle.command_reader.proofs.Filling.{tab-whole}
+use Rattle.commands.proofs.Filling.{tab-whole}
 
 abbrev Inv-loop : tie.InvT-loop
 Inv-loop s bytes₀ k₀ bytes k = (k ≤ length s) × Filled (λ (j : ℕ). getD s j 0) 108 0 k bytes

@@ -5,9 +5,9 @@ use native.Mathlib.Omega.{arith}
 use Rattle.command_reader.proofs.lists.read_link_statuses.Statement.{statement}
 use Rattle.command_reader.proofs.lists.read_link_statuses.Tie as tie
 use Rattle.octets.specs.Strings.{tab}
-use Rattle.command_reader.proofs.Filling.{Filled, fill-next, fill-end}
+use Rattle.commands.proofs.Filling.{Filled, fill-next, fill-end}
 use Rattle.commands.specs.Commands.{noLink}
-use Rattle.command_reader.specs.Entries.{linkAt}
+use Rattle.commands.specs.Commands.{linkAt}
 
 abbrev Inv-loop : tie.InvT-loop
 Inv-loop s n links₀ k₀ links k = (k ≤ n) × Filled (λ (j : ℕ). linkAt (s) (2 + j * 3)) 31 noLink k links

@@ -9,15 +9,15 @@ use Rattle.command_records.proofs.lists.put_network.Tie as tie
 use Rattle.octets.specs.Strings.{over}
 use Rattle.octets.specs.Numbers.{le}
 use Rattle.octets.proofs.Strings.{over-then}
-use Rattle.command_records.specs.Lists.{entries, numberEntry}
+use Rattle.command_records.specs.Lists.{entries, numbersRecord}
 use Rattle.command_records.proofs.Lengths.{length-counted, length-number}
 
 returns : tie.Need-returns
 returns c =
     let a = c .before .before .before .before .before .before .before .before .before .before .args in
     let all : length (a .t3) ≡ 31 = omega arith in
-    over-then (a .out .now) _ _ 257 320 (le 1 (a .pan-count) ++ entries (numberEntry (a .t3)) 31) _ (omega (arith, c .before .before .before .before .before .before .before .before .before .before .pre)) (rw (length-counted (numberEntry (a .t3)) 2 (length-number (a .t3)) (a .pan-count) 31) refl)
-    (c .before .before .before .before .before .before .put-counted .ensures ∙ ap (λ k. over (a .out .now) 257 (le 1 (a .pan-count) ++ entries (numberEntry (a .t3)) k)) all)
+    over-then (a .out .now) _ _ 257 320 (le 1 (a .pan-count) ++ entries (numbersRecord (a .t3)) 31) _ (omega (arith, c .before .before .before .before .before .before .before .before .before .before .pre)) (rw (length-counted (numbersRecord (a .t3)) 2 (length-number (a .t3)) (a .pan-count) 31) refl)
+    (c .before .before .before .before .before .before .put-counted .ensures ∙ ap (λ k. over (a .out .now) 257 (le 1 (a .pan-count) ++ entries (numbersRecord (a .t3)) k)) all)
     (c .before .before .put-counted-powers .ensures)
 
 pub put-network-spec : {M : Type 1} → statement M

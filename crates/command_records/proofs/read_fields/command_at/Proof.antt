@@ -3,7 +3,6 @@
 use borrow.Author.Needs.{needs}
 use borrow.Author.Tests.{not-true, not-false}
 use mathlib.Core.Path.{_≡_, sym, ap, _∙_}
-use lib.ListN.{getD}
 use Rattle.command_records.proofs.read_fields.command_at.Statement.{statement}
 use Rattle.command_records.proofs.read_fields.command_at.Tie as tie
 use Rattle.commands.specs.Codes.{commandIdOf}

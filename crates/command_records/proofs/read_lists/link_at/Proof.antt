@@ -2,10 +2,10 @@
 use borrow.Author.Needs.{needs}
 use Rattle.command_records.proofs.read_lists.link_at.Statement.{statement}
 use Rattle.command_records.proofs.read_lists.link_at.Tie as tie
-use Rattle.command_records.specs.Lists.{linkAt}
+use Rattle.command_records.specs.Lists.{linkRecordAt}
 
 returns : tie.Need-returns
-unfolding linkAt
+unfolding linkRecordAt
 returns c =
     λ i. record { address = c .before .before .read-u16 .ensures i; «incoming_cost» = c .before .byte-at .ensures i; «outgoing_cost» = c .byte-at2 .ensures i }
 

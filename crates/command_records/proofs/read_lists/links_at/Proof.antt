@@ -9,11 +9,11 @@ use Rattle.command_records.proofs.read_lists.links_at.Statement.{statem
 use Rattle.command_records.proofs.read_lists.links_at.Tie as tie
 use Rattle.octets.specs.Strings.{tab}
 use Rattle.octets.proofs.Strings.{fill-turn, filled}
-use Rattle.command_records.specs.Lists.{linkAt}
+use Rattle.command_records.specs.Lists.{linkRecordAt}
 
 abbrev Inv-loop : tie.InvT-loop
 Inv-loop bytes links₀ i₀ links i =
-    (i ≤ 31) × (length links ≡ 31) × (links ≡ tab (λ (k : ℕ). linkAt bytes (133 + 4 * k)) i ++ drop i links₀)
+    (i ≤ 31) × (length links ≡ 31) × (links ≡ tab (λ (k : ℕ). linkRecordAt bytes (133 + 4 * k)) i ++ drop i links₀)
 
 abbrev μ-loop : tie.MeasureT-loop
 μ-loop bytes links₀ i₀ links i = 31 - i

@@ -10,11 +10,11 @@ use Rattle.command_writer.proofs.encoders.write_network_report.Tie as t
 use Rattle.octets.specs.Strings.{over, tab}
 use Rattle.octets.specs.Numbers.{le}
 use Rattle.octets.specs.Fields.{packed}
+use Rattle.octets.proofs.Strings.{over-then}
 use Rattle.commands.specs.Format.{partSizes, keptCount, filled, width, writeField, writeFields, writeEntries, bodyBytes}
 use Rattle.commands.specs.Commands.{networkReportFormat, networkReportValues, routeRecordFormat, relayEntry}
 use Rattle.commands.specs.Reading.{formatOf}
 use Rattle.commands.specs.Writing.{wireBytes}
-use Rattle.command_writer.proofs.Chain.{next}
 use Rattle.commands.specs.Codes.{reportIdentifierCode}
 use Rattle.commands.proofs.CodeLaws.{reportIdentifier-lt}
 
@@ -28,9 +28,7 @@ returns c =
     let a = c .before .before .before .before .before .before .before .before .before .before .before .before .before .before .before .before .args in
     let flags : c .before .before .before .before .before .before .before .before .before .before .before .before .before .count-and-identifier .result ≡ packed (5 ∷ 3 ∷ []) (a .n ∷ reportIdentifierCode (a .c .«report_command_identifier») ∷ []) =
     c .before .before .before .before .before .before .before .before .before .before .before .before .before .count-and-identifier .ensures ∙ (λ i. packed (5 ∷ 3 ∷ []) (a .n ∷ c .before .before .before .before .before .before .before .before .before .before .before .before .before .before .code .ensures i ∷ [])) in
-    (next (a .out .now) (c .before .before .before .before .before .before .before .put-u64 .last .0) (c .before .before .put-numbers .last .0) 0 10 ((0x09 ∷ c .before .before .before .before .before .before .before .before .before .before .before .before .before .count-and-identifier .result ∷ []) ++ (le 8 (a .c .epid))) (writeEntries (routeRecordFormat .entry) (tab (λ (k : ℕ). relayEntry (getD (a .t2) k 0)) (a .n))) (omega arith) (next (a .out .now) (c .before .before .before .before .before .before .before .before .before .before .before .put-two .last .0) (c .before .before .before .before .before .before .before .put-u64 .last .0) 0 2 (0x09 ∷ c .before .before .before .before .before .before .before .before .before .before .before .before .before .count-and-identifier .result ∷ []) (le 8 (a .c .epid)) (omega arith) (c .before .before .before .before .before .before .before .before .before .before .before .put-two .ensures)
-    (c .before .before .before .before .before .before .before .put-u64 .ensures) refl)
-    (c .before .before .put-numbers .ensures) refl)
+    (over-then (a .out .now) (c .before .before .before .before .before .before .before .put-u64 .last .0) (c .before .before .put-numbers .last .0) 0 10 ((0x09 ∷ c .before .before .before .before .before .before .before .before .before .before .before .before .before .count-and-identifier .result ∷ []) ++ (le 8 (a .c .epid))) (writeEntries (routeRecordFormat .entry) (tab (λ (k : ℕ). relayEntry (getD (a .t2) k 0)) (a .n))) (omega arith) refl (over-then (a .out .now) (c .before .before .before .before .before .before .before .before .before .before .before .put-two .last .0) (c .before .before .before .before .before .before .before .put-u64 .last .0) 0 2 (0x09 ∷ c .before .before .before .before .before .before .before .before .before .before .before .before .before .count-and-identifier .result ∷ []) (le 8 (a .c .epid)) (omega arith) refl (c .before .before .before .before .before .before .before .before .before .before .before .put-two .ensures) (c .before .before .before .before .before .before .before .put-u64 .ensures)) (c .before .before .put-numbers .ensures))
     ∙ (λ i. over (a .out .now) 0 (0x09 ∷ flags i ∷ (le 8 (a .c .epid) ++ writeEntries (routeRecordFormat .entry) (tab (λ (k : ℕ). relayEntry (getD (a .t2) k 0)) (a .n)))))
 
 pub write-network-report-spec : {M : Type 1} → statement M

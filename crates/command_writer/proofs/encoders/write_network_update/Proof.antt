@@ -8,11 +8,11 @@ use Rattle.command_writer.proofs.encoders.write_network_update.Tie as t
 use Rattle.octets.specs.Strings.{over}
 use Rattle.octets.specs.Numbers.{le}
 use Rattle.octets.specs.Fields.{packed}
+use Rattle.octets.proofs.Strings.{over-then}
 use Rattle.commands.specs.Format.{partSizes, keptCount, filled, width, writeField, writeFields, writeEntries, bodyBytes}
 use Rattle.commands.specs.Commands.{networkUpdateFormat, networkUpdateValues}
 use Rattle.commands.specs.Reading.{formatOf}
 use Rattle.commands.specs.Writing.{wireBytes}
-use Rattle.command_writer.proofs.Chain.{next}
 use Rattle.commands.specs.Codes.{updateIdentifierCode}
 use Rattle.commands.proofs.CodeLaws.{updateIdentifier-lt}
 
@@ -26,10 +26,7 @@ returns c =
     let a = c .before .before .before .before .before .before .before .before .before .before .before .before .before .before .before .before .before .before .before .args in
     let flags : c .before .before .before .before .before .before .before .before .before .before .before .before .before .before .before .before .count-and-identifier .result ≡ packed (5 ∷ 3 ∷ []) (a .c .«update_information_count» ∷ updateIdentifierCode (a .c .«update_command_identifier») ∷ []) =
     c .before .before .before .before .before .before .before .before .before .before .before .before .before .before .before .before .count-and-identifier .ensures ∙ (λ i. packed (5 ∷ 3 ∷ []) (a .c .«update_information_count» ∷ c .before .before .before .before .before .before .before .before .before .before .before .before .before .before .before .before .before .code .ensures i ∷ [])) in
-    (next (a .out .now) (c .before .before .before .before .before .before .put-byte .last .0) (c .before .before .put-u16 .last .0) 0 11 (((0x0a ∷ c .before .before .before .before .before .before .before .before .before .before .before .before .before .before .before .before .count-and-identifier .result ∷ []) ++ (le 8 (a .c .epid))) ++ (a .c .«update_id» ∷ [])) (le 2 (a .c .«new_pan_id»)) (omega arith) (next (a .out .now) (c .before .before .before .before .before .before .before .before .before .before .put-u64 .last .0) (c .before .before .before .before .before .before .put-byte .last .0) 0 10 ((0x0a ∷ c .before .before .before .before .before .before .before .before .before .before .before .before .before .before .before .before .count-and-identifier .result ∷ []) ++ (le 8 (a .c .epid))) (a .c .«update_id» ∷ []) (omega arith) (next (a .out .now) (c .before .before .before .before .before .before .before .before .before .before .before .before .before .before .put-two .last .0) (c .before .before .before .before .before .before .before .before .before .before .put-u64 .last .0) 0 2 (0x0a ∷ c .before .before .before .before .before .before .before .before .before .before .before .before .before .before .before .before .count-and-identifier .result ∷ []) (le 8 (a .c .epid)) (omega arith) (c .before .before .before .before .before .before .before .before .before .before .before .before .before .before .put-two .ensures)
-    (c .before .before .before .before .before .before .before .before .before .before .put-u64 .ensures) refl)
-    (c .before .before .before .before .before .before .put-byte .ensures) refl)
-    (c .before .before .put-u16 .ensures) refl)
+    (over-then (a .out .now) (c .before .before .before .before .before .before .put-byte .last .0) (c .before .before .put-u16 .last .0) 0 11 (((0x0a ∷ c .before .before .before .before .before .before .before .before .before .before .before .before .before .before .before .before .count-and-identifier .result ∷ []) ++ (le 8 (a .c .epid))) ++ (a .c .«update_id» ∷ [])) (le 2 (a .c .«new_pan_id»)) (omega arith) refl (over-then (a .out .now) (c .before .before .before .before .before .before .before .before .before .before .put-u64 .last .0) (c .before .before .before .before .before .before .put-byte .last .0) 0 10 ((0x0a ∷ c .before .before .before .before .before .before .before .before .before .before .before .before .before .before .before .before .count-and-identifier .result ∷ []) ++ (le 8 (a .c .epid))) (a .c .«update_id» ∷ []) (omega arith) refl (over-then (a .out .now) (c .before .before .before .before .before .before .before .before .before .before .before .before .before .before .put-two .last .0) (c .before .before .before .before .before .before .before .before .before .before .put-u64 .last .0) 0 2 (0x0a ∷ c .before .before .before .before .before .before .before .before .before .before .before .before .before .before .before .before .count-and-identifier .result ∷ []) (le 8 (a .c .epid)) (omega arith) refl (c .before .before .before .before .before .before .before .before .before .before .before .before .before .before .put-two .ensures) (c .before .before .before .before .before .before .before .before .before .before .put-u64 .ensures)) (c .before .before .before .before .before .before .put-byte .ensures)) (c .before .before .put-u16 .ensures))
     ∙ (λ i. over (a .out .now) 0 (0x0a ∷ flags i ∷ (le 8 (a .c .epid) ++ (a .c .«update_id» ∷ le 2 (a .c .«new_pan_id»)))))
 
 pub write-network-update-spec : {M : Type 1} → statement M

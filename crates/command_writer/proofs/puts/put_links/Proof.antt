@@ -8,7 +8,7 @@ use Rattle.command_writer.proofs.puts.put_links.Statement.{statement}
 use Rattle.command_writer.proofs.puts.put_links.Tie as tie
 use Rattle.octets.specs.Strings.{over, tab}
 use Rattle.commands.specs.Format.{size, sizes, writeEntries}
-use Rattle.command_writer.proofs.Chain.{entries-none, entries-turn, entries-end}
+use Rattle.commands.proofs.EntriesWritten.{entries-none, entries-turn, entries-end}
 use Rattle.commands.specs.Commands.{linkStatusFormat, linkEntry, noLink}
 
 abbrev Inv-loop : tie.InvT-loop

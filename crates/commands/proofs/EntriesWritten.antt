@@ -1,20 +1,14 @@
--- Fields put one behind the other, and a loop that puts entries one behind the other: what stands there is the one
--- string of their bytes.
+-- A loop that puts entries one behind the other: what stands there is the one string of their bytes.
 -- Assumes nothing.
 use mathlib.Core.Path.{_≡_, sym, ap, _∙_}
-use mathlib.Core.List.{List, _++_}
+use mathlib.Core.List.{List}
 use Prim.Native.Nat.{ℕ, _+_, _*_, _≤_}
 use native.Mathlib.Omega.{arith}
 use lib.ListN.{length}
 use Rattle.octets.specs.Strings.{over, tab}
-use Rattle.octets.proofs.Strings.{over-nil, over-over, length-tab}
+use Rattle.octets.proofs.Strings.{over-nil, over-then, length-tab}
 use Rattle.commands.specs.Format.{Field, sizes, writeFields, writeEntries}
 use Rattle.commands.proofs.Format.{length-writeEntries, entries-more}
-
--- the next field, right behind the bytes xs
-pub next : (o o₁ o₂ : List ℕ) (i j : ℕ) (xs bs : List ℕ) → i ≤ length o → o₁ ≡ over o i xs → o₂ ≡ over o₁ j bs → j ≡ i + length xs
-    → o₂ ≡ over o i (xs ++ bs)
-next o o₁ o₂ i j xs bs h e f l = f ∙ ap (λ (l : List ℕ). over l j bs) e ∙ over-over o i j xs bs h l
 
 -- no entry yet
 pub entries-none : (fs : List Field) (g : ℕ → List ℕ) (o : List ℕ) (i : ℕ) → o ≡ over o i (writeEntries fs (tab g 0))
@@ -27,7 +21,7 @@ pub entries-turn : (fs : List Field) (g : ℕ → List ℕ) (k : ℕ) (o o₁ o�
     → o₂ ≡ over o i (writeEntries fs (tab g (k + 1)))
 entries-turn fs g k o o₁ o₂ i h e f =
     let l : length (writeEntries fs (tab g k)) ≡ k * sizes fs = length-writeEntries fs (tab g k) ∙ ap (λ (n : ℕ). n * sizes fs) (length-tab g k) in
-    next o o₁ o₂ i (i + k * sizes fs) (writeEntries fs (tab g k)) (writeFields fs (g k)) h e f (ap (λ (n : ℕ). i + n) (sym l))
+    over-then o o₁ o₂ i (i + k * sizes fs) (writeEntries fs (tab g k)) (writeFields fs (g k)) h (ap (λ (n : ℕ). i + n) (sym l)) e f
     ∙ ap (over o i) (sym (entries-more fs g k))
 
 -- all of them

@@ -1,15 +1,15 @@
--- `command_writer::puts::put_powers` meets its contract. The loop's invariant: the first k entries stand one behind the other.
+-- `commands::lists::put_powers` meets its contract. The loop's invariant: the first k entries stand one behind the other.
 -- Assumes nothing.
 use native.Mathlib.Omega.{arith}
 use mathlib.Core.Path.{_≡_, refl}
 use Prim.Native.Nat.{ℕ, _-_, _≤_}
 use lib.ListN.{length, getD}
-use Rattle.command_writer.proofs.puts.put_powers.Statement.{statement}
-use Rattle.command_writer.proofs.puts.put_powers.Tie as tie
+use Rattle.commands.proofs.lists.put_powers.Statement.{statement}
+use Rattle.commands.proofs.lists.put_powers.Tie as tie
 use Rattle.octets.specs.Strings.{over, tab}
 use Rattle.commands.specs.Format.{size, sizes, writeEntries}
-use Rattle.command_writer.proofs.Chain.{entries-none, entries-turn, entries-end}
+use Rattle.commands.proofs.EntriesWritten.{entries-none, entries-turn, entries-end}
 use Rattle.commands.specs.Commands.{linkPowerDeltaFormat, powerEntry, noPower}
 
 abbrev Inv-loop : tie.InvT-loop
 Inv-loop out₀ i n powers k₀ out k =

@@ -1,8 +1,8 @@
--- `command_writer::puts::put_byte` meets its contract: a stored byte is a part of length one. Assumes nothing.
+-- `commands::lists::put_byte` meets its contract: a stored byte is a part of length one. Assumes nothing.
 use borrow.Author.Needs.{needs}
 use native.Mathlib.Omega.{arith}
-use Rattle.command_writer.proofs.puts.put_byte.Statement.{statement}
-use Rattle.command_writer.proofs.puts.put_byte.Tie as tie
+use Rattle.commands.proofs.lists.put_byte.Statement.{statement}
+use Rattle.commands.proofs.lists.put_byte.Tie as tie
 use Rattle.octets.proofs.Strings.{set-over}
 
 returns : tie.Need-returns

@@ -1,17 +1,17 @@
--- `command_writer::puts::put_numbers` meets its contract. The loop's invariant: the first k entries stand one behind the other.
+-- `commands::lists::put_numbers` meets its contract. The loop's invariant: the first k entries stand one behind the other.
 -- Assumes nothing.
 use native.Mathlib.Omega.{arith}
 use mathlib.Core.Path.{_≡_, refl, sym, ap, _∙_}
 use mathlib.Core.List.{append-nil}
 use Prim.Native.Nat.{ℕ, _+_, _-_, _*_, _≤_}
 use lib.ListN.{length, getD}
-use Rattle.command_writer.proofs.puts.put_numbers.Statement.{statement}
-use Rattle.command_writer.proofs.puts.put_numbers.Tie as tie
+use Rattle.commands.proofs.lists.put_numbers.Statement.{statement}
+use Rattle.commands.proofs.lists.put_numbers.Tie as tie
 use Rattle.octets.specs.Strings.{over, tab}
 use Rattle.commands.specs.Format.{size, sizes, width, writeField, writeFields, writeEntries}
-use Rattle.command_writer.proofs.Chain.{entries-none, entries-turn, entries-end}
+use Rattle.commands.proofs.EntriesWritten.{entries-none, entries-turn, entries-end}
 use Rattle.octets.specs.Numbers.{le}
 use Rattle.commands.specs.Commands.{routeRecordFormat, relayEntry}
 
 abbrev Inv-loop : tie.InvT-loop
 Inv-loop out₀ i xs n k₀ out k =
