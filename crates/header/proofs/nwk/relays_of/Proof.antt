@@ -21,8 +21,8 @@ Inv-loop f n first relays₀ i₀ relays i =
 abbrev μ-loop : tie.MeasureT-loop
 μ-loop f n first relays₀ i₀ relays i = 54 - i
 
-relays-at-requires : tie.Need-relays-at-requires Inv-loop μ-loop
-relays-at-requires c κs = tt
+relays-announced-requires : tie.Need-relays-announced-requires Inv-loop μ-loop
+relays-announced-requires c κs = tt
 
 route-at-requires : tie.Need-route-at-requires Inv-loop μ-loop
 route-at-requires c κs = tt
@@ -74,7 +74,7 @@ relays-of-spec =
     (tie.spec
     Inv-loop
     μ-loop
-    relays-at-requires
+    relays-announced-requires
     route-at-requires
     add-first
     loop-holds
