@@ -33,13 +33,17 @@ loop-less c = omega arith
 
 loop-again : tie.Need-loop-again Inv-loop μ-loop
 loop-again c =
-    (search needs, search needs, rw (c .round .ensures, c .before .before .before .before .loop .inv .2) (rounds-next _ _ _ (c .before .before .before .before .loop .inv .0)))
+    let loop′ = c .before .before .before .before .loop in
+    (search needs, search needs, rw (c .round .ensures, loop′ .inv .2) (rounds-next _ _ _ (loop′ .inv .0)))
 
 returns : tie.Need-returns Inv-loop μ-loop
 unfolding lastRound cipher
 returns c =
-    let nine : c .before .before .before .before .before .loop .n - 1 ≡ 9 = omega arith in
-    rw (c .store .ensures, c .before .last-round .ensures, c .before .before .before .before .before .loop .inv .2, nine, c .before .before .before .before .before .before .add-round-key .ensures, c .before .before .before .before .before .before .before .before .load .ensures)
+    let load = c .before .before .before .before .before .before .before .before .load in
+    let add-round-key = c .before .before .before .before .before .before .add-round-key in
+    let loop′ = c .before .before .before .before .before .loop in
+    let nine : loop′ .n - 1 ≡ 9 = omega arith in
+    rw (c .store .ensures, c .before .last-round .ensures, loop′ .inv .2, nine, add-round-key .ensures, load .ensures)
 
 pub cipher-spec : {M : Type 1} → statement M
 cipher-spec =

@@ -9,7 +9,11 @@ use Rattle.aes.proofs.rounds.add_round_key.Tie as tie
 
 returns : tie.Need-returns
 unfolding four state xorWord addRoundKey
-returns c = rw (c .before .before .before .before .before .before .before .before .before .xor-word .ensures, c .before .before .before .before .before .before .xor-word2 .ensures, c .before .before .before .xor-word3 .ensures, c .xor-word4 .ensures)
+returns c =
+    let xor-word = c .before .before .before .before .before .before .before .before .before .xor-word in
+    let xor-word2 = c .before .before .before .before .before .before .xor-word2 in
+    let xor-word3 = c .before .before .before .xor-word3 in
+    rw (xor-word .ensures, xor-word2 .ensures, xor-word3 .ensures, c .xor-word4 .ensures)
 
 pub add-round-key-spec : {M : Type 1} → statement M
 add-round-key-spec =

@@ -26,7 +26,9 @@ mul-put-u16 c = omega arith
 
 add-put-u16 : tie.Need-add-put-u16 Inv-loop μ-loop
 add-put-u16 c =
-    omega (arith, c .before .before .before .before .good, relay-length (c .before .before .before .before .args .n) (c .before .before .before .before .args .t4))
+    let good = c .before .before .before .before .good in
+    let args = c .before .before .before .before .args in
+    omega (arith, good, relay-length (args .n) (args .t4))
 
 mul-put-u16-2 : tie.Need-mul-put-u16-2 Inv-loop μ-loop
 mul-put-u16-2 c = omega arith
@@ -36,7 +38,9 @@ array-read-put-u16 c = omega arith
 
 put-u16-requires : tie.Need-put-u16-requires Inv-loop μ-loop
 put-u16-requires c κs =
-    omega (arith, relay-length (c .before .before .before .before .args .n) (c .before .before .before .before .args .t4), c .before .before .before .before .pre)
+    let args = c .before .before .before .before .args in
+    let pre = c .before .before .before .before .pre in
+    omega (arith, relay-length (args .n) (args .t4), pre)
 
 add-j : tie.Need-add-j Inv-loop μ-loop
 add-j c = omega arith
@@ -47,10 +51,13 @@ loop-less c = omega arith
 loop-again : tie.Need-loop-again Inv-loop μ-loop
 loop-again c =
     let a = c .before .before .before .before .before .before .before .args in
-    let l = c .before .before .before .before .before .loop in (
+    let pre = c .before .before .before .before .before .before .before .pre in
+    let loop′ = c .before .before .before .before .before .loop in
+    let put-u16 = c .before .before .put-u16 in
+    let l = loop′ in (
       omega arith,
-      c .before .before .put-u16 .kept .0 ∙ l .inv .1,
-      c .before .before .put-u16 .ensures ∙ rw (l .inv .2) (relays-more (a .out .now) (a .i) (l .j) (a .t4) (omega (arith, c .before .before .before .before .before .before .before .pre, relay-length (a .n) (a .t4)))),
+      put-u16 .kept .0 ∙ l .inv .1,
+      put-u16 .ensures ∙ rw (l .inv .2) (relays-more (a .out .now) (a .i) (l .j) (a .t4) (omega (arith, pre, relay-length (a .n) (a .t4)))),
     )
 
 same-length : tie.Need-same-length Inv-loop μ-loop

@@ -21,7 +21,9 @@ put-u8-requires c κs =
 put-u8-requires-2 : tie.Need-put-u8-requires-2
 put-u8-requires-2 c κs =
     let a = c .before .before .before .before .before .before .args in
-    omega (arith, c .before .before .before .put-u8 .kept, c .before .before .before .before .before .before .pre, route-length (NwkSourceRoute.Present (a .relay-count) (a .relay-index)) (a .relays))
+    let pre = c .before .before .before .before .before .before .pre in
+    let put-u8 = c .before .before .before .put-u8 in
+    omega (arith, put-u8 .kept, pre, route-length (NwkSourceRoute.Present (a .relay-count) (a .relay-index)) (a .relays))
 
 put-relays-requires : tie.Need-put-relays-requires
 put-relays-requires c κs =
@@ -38,9 +40,13 @@ put-relays-requires c κs =
 returns : tie.Need-returns
 returns c =
     let a = c .before .before .before .before .before .before .before .before .before .before .before .before .before .args in
-    let fits : a .i ≤ length (a .out .now) = omega (arith, c .before .before .before .before .before .before .before .before .before .before .before .before .before .pre) in
+    let pre = c .before .before .before .before .before .before .before .before .before .before .before .before .before .pre in
+    let put-u8 = c .before .before .before .before .before .before .before .before .before .before .put-u8 in
+    let put-u82 = c .before .before .before .before .before .before .put-u82 in
+    let put-relays = c .before .before .put-relays in
+    let fits : a .i ≤ length (a .out .now) = omega (arith, pre) in
     over-three (a .out .now) _ _ _ (a .i) (a .i + 1) (a .i + 2) (le 1 (a .relay-count)) (le 1 (a .relay-index)) (relayBytes (a .relay-count) (a .relays)) fits
-    (rw (length-le 1 (a .relay-count)) refl) (rw (length-le 1 (a .relay-index)) (omega arith)) (c .before .before .before .before .before .before .before .before .before .before .put-u8 .ensures) (c .before .before .before .before .before .before .put-u82 .ensures) (c .before .before .put-relays .ensures)
+    (rw (length-le 1 (a .relay-count)) refl) (rw (length-le 1 (a .relay-index)) (omega arith)) (put-u8 .ensures) (put-u82 .ensures) (put-relays .ensures)
 
 pub put-route-spec : {M : Type 1} → statement M
 put-route-spec =

@@ -18,30 +18,43 @@ returns : tie.Need-returns
 unfolding readFrameRefusal
 returns c =
     let a = c .before .before .before .before .before .before .before .args in
-    let e = read-number _ _ _ (λ i. c .before .before .before .read-frame .ensures i .refusal) (c .before .if1 .taken) in
-    (refused-answer _ (c .before .before .before .read-frame .result .refusal) _ _ e (c .before .if1 .taken) (c .answer .ensures), (refused-buffer _ (c .before .before .before .read-frame .result .refusal) _ (a .header .now) e (c .before .if1 .taken), refused-buffer _ (c .before .before .before .read-frame .result .refusal) _ (a .auxiliary .now) e (c .before .if1 .taken)))
+    let read-frame = c .before .before .before .read-frame in
+    let if1 = c .before .if1 in
+    let e = read-number _ _ _ (λ i. read-frame .ensures i .refusal) (if1 .taken) in
+    (refused-answer _ (read-frame .result .refusal) _ _ e (if1 .taken) (c .answer .ensures), (refused-buffer _ (read-frame .result .refusal) _ (a .header .now) e (if1 .taken), refused-buffer _ (read-frame .result .refusal) _ (a .auxiliary .now) e (if1 .taken)))
 
 returns-2 : tie.Need-returns-2
 returns-2 c =
     let a = c .before .before .before .before .before .before .before .before .args in
-    let e = read-header-short (a .bytes .now) (length (a .header .now)) (length (a .auxiliary .now)) ((λ i. sym (c .before .before .before .before .read-frame .ensures) i .refusal) ∙ c .before .before .if1 .left) (c .before .if2 .taken) in
+    let read-frame = c .before .before .before .before .read-frame in
+    let if1 = c .before .before .if1 in
+    let e = read-header-short (a .bytes .now) (length (a .header .now)) (length (a .auxiliary .now)) ((λ i. sym (read-frame .ensures) i .refusal) ∙ if1 .left) (c .before .if2 .taken) in
     (refused-answer _ 18 _ _ e (λ e. omega arith) (c .answer2 .ensures), (refused-buffer _ 18 _ (a .header .now) e (λ e. omega arith), refused-buffer _ 18 _ (a .auxiliary .now) e (λ e. omega arith)))
 
 returns-3 : tie.Need-returns-3
 returns-3 c =
     let a = c .before .before .before .before .before .before .before .before .before .args in
-    let e = read-aux-short (a .bytes .now) (length (a .header .now)) (length (a .auxiliary .now)) ((λ i. sym (c .before .before .before .before .before .read-frame .ensures) i .refusal) ∙ c .before .before .before .if1 .left) (c .before .before .if2 .left) (c .before .if3 .taken) in
+    let read-frame = c .before .before .before .before .before .read-frame in
+    let if1 = c .before .before .before .if1 in
+    let if2 = c .before .before .if2 in
+    let e = read-aux-short (a .bytes .now) (length (a .header .now)) (length (a .auxiliary .now)) ((λ i. sym (read-frame .ensures) i .refusal) ∙ if1 .left) (if2 .left) (c .before .if3 .taken) in
     (refused-answer _ 18 _ _ e (λ e. omega arith) (c .answer3 .ensures), (refused-buffer _ 18 _ (a .header .now) e (λ e. omega arith), refused-buffer _ 18 _ (a .auxiliary .now) e (λ e. omega arith)))
 
 returns-4 : tie.Need-returns-4
 returns-4 c =
     let a = c .before .before .before .before .before .before .before .before .before .before .before .before .before .before .before .before .before .before .args in
-    let d = c .before .before .before .before .before .before .before .before .before .before .before .before .before .before .read-frame .ensures in
-    let e = read-none (a .bytes .now) (length (a .header .now)) (length (a .auxiliary .now)) ((λ i. sym (c .before .before .before .before .before .before .before .before .before .before .before .before .before .before .read-frame .ensures) i .refusal) ∙ c .before .before .before .before .before .before .before .before .before .before .before .before .if1 .left) (c .before .before .before .before .before .before .before .before .before .before .before .if2 .left) (c .before .before .before .before .before .before .before .before .before .before .if3 .left) in (
+    let read-frame = c .before .before .before .before .before .before .before .before .before .before .before .before .before .before .read-frame in
+    let if1 = c .before .before .before .before .before .before .before .before .before .before .before .before .if1 in
+    let if2 = c .before .before .before .before .before .before .before .before .before .before .before .if2 in
+    let if3 = c .before .before .before .before .before .before .before .before .before .before .if3 in
+    let put-header = c .before .before .before .before .before .before .before .put-header in
+    let put-option = c .before .before .before .put-option in
+    let d = read-frame .ensures in
+    let e = read-none (a .bytes .now) (length (a .header .now)) (length (a .auxiliary .now)) ((λ i. sym (read-frame .ensures) i .refusal) ∙ if1 .left) (if2 .left) (if3 .left) in (
       passed-answer _ _ _ e (c .answer4 .ensures ∙ (λ i. answer 0 (d i .length))),
       (
-        given-passed _ _ (a .header .now) _ e (c .before .before .before .before .before .before .before .put-header .ensures ∙ (λ i. over (a .header .now) 0 (headerRecord (d i .header)))),
-        given-passed _ _ (a .auxiliary .now) _ e (c .before .before .before .put-option .ensures ∙ (λ i. over (a .auxiliary .now) 0 (optionRecord (d i .aux)))),
+        given-passed _ _ (a .header .now) _ e (put-header .ensures ∙ (λ i. over (a .header .now) 0 (headerRecord (d i .header)))),
+        given-passed _ _ (a .auxiliary .now) _ e (put-option .ensures ∙ (λ i. over (a .auxiliary .now) 0 (optionRecord (d i .aux)))),
       ),
     )
 

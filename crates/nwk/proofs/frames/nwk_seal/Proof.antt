@@ -27,20 +27,31 @@ returns-2 : tie.Need-returns-2
 unfolding sealRecordsRefusal
 returns-2 c =
     let a = c .before .before .before .before .before .before .before .before .before .args in
-    let e = sym (c .before .before .before .before .is-bad .ensures) ∙ c .before .before .before .if1 .left in
-    let d = sym (c .before .before .is-bad2 .ensures) ∙ c .before .if2 .taken in
+    let is-bad = c .before .before .before .before .is-bad in
+    let if1 = c .before .before .before .if1 in
+    let is-bad2 = c .before .before .is-bad2 in
+    let e = sym (is-bad .ensures) ∙ if1 .left in
+    let d = sym (is-bad2 .ensures) ∙ c .before .if2 .taken in
     refused-by _ 13 _ _ _ (a .out .now) (sym (skip 13 (badHeaderRecord (a .header .now)) _ e ∙ stop 13 (badAuxRecord (a .auxiliary .now)) _ d)) (λ e. omega arith) (c .answer2 .ensures)
 
 returns-3 : tie.Need-returns-3
 unfolding sealRecordsRefusal sealedRecords sealFrame
 returns-3 c =
     let a = c .before .before .before .before .before .before .before .before .before .before .before .before .before .before .before .before .args in
-    let e = sym (c .before .before .before .before .before .before .before .before .before .before .before .is-bad .ensures) ∙ c .before .before .before .before .before .before .before .before .before .before .if1 .left in
-    let d = sym (c .before .before .before .before .before .before .before .before .before .is-bad2 .ensures) ∙ c .before .before .before .before .before .before .before .before .if2 .left in
-    let h = c .before .before .before .before .before .before .header-of .ensures in
-    let x = c .before .before .before .before .before .option-of .ensures in
-    let k = c .before .before .before .before .before .before .before .from-halves .ensures in
-    let s = c .before .before .before .seal in
+    let is-bad = c .before .before .before .before .before .before .before .before .before .before .before .is-bad in
+    let if1 = c .before .before .before .before .before .before .before .before .before .before .if1 in
+    let is-bad2 = c .before .before .before .before .before .before .before .before .before .is-bad2 in
+    let if2 = c .before .before .before .before .before .before .before .before .if2 in
+    let from-halves = c .before .before .before .before .before .before .before .from-halves in
+    let header-of = c .before .before .before .before .before .before .header-of in
+    let option-of = c .before .before .before .before .before .option-of in
+    let seal = c .before .before .before .seal in
+    let e = sym (is-bad .ensures) ∙ if1 .left in
+    let d = sym (is-bad2 .ensures) ∙ if2 .left in
+    let h = header-of .ensures in
+    let x = option-of .ensures in
+    let k = from-halves .ensures in
+    let s = seal in
     written-by _ (sealRefusal micLength (headerOf (a .header .now)) (optionOf (a .auxiliary .now)) (a .payload .now) (length (a .out .now))) (sealedRecords (keyBytes (a .key-first) (a .key-second)) (a .header .now) (a .auxiliary .now) (a .payload .now)) (a .out .now) _ (s .result) _
     (write-good (badAuxRecord (a .auxiliary .now)) _ d ∙ sym (skip 13 (badHeaderRecord (a .header .now)) _ e))
     (s .ensures .0 ∙ (λ i. sealFrame (k i) (h i) (x i) (a .payload .now) (a .out .now) .answer))

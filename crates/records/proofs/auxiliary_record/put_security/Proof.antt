@@ -9,9 +9,15 @@ use Rattle.octets.specs.Strings.{over}
 returns : tie.Need-returns
 returns c =
     let a = c .before .before .before .before .before .before .before .before .before .before .before .args in
-    c .before .before .copy-at .ensures
+    let bit-of = c .before .before .before .before .before .before .before .before .before .bit-of in
+    let code = c .before .before .before .before .before .before .before .before .code in
+    let code2 = c .before .before .before .before .before .before .before .code2 in
+    let bit-of2 = c .before .before .before .before .before .before .bit-of2 in
+    let bit-of3 = c .before .before .before .before .before .bit-of3 in
+    let copy-at = c .before .before .copy-at in
+    copy-at .ensures
     ∙ (λ i. over (a .out .now) 0
-    (c .before .before .before .before .before .before .before .before .before .bit-of .ensures .0 i ∷ c .before .before .before .before .before .before .before .before .code .ensures .0 i ∷ c .before .before .before .before .before .before .before .code2 .ensures .0 i ∷ c .before .before .before .before .before .before .bit-of2 .ensures .0 i ∷ c .before .before .before .before .before .bit-of3 .ensures .0 i ∷ []))
+    (bit-of .ensures .0 i ∷ code .ensures .0 i ∷ code2 .ensures .0 i ∷ bit-of2 .ensures .0 i ∷ bit-of3 .ensures .0 i ∷ []))
 
 pub put-security-spec : {M : Type 1} → statement M
 put-security-spec =

@@ -14,7 +14,11 @@ returns-2 c =
 
 returns-3 : tie.Need-returns-3
 returns-3 c =
-    c .exceeds .ensures ∙ header-rest (c .before .before .before .before .before .before .args .bytes .now) (c .before .before .before .before .if1 .left) (λ e. c .before .before .if2 .left (c .before .before .before .byte-at .ensures ∙ e))
+    let a = c .before .before .before .before .before .before .args in
+    let if1 = c .before .before .before .before .if1 in
+    let byte-at = c .before .before .before .byte-at in
+    let if2 = c .before .before .if2 in
+    c .exceeds .ensures ∙ header-rest (a .bytes .now) (if1 .left) (λ e. if2 .left (byte-at .ensures ∙ e))
 
 pub is-bad-spec : {M : Type 1} → statement M
 is-bad-spec =

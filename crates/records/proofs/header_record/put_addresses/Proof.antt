@@ -12,11 +12,16 @@ returns : tie.Need-returns
 unfolding addressRecord
 returns c =
     let a = c .before .before .before .before .before .before .before .before .before .before .before .before .before .before .before .before .before .args in
-    over-four (a .out .now) _ _ _ _ 10 12 14 15 _ _ _ _ (omega (arith, c .before .before .before .before .before .before .before .before .before .before .before .before .before .before .before .before .before .pre)) (rw (length-le 2) refl) (rw (length-le 2) refl) (rw (length-le 1) refl)
-    (c .before .before .before .before .before .before .before .before .before .before .before .before .before .before .put-u16 .ensures)
-    (c .before .before .before .before .before .before .before .before .before .before .put-u162 .ensures)
-    (c .before .before .before .before .before .before .put-u8 .ensures)
-    (c .before .before .put-u82 .ensures)
+    let pre = c .before .before .before .before .before .before .before .before .before .before .before .before .before .before .before .before .before .pre in
+    let put-u16 = c .before .before .before .before .before .before .before .before .before .before .before .before .before .before .put-u16 in
+    let put-u162 = c .before .before .before .before .before .before .before .before .before .before .put-u162 in
+    let put-u8 = c .before .before .before .before .before .before .put-u8 in
+    let put-u82 = c .before .before .put-u82 in
+    over-four (a .out .now) _ _ _ _ 10 12 14 15 _ _ _ _ (omega (arith, pre)) (rw (length-le 2) refl) (rw (length-le 2) refl) (rw (length-le 1) refl)
+    (put-u16 .ensures)
+    (put-u162 .ensures)
+    (put-u8 .ensures)
+    (put-u82 .ensures)
 
 pub put-addresses-spec : {M : Type 1} → statement M
 put-addresses-spec =

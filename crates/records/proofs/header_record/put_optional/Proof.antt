@@ -10,10 +10,14 @@ use Rattle.records.proofs.Sizes.{length-ieee}
 returns : tie.Need-returns
 returns c =
     let a = c .before .before .before .before .before .before .before .before .before .before .before .before .before .args in
-    over-three (a .out .now) _ _ _ 16 25 34 _ _ _ (omega (arith, c .before .before .before .before .before .before .before .before .before .before .before .before .before .pre)) (rw length-ieee refl) (rw length-ieee refl)
-    (c .before .before .before .before .before .before .before .before .before .before .put-ieee .ensures)
-    (c .before .before .before .before .before .before .put-ieee2 .ensures)
-    (c .before .before .put-multicast .ensures)
+    let pre = c .before .before .before .before .before .before .before .before .before .before .before .before .before .pre in
+    let put-ieee = c .before .before .before .before .before .before .before .before .before .before .put-ieee in
+    let put-ieee2 = c .before .before .before .before .before .before .put-ieee2 in
+    let put-multicast = c .before .before .put-multicast in
+    over-three (a .out .now) _ _ _ 16 25 34 _ _ _ (omega (arith, pre)) (rw length-ieee refl) (rw length-ieee refl)
+    (put-ieee .ensures)
+    (put-ieee2 .ensures)
+    (put-multicast .ensures)
 
 pub put-optional-spec : {M : Type 1} → statement M
 put-optional-spec =

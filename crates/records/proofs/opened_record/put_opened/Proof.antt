@@ -12,9 +12,12 @@ returns : tie.Need-returns
 unfolding openedRecord
 returns c =
     let a = c .before .before .before .before .before .before .before .before .before .before .before .before .before .before .args in
-    let front = c .before .before .before .before .before .before .before .before .before .before .put-front in
-    let header = c .before .before .before .before .before .before .put-header in
-    let option = c .before .before .put-option in
+    let put-front = c .before .before .before .before .before .before .before .before .before .before .put-front in
+    let put-header = c .before .before .before .before .before .before .put-header in
+    let put-option = c .before .before .put-option in
+    let front = put-front in
+    let header = put-header in
+    let option = put-option in
     let size = length-front (a .opened .refusal) (a .opened .length) in
     over-three (a .out .now) _ _ _ 0 16 163 (openedFront (a .opened .refusal) (a .opened .length)) (headerRecord (a .opened .header)) (optionRecord (a .opened .aux))
     (omega arith) (omega (arith, size)) (omega (arith, length-header (a .opened .header))) (front .ensures)

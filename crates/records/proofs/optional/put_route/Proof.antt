@@ -18,11 +18,18 @@ returns : tie.Need-returns
 unfolding routeRecord
 returns c =
     let a = c .before .before .before .before .before .before .before .before .before .before .before .before .before .before .before .before .args in
-    over-three (a .out .now) _ _ _ (a .i) (a .i + 1) (a .i + 2) (le 1 (bit (hasRoute (a .o)))) (le 1 (relayCount (a .o))) (le 1 (relayIndex (a .o))) (omega (arith, c .before .before .before .before .before .before .before .before .before .before .before .before .before .before .before .before .pre))
+    let pre = c .before .before .before .before .before .before .before .before .before .before .before .before .before .before .before .before .pre in
+    let route-presence = c .before .before .before .before .before .before .before .before .before .before .before .before .before .route-presence in
+    let put-u8 = c .before .before .before .before .before .before .before .before .before .before .before .before .put-u8 in
+    let count′ = c .before .before .before .before .before .before .before .before .count in
+    let put-u82 = c .before .before .before .before .before .before .before .put-u82 in
+    let relay-index = c .before .before .before .relay-index in
+    let put-u83 = c .before .before .put-u83 in
+    over-three (a .out .now) _ _ _ (a .i) (a .i + 1) (a .i + 2) (le 1 (bit (hasRoute (a .o)))) (le 1 (relayCount (a .o))) (le 1 (relayIndex (a .o))) (omega (arith, pre))
     (ap (λ (n : ℕ). a .i + n) (sym (length-le 1 (bit (hasRoute (a .o)))))) (rw (length-le 1 (relayCount (a .o)), add-assoc (a .i) 1 1) refl)
-    (c .before .before .before .before .before .before .before .before .before .before .before .before .put-u8 .ensures ∙ ap (λ (x : ℕ). over (a .out .now) (a .i) (le 1 x)) (c .before .before .before .before .before .before .before .before .before .before .before .before .before .route-presence .ensures))
-    (c .before .before .before .before .before .before .before .put-u82 .ensures ∙ ap (λ (x : ℕ). over (c .before .before .before .before .before .before .before .before .before .before .before .before .put-u8 .last .0) (a .i + 1) (le 1 x)) (c .before .before .before .before .before .before .before .before .count .ensures))
-    (c .before .before .put-u83 .ensures ∙ ap (λ (x : ℕ). over (c .before .before .before .before .before .before .before .put-u82 .last .0) (a .i + 2) (le 1 x)) (c .before .before .before .relay-index .ensures))
+    (put-u8 .ensures ∙ ap (λ (x : ℕ). over (a .out .now) (a .i) (le 1 x)) (route-presence .ensures))
+    (put-u82 .ensures ∙ ap (λ (x : ℕ). over (put-u8 .last .0) (a .i + 1) (le 1 x)) (count′ .ensures))
+    (put-u83 .ensures ∙ ap (λ (x : ℕ). over (put-u82 .last .0) (a .i + 2) (le 1 x)) (relay-index .ensures))
 
 pub put-route-spec : {M : Type 1} → statement M
 put-route-spec =

@@ -23,9 +23,11 @@ returns-2 : tie.Need-returns-2
 unfolding writeAux auxWriteRefusal
 returns-2 c =
     let a = c .before .before .before .before .before .before .before .args in
+    let size = c .before .before .before .before .before .size in
+    let put = c .before .before .put in
     let e = skip 18 _ _ (le-ltb (length (a .out .now)) (length (auxBytes (a .self))) (omega arith)) ∙ empty in
     let w = write-accepted _ 0 (auxBytes (a .self)) (a .out .now) (sym e) refl in
-    ((λ i. record { refusal = 0; length = c .before .before .before .before .before .size .ensures .0 i }) ∙ ap (λ (r : Run). r .answer) w, c .before .before .put .ensures ∙ ap (λ (r : Run). r .out) w)
+    ((λ i. record { refusal = 0; length = size .ensures .0 i }) ∙ ap (λ (r : Run). r .answer) w, put .ensures ∙ ap (λ (r : Run). r .out) w)
 
 pub serialize-spec : {M : Type 1} → statement M
 serialize-spec =

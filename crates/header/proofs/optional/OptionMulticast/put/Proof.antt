@@ -17,8 +17,11 @@ use Rattle.octets.proofs.Numbers.{length-le}
 
 put-u8-requires : tie.Need-put-u8-requires
 put-u8-requires c κs =
-    let e : length (multicastBytes (c .before .before .before .before .before .args .self)) ≡ 1 = ap (λ (o : OptionMulticast). length (multicastBytes o)) (c .before .before .self .given .1) ∙ length-le 1 _ in
-    omega (arith, c .before .before .before .before .before .pre)
+    let args = c .before .before .before .before .before .args in
+    let pre = c .before .before .before .before .before .pre in
+    let self = c .before .before .self in
+    let e : length (multicastBytes (args .self)) ≡ 1 = ap (λ (o : OptionMulticast). length (multicastBytes o)) (self .given .1) ∙ length-le 1 _ in
+    omega (arith, pre)
 
 returns : tie.Need-returns
 returns c =
