@@ -2,7 +2,7 @@
 use crate::refusal::length;
 use crate::{sys, Key, Refusal};
 
-/// Encrypts a payload to the front of the output, and gives its length and the MIC. Refusals 1, 18.
+/// Encrypts a payload to the front of the output, and gives its length and the MIC.
 ///
 /// ```
 /// use store_reader::{decrypt_ccm, encrypt_ccm, Key};
@@ -16,6 +16,10 @@ use crate::{sys, Key, Refusal};
 /// assert_eq!(&opened, b"grain");
 /// # Ok::<(), store_reader::Refusal>(())
 /// ```
+///
+/// # Errors
+///
+/// Refusals 1, 18.
 pub fn encrypt_ccm(
     key: &Key,
     nonce: &[u8; 13],
@@ -45,8 +49,12 @@ pub fn encrypt_ccm(
     Ok((length(answer)?, mic))
 }
 
-/// Decrypts a ciphertext to the front of the output if its MIC is right, and gives its length. Refusals 1, 18, 19. An
-/// example stands at [`encrypt_ccm`].
+/// Decrypts a ciphertext to the front of the output if its MIC is right, and gives its length. An example stands at
+/// [`encrypt_ccm`].
+///
+/// # Errors
+///
+/// Refusals 1, 18, 19.
 pub fn decrypt_ccm(
     key: &Key,
     nonce: &[u8; 13],
@@ -83,8 +91,9 @@ pub fn decrypt_ccm(
 /// // FIPS 197, appendix C.1.
 /// let key: Key = "000102030405060708090A0B0C0D0E0F".parse().unwrap();
 /// let block = std::array::from_fn(|i| 0x11 * i as u8);
-/// let expected = hex("69C4E0D86A7B0430D8CDB78070B4C55A").unwrap();
-/// assert_eq!(encrypt_block(&key, &block)?[..], expected);
+/// let mut expected = [0; 16];
+/// hex("69C4E0D86A7B0430D8CDB78070B4C55A", &mut expected).unwrap();
+/// assert_eq!(encrypt_block(&key, &block)?, expected);
 /// # Ok::<(), store_reader::Refusal>(())
 /// ```
 pub fn encrypt_block(key: &Key, block: &[u8; 16]) -> Result<[u8; 16], Refusal> {
