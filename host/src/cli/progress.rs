@@ -1,0 +1,50 @@
+//! A line on a terminal while an input takes long; it is gone at the end.
+use super::source::Extent;
+use std::io::{self, IsTerminal, Write};
+use std::time::{Duration, Instant};
+
+/// When the line comes first, and how often it changes.
+const FIRST: Duration = Duration::from_secs(1);
+const EVERY: Duration = Duration::from_millis(250);
+
+/// Back to the line's front, and delete to its end.
+const CLEAR: &str = "\r\x1b[K";
+
+pub struct Progress {
+    extent: Extent,
+    /// When the line is due; none if there is no terminal to show it on.
+    due: Option<Instant>,
+    shown: bool,
+}
+
+impl Progress {
+    /// Shown if standard error is a terminal, and standard output is not where lines come anyway.
+    pub fn new(extent: Extent, lines_come: bool) -> Self {
+        let terminal = io::stderr().is_terminal() && !(lines_come && io::stdout().is_terminal());
+        Self { extent, due: terminal.then(|| Instant::now() + FIRST), shown: false }
+    }
+
+    /// Shows how far the input is read, if it is time to.
+    pub fn step(&mut self, inputs: u64) {
+        let Some(due) = self.due else {
+            return;
+        };
+        let now = Instant::now();
+        if now < due {
+            return;
+        }
+        let read = self.extent.read.get();
+        let of = self.extent.total.map_or(String::new(), |total| format!(" of {total}"));
+        let _ = write!(io::stderr(), "{CLEAR}{read}{of} bytes, {inputs} records");
+        self.due = Some(now + EVERY);
+        self.shown = true;
+    }
+
+    /// Takes the line away, so that something else can be written.
+    pub fn clear(&mut self) {
+        if self.shown {
+            let _ = write!(io::stderr(), "{CLEAR}");
+            self.shown = false;
+        }
+    }
+}
