@@ -33,9 +33,7 @@ impl Progress {
         if now < due {
             return;
         }
-        let read = self.extent.read.get();
-        let of = self.extent.total.map_or(String::new(), |total| format!(" of {total}"));
-        let _ = write!(io::stderr(), "{CLEAR}{read}{of} bytes, {inputs} records");
+        let _ = write!(io::stderr(), "{CLEAR}{}", text(self.extent.read.get(), self.extent.total, inputs));
         self.due = Some(now + EVERY);
         self.shown = true;
     }
@@ -46,5 +44,21 @@ impl Progress {
             let _ = write!(io::stderr(), "{CLEAR}");
             self.shown = false;
         }
+    }
+}
+
+fn text(read: u64, total: Option<u64>, inputs: u64) -> String {
+    let of = total.map_or(String::new(), |total| format!(" of {total}"));
+    format!("{read}{of} bytes, {inputs} records")
+}
+
+#[cfg(test)]
+mod tests {
+    use super::*;
+
+    #[test]
+    fn of_a_file_the_whole_is_known() {
+        assert_eq!(text(65_536, Some(1_000_000), 1_200), "65536 of 1000000 bytes, 1200 records");
+        assert_eq!(text(65_536, None, 1_200), "65536 bytes, 1200 records");
     }
 }
