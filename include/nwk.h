@@ -1,8 +1,8 @@
 /* nwk.h: the Zigbee NWK frame codec in C.
  *
- * A slice is a pointer and a length. The pointer of an empty slice is not read, but must not be NULL. No two slices of a
- * call may overlap if one of them is written. A key is two numbers, its first eight bytes in the first, the first byte
- * lowest.
+ * A slice is a pointer and a length. Two things are the caller's to see to: a slice of a length above 0 has that many bytes
+ * (so its pointer is not NULL; for an empty slice NULL will do), and no two slices of a call overlap if one of them is
+ * written. A key is two numbers, its first eight bytes in the first, the first byte lowest (nwk_key_of).
  *
  * Every function answers one number: the length in bits 0 to 31 (NWK_LENGTH), the refusal in bits 32 to 39 (NWK_REFUSAL,
  * 0: accepted), the other bits 0. A refusal has length 0 and leaves every lent byte as it was, records included. Where
@@ -18,13 +18,16 @@
  *     const uint8_t bytes[] = {0x0B, 0x0E, 0x00};
  *     uint8_t command[NWK_COMMAND_RECORD];
  *     uint64_t answer = nwk_read_command(bytes, sizeof bytes, command, sizeof command);
- *     if (NWK_REFUSAL(answer) == 0 && command[0] == 11) {
- *       printf("timeout %u, %u seconds\n", command[1], NWK_LENGTH(nwk_timeout_seconds(command[1])));
+ *     if (NWK_REFUSAL(answer) == NWK_ACCEPTED && command[NWK_COMMAND_IDENTIFIER] == 11) {
+ *       uint8_t code = command[NWK_COMMAND_FIELDS];
+ *       printf("timeout %u, %u seconds\n", code, NWK_LENGTH(nwk_timeout_seconds(code)));
  *     }
  *     return 0;
  *   }
  *
  * It prints "timeout 14, 983040 seconds". Build: cc -Iinclude FILE.c target/staticlib/libnwk.a
+ *
+ * The archive is compiled for x86-64 (System V calls, as on Linux), which is what the toolchain compiles for today.
  */
 #ifndef NWK_H
 #define NWK_H
@@ -36,12 +39,46 @@
 extern "C" {
 #endif
 
-#define NWK_LENGTH(answer) ((uint32_t)((answer) & 0xFFFFFFFFu))
-#define NWK_REFUSAL(answer) ((uint8_t)((answer) >> 32 & 0xFFu))
+#define NWK_VERSION "0.2.0"
+#define NWK_VERSION_NUMBER 0x000200
+
+#ifdef __cplusplus
+#define NWK_CAST(type, value) static_cast<type>(value)
+#else
+#define NWK_CAST(type, value) ((type)(value))
+#endif
+
+#define NWK_LENGTH(answer) NWK_CAST(uint32_t, (answer) & 0xFFFFFFFFu)
+#define NWK_REFUSAL(answer) NWK_CAST(uint8_t, (answer) >> 32 & 0xFFu)
 
 /* The longest frame, and the longest payload or command. */
 #define NWK_MAX_FRAME 118
 #define NWK_MAX_PAYLOAD 108
+
+/* ---- refusals; nwk_refusal_text gives their conditions in words */
+
+enum nwk_refusal {
+  NWK_ACCEPTED = 0,
+  NWK_REFUSED_TOO_LONG = 1,
+  NWK_REFUSED_SHORT_HEADER = 2,
+  NWK_REFUSED_FRAME_TYPE = 3,
+  NWK_REFUSED_DISCOVERY = 4,
+  NWK_REFUSED_DESTINATION_IEEE = 5,
+  NWK_REFUSED_SOURCE_IEEE = 6,
+  NWK_REFUSED_MULTICAST = 7,
+  NWK_REFUSED_SOURCE_ROUTE = 8,
+  NWK_REFUSED_SHORT_AUXILIARY = 9,
+  NWK_REFUSED_SHORT_EXTENDED = 10,
+  NWK_REFUSED_NO_KEY_SEQUENCE = 11,
+  NWK_REFUSED_PAYLOAD = 12,
+  NWK_REFUSED_FIELD = 13,
+  NWK_REFUSED_NO_AUXILIARY = 14,
+  NWK_REFUSED_NO_IEEE = 15,
+  NWK_REFUSED_NO_MIC = 16,
+  NWK_REFUSED_LENGTH = 17,
+  NWK_REFUSED_NO_ROOM = 18,
+  NWK_REFUSED_WRONG_MIC = 19
+};
 
 /* ---- records
  *
@@ -96,7 +133,41 @@ extern "C" {
  *       18      1  key sequence number
  */
 #define NWK_HEADER_RECORD 147
+#define NWK_HEADER_FRAME_TYPE 0
+#define NWK_HEADER_VERSION 1
+#define NWK_HEADER_DISCOVERY 2
+#define NWK_HEADER_MULTICAST_BIT 3
+#define NWK_HEADER_SECURITY_BIT 4
+#define NWK_HEADER_SOURCE_ROUTE_BIT 5
+#define NWK_HEADER_DESTINATION_IEEE_BIT 6
+#define NWK_HEADER_SOURCE_IEEE_BIT 7
+#define NWK_HEADER_END_DEVICE_BIT 8
+#define NWK_HEADER_BITS_14_15 9
+#define NWK_HEADER_DESTINATION 10
+#define NWK_HEADER_SOURCE 12
+#define NWK_HEADER_RADIUS 14
+#define NWK_HEADER_SEQUENCE 15
+#define NWK_HEADER_HAS_DESTINATION_IEEE 16
+#define NWK_HEADER_DESTINATION_IEEE 17
+#define NWK_HEADER_HAS_SOURCE_IEEE 25
+#define NWK_HEADER_SOURCE_IEEE 26
+#define NWK_HEADER_HAS_MULTICAST 34
+#define NWK_HEADER_MULTICAST 35
+#define NWK_HEADER_HAS_SOURCE_ROUTE 36
+#define NWK_HEADER_RELAY_COUNT 37
+#define NWK_HEADER_RELAY_INDEX 38
+#define NWK_HEADER_RELAYS 39
+
 #define NWK_AUXILIARY_RECORD 19
+#define NWK_AUXILIARY_PRESENT 0
+#define NWK_AUXILIARY_LEVEL 1
+#define NWK_AUXILIARY_KEY_ID 2
+#define NWK_AUXILIARY_EXTENDED_NONCE_BIT 3
+#define NWK_AUXILIARY_VERIFIED_BIT 4
+#define NWK_AUXILIARY_COUNTER 5
+#define NWK_AUXILIARY_HAS_IEEE 9
+#define NWK_AUXILIARY_IEEE 10
+#define NWK_AUXILIARY_KEY_SEQUENCE 18
 
 /* Command record, 535 bytes
  *
@@ -136,6 +207,18 @@ extern "C" {
  *   15 network commissioning response    1: network address (2); 3: association status, 0 to 3, 0x80 or 0xF0
  */
 #define NWK_COMMAND_RECORD 535
+#define NWK_COMMAND_IDENTIFIER 0
+#define NWK_COMMAND_FIELDS 1
+#define NWK_COMMAND_RELAY_COUNT 25
+#define NWK_COMMAND_RELAYS 26
+#define NWK_COMMAND_LINK_COUNT 132
+#define NWK_COMMAND_LINKS 133
+#define NWK_COMMAND_PAN_COUNT 257
+#define NWK_COMMAND_PANS 258
+#define NWK_COMMAND_POWER_COUNT 320
+#define NWK_COMMAND_POWERS 321
+#define NWK_COMMAND_UNPARSED_LENGTH 426
+#define NWK_COMMAND_UNPARSED 427
 
 /* ---- headers */
 
@@ -226,6 +309,173 @@ uint64_t nwk_decrypt_ccm(uint64_t key_first, uint64_t key_second, const uint8_t 
  * Afterwards out holds the block in its first 16 bytes. */
 uint64_t nwk_encrypt_block(uint64_t key_first, uint64_t key_second, const uint8_t *block, size_t block_len, uint8_t *out,
                            size_t out_len);
+
+/* ---- helpers */
+
+/* A refusal's condition in words; "accepted" for 0. */
+static inline const char *nwk_refusal_text(uint8_t refusal) {
+  static const char *const texts[] = {
+      "accepted",
+      "a frame, or the bytes given to read a header or an auxiliary header, are more than 118; or "
+      "authenticated data or a payload handed to CCM alone is more than 127",
+      "a header has fewer than 8 bytes",
+      "the frame type is 2",
+      "discovery is 3",
+      "fewer than 8 bytes remain for a destination IEEE",
+      "fewer than 8 bytes remain for a source IEEE",
+      "no byte remains for multicast control",
+      "a source route has fewer than 2 + 2n bytes for its n relays, or fewer than 2",
+      "an auxiliary header has fewer than 6 bytes",
+      "an auxiliary header with extended nonce has 6 to 12 bytes",
+      "an auxiliary header with extended nonce has exactly 13 bytes",
+      "an unsecured payload, or a command to read, has more than 108 bytes",
+      "a field to write exceeds its bits or has an undeclared code, or a list exceeds its places",
+      "sealing or opening has no auxiliary header",
+      "sealing or opening has neither an auxiliary nor a header source IEEE",
+      "ciphertext with MIC has fewer than 4 bytes",
+      "the bytes to write exceed 118 for a header or frame, or 108 for a payload, alone or in a frame",
+      "the lent output is shorter than what is to be written",
+      "the MIC is not the one computed",
+  };
+  return refusal < sizeof texts / sizeof texts[0] ? texts[refusal] : "a number that the list does not have";
+}
+
+/* The two numbers of a key. */
+struct nwk_key {
+  uint64_t first, second;
+};
+
+static inline struct nwk_key nwk_key_of(const uint8_t bytes[16]) {
+  struct nwk_key key = {0, 0};
+  for (int i = 7; i >= 0; i--) {
+    key.first = key.first << 8 | bytes[i];
+    key.second = key.second << 8 | bytes[8 + i];
+  }
+  return key;
+}
+
+/* A number of two or four bytes in a record, which has the least significant byte first. */
+static inline uint16_t nwk_get16(const uint8_t *at) { return NWK_CAST(uint16_t, at[0] | at[1] << 8); }
+
+static inline uint32_t nwk_get32(const uint8_t *at) {
+  return nwk_get16(at) | NWK_CAST(uint32_t, nwk_get16(at + 2)) << 16;
+}
+
+static inline void nwk_put16(uint8_t *at, uint16_t number) {
+  at[0] = NWK_CAST(uint8_t, number & 0xFF);
+  at[1] = NWK_CAST(uint8_t, number >> 8);
+}
+
+static inline void nwk_put32(uint8_t *at, uint32_t number) {
+  nwk_put16(at, NWK_CAST(uint16_t, number & 0xFFFF));
+  nwk_put16(at + 2, NWK_CAST(uint16_t, number >> 16));
+}
+
+/* ---- empty slices
+ *
+ * The compiled functions are to be given the address of a byte even for an empty slice. So that NULL will do there, each
+ * function's name stands from here on for one that puts such an address in its place. */
+
+static inline uint8_t *nwk_lent(uint8_t *bytes, size_t len) {
+  static uint8_t none;
+  return len == 0 ? &none : bytes;
+}
+
+static inline const uint8_t *nwk_given(const uint8_t *bytes, size_t len) {
+  static const uint8_t none = 0;
+  return len == 0 ? &none : bytes;
+}
+
+static inline uint64_t nwk_read_header_or_null(const uint8_t *bytes, size_t bytes_len, uint8_t *header, size_t header_len) {
+  return nwk_read_header(nwk_given(bytes, bytes_len), bytes_len, nwk_lent(header, header_len), header_len);
+}
+
+static inline uint64_t nwk_write_header_or_null(const uint8_t *header, size_t header_len, uint8_t *out, size_t out_len) {
+  return nwk_write_header(nwk_given(header, header_len), header_len, nwk_lent(out, out_len), out_len);
+}
+
+static inline uint64_t nwk_read_auxiliary_or_null(const uint8_t *bytes, size_t bytes_len, uint8_t *auxiliary,
+                                                  size_t auxiliary_len) {
+  return nwk_read_auxiliary(nwk_given(bytes, bytes_len), bytes_len, nwk_lent(auxiliary, auxiliary_len), auxiliary_len);
+}
+
+static inline uint64_t nwk_write_auxiliary_or_null(const uint8_t *auxiliary, size_t auxiliary_len, uint8_t *out,
+                                                   size_t out_len) {
+  return nwk_write_auxiliary(nwk_given(auxiliary, auxiliary_len), auxiliary_len, nwk_lent(out, out_len), out_len);
+}
+
+static inline uint64_t nwk_read_frame_or_null(const uint8_t *bytes, size_t bytes_len, uint8_t *header, size_t header_len,
+                                              uint8_t *auxiliary, size_t auxiliary_len) {
+  return nwk_read_frame(nwk_given(bytes, bytes_len), bytes_len, nwk_lent(header, header_len), header_len,
+                        nwk_lent(auxiliary, auxiliary_len), auxiliary_len);
+}
+
+static inline uint64_t nwk_write_frame_or_null(const uint8_t *header, size_t header_len, const uint8_t *payload,
+                                               size_t payload_len, uint8_t *out, size_t out_len) {
+  return nwk_write_frame(nwk_given(header, header_len), header_len, nwk_given(payload, payload_len), payload_len,
+                         nwk_lent(out, out_len), out_len);
+}
+
+static inline uint64_t nwk_seal_or_null(uint64_t key_first, uint64_t key_second, const uint8_t *header, size_t header_len,
+                                        const uint8_t *auxiliary, size_t auxiliary_len, const uint8_t *payload,
+                                        size_t payload_len, uint8_t *out, size_t out_len) {
+  return nwk_seal(key_first, key_second, nwk_given(header, header_len), header_len,
+                  nwk_given(auxiliary, auxiliary_len), auxiliary_len, nwk_given(payload, payload_len), payload_len,
+                  nwk_lent(out, out_len), out_len);
+}
+
+static inline uint64_t nwk_open_or_null(uint64_t key_first, uint64_t key_second, const uint8_t *bytes, size_t bytes_len,
+                                        uint8_t *header, size_t header_len, uint8_t *auxiliary, size_t auxiliary_len,
+                                        uint8_t *out, size_t out_len) {
+  return nwk_open(key_first, key_second, nwk_given(bytes, bytes_len), bytes_len, nwk_lent(header, header_len), header_len,
+                  nwk_lent(auxiliary, auxiliary_len), auxiliary_len, nwk_lent(out, out_len), out_len);
+}
+
+static inline uint64_t nwk_read_command_or_null(const uint8_t *bytes, size_t bytes_len, uint8_t *command,
+                                                size_t command_len) {
+  return nwk_read_command(nwk_given(bytes, bytes_len), bytes_len, nwk_lent(command, command_len), command_len);
+}
+
+static inline uint64_t nwk_write_command_or_null(const uint8_t *command, size_t command_len, uint8_t *out, size_t out_len) {
+  return nwk_write_command(nwk_given(command, command_len), command_len, nwk_lent(out, out_len), out_len);
+}
+
+static inline uint64_t nwk_encrypt_ccm_or_null(uint64_t key_first, uint64_t key_second, const uint8_t *nonce,
+                                               size_t nonce_len, const uint8_t *auth, size_t auth_len,
+                                               const uint8_t *payload, size_t payload_len, uint8_t *out, size_t out_len,
+                                               uint8_t *mic, size_t mic_len) {
+  return nwk_encrypt_ccm(key_first, key_second, nwk_given(nonce, nonce_len), nonce_len, nwk_given(auth, auth_len), auth_len,
+                         nwk_given(payload, payload_len), payload_len, nwk_lent(out, out_len), out_len,
+                         nwk_lent(mic, mic_len), mic_len);
+}
+
+static inline uint64_t nwk_decrypt_ccm_or_null(uint64_t key_first, uint64_t key_second, const uint8_t *nonce,
+                                               size_t nonce_len, const uint8_t *auth, size_t auth_len,
+                                               const uint8_t *ciphertext, size_t ciphertext_len, const uint8_t *mic,
+                                               size_t mic_len, uint8_t *out, size_t out_len) {
+  return nwk_decrypt_ccm(key_first, key_second, nwk_given(nonce, nonce_len), nonce_len, nwk_given(auth, auth_len), auth_len,
+                         nwk_given(ciphertext, ciphertext_len), ciphertext_len, nwk_given(mic, mic_len), mic_len,
+                         nwk_lent(out, out_len), out_len);
+}
+
+static inline uint64_t nwk_encrypt_block_or_null(uint64_t key_first, uint64_t key_second, const uint8_t *block,
+                                                 size_t block_len, uint8_t *out, size_t out_len) {
+  return nwk_encrypt_block(key_first, key_second, nwk_given(block, block_len), block_len, nwk_lent(out, out_len), out_len);
+}
+
+#define nwk_read_header nwk_read_header_or_null
+#define nwk_write_header nwk_write_header_or_null
+#define nwk_read_auxiliary nwk_read_auxiliary_or_null
+#define nwk_write_auxiliary nwk_write_auxiliary_or_null
+#define nwk_read_frame nwk_read_frame_or_null
+#define nwk_write_frame nwk_write_frame_or_null
+#define nwk_seal nwk_seal_or_null
+#define nwk_open nwk_open_or_null
+#define nwk_read_command nwk_read_command_or_null
+#define nwk_write_command nwk_write_command_or_null
+#define nwk_encrypt_ccm nwk_encrypt_ccm_or_null
+#define nwk_decrypt_ccm nwk_decrypt_ccm_or_null
+#define nwk_encrypt_block nwk_encrypt_block_or_null
 
 #ifdef __cplusplus
 }

@@ -96,6 +96,10 @@ pub fn decrypt_ccm(
 /// assert_eq!(encrypt_block(&key, &block)?, expected);
 /// # Ok::<(), store_reader::Refusal>(())
 /// ```
+///
+/// # Errors
+///
+/// None.
 pub fn encrypt_block(key: &Key, block: &[u8; 16]) -> Result<[u8; 16], Refusal> {
     let (first, second) = key.halves();
     let mut out = [0; 16];

@@ -298,7 +298,7 @@ fn tshark_says_the_same_of_the_sample() {
         assert!(value(our, "time").ends_with(&format!(":{:02}.000000Z", second - 1_795_000_000 + 40)), "{our}");
         let pan = if theirs[2].is_empty() { theirs[9] } else { theirs[2] };
         assert_eq!(value(our, "pan").to_lowercase(), pan, "{line}");
-        let protocol = theirs[8].split(':').last().unwrap_or("");
+        let protocol = theirs[8].rsplit(':').next().unwrap_or("");
         match value(our, "skipped") {
             "Green Power frame" => assert!(theirs[8].contains("zbee_nwk_gp"), "{line}"),
             "6LoWPAN frame" => assert!(theirs[8].contains("6lowpan"), "{line}"),
