@@ -16,6 +16,9 @@ SHELL := bash
 # The folder where rustup puts cargo, for a shell whose path does not have it.
 export PATH := $(PATH):$(shell echo ~)/.cargo/bin
 
+# The toolchain that everything here was proved with, as rt version prints it.
+TOOLCHAIN := rattle-kit-5b logic 064da1ca440f63e7
+
 PREFIX ?= /usr/local
 DESTDIR ?=
 
@@ -28,6 +31,8 @@ VERSION := $(shell sed -n 's/^version = "\(.*\)"/\1/p' host/Cargo.toml)
 # Ends with a sentence where a program is missing.
 needs = command -v $(1) > /dev/null || { echo "$(1) is missing: $(2)" >&2; exit 1; }
 needs_rt = $(call needs,rt,put the Rattle toolchain on the path)
+# Says where the toolchain is another; the proofs then decide.
+compares_rt = [[ $$(rt version) == "$(TOOLCHAIN)" ]] || echo "rt is another than $(TOOLCHAIN), which this was proved with" >&2
 needs_cargo = $(call needs,cargo,put Rust on the path (https://rustup.rs))
 
 .PHONY: sample archive command test host-test install clean help
@@ -45,6 +50,7 @@ help:
 # The codec is proved before it is compiled: ten minutes or so the first time. What comes after it is asked for first.
 $(ARCHIVE): $(RATTLE)
 	@$(needs_rt)
+	$(compares_rt)
 	$(if $(filter archive bench,$(MAKECMDGOALS)),,$(needs_cargo))
 	echo "proving and compiling the codec, ten minutes or so the first time"
 	log=$$(mktemp)
@@ -60,6 +66,7 @@ $(COMMAND): $(ARCHIVE) $(HOST)
 # rt's last line, the count, is kept for the end: it is printed only if everything passed.
 test:
 	@$(needs_rt)
+	$(compares_rt)
 	$(needs_cargo)
 	log=$$(mktemp)
 	trap 'rm -f "$$log"' EXIT

@@ -119,6 +119,16 @@ fn what_is_missing_is_said_first() {
         assert!(!ran.status.success() && said.contains(missing), "{target}: {said}");
         assert!(!said.contains("ten minutes"), "{target}: {said}");
     }
-    // The archive alone needs no Rust.
-    assert!(text(&lacking("lacking-nothing", &["rt"], "archive")).contains("ten minutes"));
+    // The archive alone needs no Rust; a toolchain that does not say the pinned version is named.
+    let said = text(&lacking("lacking-nothing", &["rt"], "archive"));
+    assert!(said.contains("ten minutes") && said.contains("rt is another than rattle-kit"), "{said}");
+}
+
+/// The README names the toolchain that the Makefile compares with.
+#[test]
+fn the_toolchain_is_pinned_once() {
+    let read = |path: &str| fs::read_to_string(root().join(path)).expect(path);
+    let makefile = read("Makefile");
+    let pinned = makefile.lines().find_map(|line| line.strip_prefix("TOOLCHAIN := ")).expect("a toolchain");
+    assert!(read("README.md").contains(&format!("`{pinned}`")), "README.md does not name {pinned}");
 }
