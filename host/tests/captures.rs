@@ -179,6 +179,20 @@ fn damaged_pcapng_says_where() {
     }
 }
 
+/// An input that comes piece by piece is told by its first bytes all the same, and its first line is not waited for in vain.
+#[test]
+fn captures_and_lines_out_of_a_slow_pipe() {
+    let command = env!("CARGO_BIN_EXE_store-reader");
+    for sample in ["samples/store.pcap", "samples/store.pcapng"] {
+        let pieces = format!("(head -c 2 {sample}; sleep 0.1; tail -c +3 {sample})");
+        let shown = tool("sh", &["-c", &format!("{pieces} | {command} open --key {KEY}")]).expect("a shell");
+        let expected = run(&["open", "--key", KEY, sample], b"");
+        assert_eq!(String::from_utf8_lossy(&shown.stdout), expected.out);
+    }
+    let lines = tool("sh", &["-c", &format!("(printf 0; sleep 0.1; echo 8) | {command} read")]).expect("a shell");
+    assert!(String::from_utf8_lossy(&lines.stdout).starts_with("   1  refused by 2: "));
+}
+
 #[test]
 fn a_capture_that_is_cut_says_where() {
     let whole = fs::read(root().join("samples/store.pcap")).expect("the sample capture");

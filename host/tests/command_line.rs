@@ -152,6 +152,10 @@ fn keys_that_look_wrong_are_said_at_the_end() {
     assert_eq!((ran.err.as_str(), ran.status), ("", 0));
     let ran = run(&["open", "--key", other, "--summary-only", "--json", "samples/store.pcap"], b"");
     assert!(ran.out.ends_with(",\"keys_look_wrong\":true}}\n"), "{}", ran.out);
+    // A table is left as it is, and the line comes on standard error.
+    let ran = run(&["open", "--key", other, "--csv", "--by-sender", "samples/store.pcap"], b"");
+    assert_eq!(ran.err, "store-reader: no key opened any of 11 sealed frames: the keys look wrong\n");
+    assert!(!ran.out.contains("wrong") && ran.status == 0, "{}", ran.out);
     // A capture without any sealed frame says nothing of the keys.
     let ran = run(&["open", "--key", other], b"0800000034121E07AA\n");
     assert!(!ran.out.contains("wrong"), "{}", ran.out);

@@ -85,6 +85,9 @@ fn bash_completes_what_the_command_takes() {
 fn the_help_is_true_of_the_summary() {
     assert!(help().contains("the summary, which open, read and command print at the end"));
     assert!(help().contains("For seal, which prints no summary"));
+    assert!(
+        help().contains("a\n                      counter that is sealed twice under one key repeats the key stream")
+    );
     let frame = b"0800000034121E07AA\n";
     for arguments in [&["open", "--key", KEY][..], &["read"], &["command"]] {
         let out = run(arguments, frame).out;

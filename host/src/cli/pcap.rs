@@ -22,14 +22,16 @@ pub struct Pcap {
 }
 
 /// The first four bytes of a capture, its byte order and resolution.
-pub fn magic(bytes: &[u8]) -> Option<(Order, Resolution)> {
-    match bytes.get(..4)? {
-        [0xD4, 0xC3, 0xB2, 0xA1] => Some((Order::Little, Resolution::MICROSECONDS)),
-        [0x4D, 0x3C, 0xB2, 0xA1] => Some((Order::Little, Resolution::NANOSECONDS)),
-        [0xA1, 0xB2, 0xC3, 0xD4] => Some((Order::Big, Resolution::MICROSECONDS)),
-        [0xA1, 0xB2, 0x3C, 0x4D] => Some((Order::Big, Resolution::NANOSECONDS)),
-        _ => None,
-    }
+pub const MAGICS: [([u8; 4], Order, Resolution); 4] = [
+    ([0xD4, 0xC3, 0xB2, 0xA1], Order::Little, Resolution::MICROSECONDS),
+    ([0x4D, 0x3C, 0xB2, 0xA1], Order::Little, Resolution::NANOSECONDS),
+    ([0xA1, 0xB2, 0xC3, 0xD4], Order::Big, Resolution::MICROSECONDS),
+    ([0xA1, 0xB2, 0x3C, 0x4D], Order::Big, Resolution::NANOSECONDS),
+];
+
+/// Byte order and resolution of a capture that starts so.
+pub fn magic(front: &[u8]) -> Option<(Order, Resolution)> {
+    MAGICS.iter().find(|(magic, _, _)| front.starts_with(magic)).map(|(_, order, resolution)| (*order, *resolution))
 }
 
 const HEADER: usize = 24;

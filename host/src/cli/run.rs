@@ -6,7 +6,7 @@ use super::progress::Progress;
 use super::protocol::is_inter_pan;
 use super::seal::seal_each;
 use super::senders::{csv_table, table, Senders};
-use super::show::{note_offset, Printer};
+use super::show::{complain, note_offset, Printer};
 use super::source::{Content, Entry, Extent, Source};
 use super::summary::Summary;
 use super::value::Value;
@@ -207,8 +207,11 @@ impl Run {
         let out = &mut printer.out;
         let rows = self.senders.map(Senders::rows);
         match (printer.show, &rows) {
-            (Show::Csv, Some(rows)) => write!(out, "{}", csv_table(rows, self.done))?,
-            (Show::Csv, None) => write!(out, "{}", self.summary.csv())?,
+            (Show::Csv, rows) => {
+                let table = rows.as_ref().map_or_else(|| self.summary.csv(), |rows| csv_table(rows, self.done));
+                write!(out, "{table}")?;
+                self.summary.wrong_keys().iter().for_each(|why| complain(why));
+            }
             (Show::Json, _) => {
                 for row in rows.iter().flatten() {
                     writeln!(out, "{}", Value::Object(row.fields()).json())?;

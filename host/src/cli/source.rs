@@ -1,4 +1,5 @@
 //! Frames from a file or standard input: a capture, or hexadecimal digits.
+use super::bytes::take;
 use super::lines::Lines;
 use super::link::Fcs;
 use super::mac::{fcs, fcs_of_four, mac_frame, Carried, MacHeader};
@@ -10,7 +11,7 @@ use std::borrow::Cow;
 use std::cell::Cell;
 use std::fmt;
 use std::fs::File;
-use std::io::{self, BufRead, BufReader, Read};
+use std::io::{self, BufReader, Chain, Cursor, Read};
 use std::rc::Rc;
 
 /// Where an input stands, counted from 1.
@@ -82,9 +83,12 @@ impl<R: Read> Read for Counted<R> {
     }
 }
 
+/// An input behind the bytes of its front that were looked at.
+type Input = Chain<Cursor<Vec<u8>>, BufReader<Box<dyn Read>>>;
+
 /// An input, and how it is read.
 pub struct Source {
-    input: BufReader<Box<dyn Read>>,
+    input: Input,
     format: Format,
     extent: Extent,
     records: u64,
@@ -96,6 +100,9 @@ enum Format {
     Pcap(Pcap),
     Pcapng(Pcapng),
 }
+
+/// The most bytes that tell a file's kind.
+const LONGEST_MAGIC: usize = 9;
 
 /// Files that are told by their first bytes and not read, and what helps.
 const NOT_READ: [(&[u8], &str); 11] = [
@@ -133,13 +140,15 @@ impl Source {
         let counted = Box::new(Counted { input, read: Rc::clone(&read) });
         let mut input: BufReader<Box<dyn Read>> = BufReader::new(counted);
         let front = front(&mut input)?;
+        let is_binary = front.iter().chain(input.buffer().iter().take(LONGEST_MAGIC)).any(|byte| *byte == 0);
+        let mut input = Cursor::new(front.clone()).chain(input);
         let format = if let Some((order, resolution)) = pcap::magic(&front) {
             Format::Pcap(Pcap::new(&mut input, order, resolution)?)
         } else if front.starts_with(&pcapng::MAGIC) {
             Format::Pcapng(Pcapng::new(&mut input)?)
         } else if let Some((_, what)) = NOT_READ.iter().find(|(magic, _)| front.starts_with(magic)) {
             return Err((*what).to_string());
-        } else if front.contains(&0) {
+        } else if is_binary {
             return Err("neither a capture of a known kind nor lines of hexadecimal digits".to_string());
         } else {
             Format::Lines(Lines::default())
@@ -169,16 +178,19 @@ impl Source {
     }
 }
 
-/// The first bytes of an input, as many as telling its kind takes; they stay to be read.
-fn front(input: &mut BufReader<Box<dyn Read>>) -> Result<Vec<u8>, String> {
-    let bytes = loop {
-        match input.fill_buf() {
-            Ok(bytes) => break bytes,
-            Err(e) if e.kind() == io::ErrorKind::Interrupted => {}
-            Err(e) => return Err(e.to_string()),
+/// The first bytes of an input, as many as telling its kind takes: an input may come piece by piece.
+fn front(input: &mut impl Read) -> Result<Vec<u8>, String> {
+    let magics = || pcap::MAGICS.iter().map(|(magic, _, _)| &magic[..]).chain([&pcapng::MAGIC[..]]);
+    let known = || magics().chain(NOT_READ.iter().map(|(magic, _)| *magic));
+    let mut front = Vec::new();
+    while known().any(|magic| magic.starts_with(&front) && magic != front) {
+        let next = take(input, 1)?;
+        if next.is_empty() {
+            break;
         }
-    };
-    Ok(bytes[..bytes.len().min(16)].to_vec())
+        front.extend(next);
+    }
+    Ok(front)
 }
 
 impl Iterator for Source {

@@ -61,6 +61,12 @@ impl Summary {
         wrong.filter(|_| self.accepted == 0 && self.done == "opened")
     }
 
+    /// What is said where the keys look wrong.
+    pub fn wrong_keys(&self) -> Option<String> {
+        let frames = counted(self.keys_look_wrong()?, "sealed frame");
+        Some(format!("no key opened any of {frames}: the keys look wrong"))
+    }
+
     /// The same counts for `--json`.
     pub fn fields(&self) -> Fields {
         let refused = self.refused.iter().map(|(refusal, n)| {
@@ -134,11 +140,7 @@ impl fmt::Display for Summary {
         if self.broken > 0 {
             writeln!(f, "{} could not be read", counted(self.broken, "input"))?;
         }
-        if let Some(sealed) = self.keys_look_wrong() {
-            let frames = counted(sealed, "sealed frame");
-            writeln!(f, "no key opened any of {frames}: the keys look wrong")?;
-        }
-        Ok(())
+        self.wrong_keys().map_or(Ok(()), |why| writeln!(f, "{why}"))
     }
 }
 
