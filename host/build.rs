@@ -19,6 +19,8 @@ fn main() {
     println!("cargo:rerun-if-changed={}", archive.display());
     println!("cargo:rustc-link-search=native={}", folder.display());
     println!("cargo:rustc-link-lib=static=nwk");
+    // For the build scripts of crates that depend on this one: DEP_NWK_ARCHIVE.
+    println!("cargo:archive={}", archive.display());
 }
 
 /// The toolchain compiles the codec for one processor and system.

@@ -74,6 +74,7 @@ fn an_archive_of_elsewhere_is_taken() {
     let printed = String::from_utf8_lossy(&taken.stdout);
     assert!(printed.contains(&format!("cargo:rustc-link-search=native={}\n", folder.display())), "{printed}");
     assert!(printed.contains("cargo:rerun-if-env-changed=STORE_READER_ARCHIVE\n"), "{printed}");
+    assert!(printed.contains(&format!("cargo:archive={name}\n")), "{printed}");
     assert_eq!(said(&taken), (String::new(), true));
 }
 

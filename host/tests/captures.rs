@@ -255,6 +255,25 @@ fn files_that_editcap_writes() {
     }
 }
 
+/// tshark's own file, and what it prints of a frame with -x.
+#[test]
+fn what_tshark_writes() {
+    let path = scratch("tshark.pcapng");
+    let name = path.to_str().expect("UTF-8");
+    let Some(written) = tool("tshark", &["-r", "samples/store.pcap", "-w", name]) else {
+        return;
+    };
+    assert!(written.status.success(), "{}", String::from_utf8_lossy(&written.stderr));
+    let expected = run(&["open", "--key", KEY, "samples/store.pcap"], b"").out;
+    assert_eq!(run(&["open", "--key", KEY, name], b"").out, expected);
+    let dump = tool("tshark", &["-r", "samples/store.pcap", "-x", "-Y", "frame.number == 10"]).expect("tshark").stdout;
+    // The MAC header is taken for a NWK header, which the command cannot know; the dump is read whole all the same.
+    let ran = run(&["read", "--json"], &dump);
+    assert!(ran.out.starts_with("{\"line\":1,"), "{}", ran.out);
+    assert!(ran.out.contains("010218020A000029C607"), "{}", ran.out);
+    assert!(ran.err.starts_with("store-reader: line 1: the offset in front is passed over"), "{}", ran.err);
+}
+
 /// text2pcap makes a capture of a dump, and mergecap one of two captures with interfaces of two link types.
 #[test]
 fn files_that_text2pcap_and_mergecap_write() {

@@ -57,8 +57,7 @@ impl Summary {
 
     /// How many frames were sealed and not opened, where none was.
     fn keys_look_wrong(&self) -> Option<u64> {
-        let wrong = self.refused.get(&Refusal::WRONG_MIC).copied();
-        wrong.filter(|_| self.accepted == 0 && self.done == "opened")
+        self.refused.get(&Refusal::WRONG_MIC).copied().filter(|_| self.accepted == 0)
     }
 
     /// What is said where the keys look wrong.
