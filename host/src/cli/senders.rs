@@ -142,43 +142,38 @@ impl Senders {
     }
 
     /// The counts of each sender: those of a short address go to its long one where that is known.
-    fn joined(mut self) -> Vec<(Sender, Counts, Counters)> {
-        let mut counts: BTreeMap<Sender, Counts> = BTreeMap::new();
-        for (sender, of_sender) in self.counts {
-            let long = match sender {
-                Sender::Short(short) => self.long.get(&short).copied().flatten().map(Sender::Long),
+    fn joined(counts: BTreeMap<Sender, Counts>, long: &BTreeMap<Short, Option<Eui64>>) -> BTreeMap<Sender, Counts> {
+        let mut joined: BTreeMap<Sender, Counts> = BTreeMap::new();
+        for (sender, of_sender) in counts {
+            let known = match sender {
+                Sender::Short(short) => long.get(&short).copied().flatten().map(Sender::Long),
                 _ => None,
             };
-            counts.entry(long.unwrap_or(sender)).or_default().add(of_sender);
+            joined.entry(known.unwrap_or(sender)).or_default().add(of_sender);
         }
-        // A device that only passes frames on has counters and no frames of its own.
-        for (device, counters) in &self.counters {
-            if counters.first.is_some() {
-                counts.entry(Sender::Long(*device)).or_default();
-            }
+        joined
+    }
+
+    /// The rows of the table. A device that only passes frames on has counters and no frames of its own.
+    pub fn rows(mut self) -> Vec<Row> {
+        let mut counts = Self::joined(self.counts, &self.long);
+        for (device, _) in self.counters.iter().filter(|(_, counters)| counters.first.is_some()) {
+            counts.entry(Sender::Long(*device)).or_default();
         }
         for (short, long) in &self.long {
             if let Some(of_sender) = long.and_then(|long| counts.get_mut(&Sender::Long(long))) {
                 of_sender.shorts.insert(*short);
             }
         }
-        let counters = |sender: &Sender| match sender {
-            Sender::Long(long) => self.counters.remove(long).unwrap_or_default(),
-            _ => Counters::default(),
-        };
-        let mut counters = counters;
-        counts
-            .into_iter()
-            .map(|(sender, of_sender)| {
-                let counters = counters(&sender);
-                (sender, of_sender, counters)
-            })
-            .collect()
-    }
-
-    /// The rows of the table.
-    pub fn rows(self) -> Vec<Row> {
-        self.joined().into_iter().map(|(sender, counts, counters)| Row::new(sender, counts, &counters)).collect()
+        let mut rows = Vec::new();
+        for (sender, of_sender) in counts {
+            let counters = match sender {
+                Sender::Long(device) => self.counters.remove(&device).unwrap_or_default(),
+                _ => Counters::default(),
+            };
+            rows.push(Row::new(sender, of_sender, &counters));
+        }
+        rows
     }
 }
 
