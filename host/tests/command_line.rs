@@ -6,7 +6,7 @@ mod support;
 use std::fs;
 use std::path::PathBuf;
 use std::process::Command;
-use support::command::{root, run, scratch, KEY};
+use support::command::{root, run, scratch, tool, KEY};
 
 /// The frame that `examples/seal_open.c` expects, made with another AES-CCM.
 const SEALED: &str = "480200003412 1E0728 45230100 0102030405060708 00 34C76392C2746D941C179CD01798E03A";
@@ -267,6 +267,24 @@ fn digits_in_other_clothes() {
     assert_eq!(ran.out, format!("   1  {expected}   4  {expected}2 frames: 2 read, 0 refused\n"));
     let said = "store-reader: line 1: the offset in front is passed over, here and in what follows\n";
     assert_eq!((ran.err.as_str(), ran.status), (said, 0));
+}
+
+/// What these programs print of a frame of 17 bytes, where they are installed.
+#[test]
+fn dumps_of_other_programs() {
+    let frame = [0x08, 0, 0, 0, 0x34, 0x12, 0x1E, 0x07, 0xAA, 0xBB, 0xCC, 0xDD, 0xEE, 0xFF, 0x00, 0x11, 0x22];
+    let path = scratch("frame.bin");
+    fs::write(&path, frame).expect("a file");
+    let name = path.to_str().expect("UTF-8");
+    for command in [&["hexdump", "-C"][..], &["od", "-A", "x", "-t", "x1"], &["xxd"], &["xxd", "-g1"]] {
+        let Some(dump) = tool(command[0], &[&command[1..], &[name]].concat()) else {
+            continue;
+        };
+        let out = run(&["read"], &dump.stdout).out;
+        let expected =
+            "   1  data      0x1234 -> 0x0000  sequence 7  payload 9 bytes: AABBCCDDEEFF001122\n1 frame: 1 read";
+        assert!(out.starts_with(expected), "{command:?}: {out}");
+    }
 }
 
 #[test]

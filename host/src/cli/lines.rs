@@ -38,10 +38,13 @@ impl Lines {
         self.count + 1
     }
 
-    /// The rest of a dump: the lines whose offset is the number of bytes so far.
+    /// The rest of a dump: the lines whose offset is the number of bytes so far. Some programs end with that offset alone.
     fn dump(&mut self, number: u64, mut bytes: Vec<u8>, input: &mut impl BufRead) -> io::Result<(u64, Bytes)> {
         self.first_offset.get_or_insert(number);
         while let Some((next, line)) = self.line(input)? {
+            if offset(content(&line)) == Some(bytes.len()) {
+                break;
+            }
             match dump_line(content(&line)) {
                 Some((offset, more)) if offset == bytes.len() && offset > 0 => bytes.extend(more),
                 Some((offset, _)) if offset > 0 => {
@@ -83,23 +86,31 @@ fn digits(line: &str) -> Bytes {
     Ok(bytes)
 }
 
-/// A line as hexdump, xxd, od and tshark print it: an offset of four to eight digits, up to 16 bytes of two digits each, and
-/// perhaps the same as characters behind three blanks or a bar.
+/// A line as tshark, hexdump, od and xxd print it: an offset, up to 16 bytes, and perhaps the same as characters. Those stand
+/// behind three blanks or a bar; for xxd, which has a colon behind the offset and may join two bytes, behind two blanks.
 fn dump_line(text: &str) -> Option<(usize, Vec<u8>)> {
-    let (offset, behind) = text.split_once(char::is_whitespace)?;
-    let offset = offset.strip_suffix(':').unwrap_or(offset);
-    if !(4..=8).contains(&offset.len()) {
-        return None;
-    }
-    let offset = usize::from_str_radix(offset, 16).ok()?;
+    let (first, behind) = text.split_once(char::is_whitespace)?;
     let behind = behind.trim_start();
-    let shown = behind.split("   ").next().unwrap_or("").split('|').next().unwrap_or("");
-    let bytes: Option<Vec<u8>> = shown.split_whitespace().map(byte).collect();
-    bytes.filter(|bytes| (1..=16).contains(&bytes.len())).map(|bytes| (offset, bytes))
+    let (number, shown, joined) = match first.strip_suffix(':') {
+        Some(number) => (number, behind.split("  ").next(), true),
+        None => (first, behind.split("   ").next().and_then(|shown| shown.split('|').next()), false),
+    };
+    let offset = offset(number)?;
+    let mut bytes = Vec::new();
+    for word in shown.unwrap_or("").split_whitespace() {
+        match word.len() {
+            2 => bytes.push(u8::from_str_radix(word, 16).ok()?),
+            4 if joined => bytes.extend(u16::from_str_radix(word, 16).ok()?.to_be_bytes()),
+            _ => return None,
+        }
+    }
+    (1..=16).contains(&bytes.len()).then_some((offset, bytes))
 }
 
-fn byte(word: &str) -> Option<u8> {
-    u8::from_str_radix(word, 16).ok().filter(|_| word.len() == 2)
+/// An offset: four to eight digits and nothing else.
+fn offset(text: &str) -> Option<usize> {
+    let digits = (4..=8).contains(&text.len()) && text.chars().all(|digit| digit.is_ascii_hexdigit());
+    usize::from_str_radix(text, 16).ok().filter(|_| digits)
 }
 
 #[cfg(test)]
@@ -110,6 +121,7 @@ mod tests {
     fn lines_of_a_dump() {
         assert_eq!(dump_line("0000  08 00 1E"), Some((0, vec![0x08, 0x00, 0x1E])));
         assert_eq!(dump_line("00000010: 08 00"), Some((16, vec![0x08, 0x00])));
+        assert_eq!(dump_line("00000000: 0800 1e  ..."), Some((0, vec![0x08, 0x00, 0x1E])));
         assert_eq!(dump_line("0000  61 88 ab   a.."), Some((0, vec![0x61, 0x88, 0xAB])));
         assert_eq!(dump_line("00000000  61 88  |a.|"), Some((0, vec![0x61, 0x88])));
         assert_eq!(dump_line("0800 0000 3412 1E07"), None);
