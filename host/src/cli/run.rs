@@ -7,7 +7,7 @@ use super::protocol::is_inter_pan;
 use super::seal::seal_each;
 use super::senders::{csv_table, table, Senders};
 use super::show::{complain, note_offset, Printer};
-use super::source::{Content, Entry, Extent, Source};
+use super::source::{Content, Entry, Source};
 use super::summary::Summary;
 use super::value::Value;
 use std::io::{self, Write};
@@ -34,15 +34,16 @@ pub fn run(arguments: &Arguments, colour: bool, out: &mut impl Write) -> Result<
     match &arguments.task {
         Task::Refusals => refusals(arguments.show, printer.out),
         Task::Open(keys) => {
-            let summary = Summary::new("frame", "opened", "open");
-            frames(arguments, summary, &mut printer, |bytes| opened(keys, bytes))
+            let run = Run::new(arguments, Summary::new("frame", "opened", "open"), true);
+            run.over(source(arguments)?, &mut printer, |bytes| opened(keys, bytes))
         }
-        Task::Read => frames(arguments, Summary::new("frame", "read", "read"), &mut printer, as_read),
+        Task::Read => {
+            let run = Run::new(arguments, Summary::new("frame", "read", "read"), true);
+            run.over(source(arguments)?, &mut printer, as_read)
+        }
         Task::Command => {
-            let source = lines(arguments, "command")?;
-            let mut run = Run::new(source.extent(), arguments, Summary::new("command", "read", "read"));
-            run.each(source, &mut printer, command)?;
-            run.end(&mut printer)
+            let run = Run::new(arguments, Summary::new("command", "read", "read"), false);
+            run.over(lines(arguments, "command")?, &mut printer, command)
         }
         Task::Seal(sealing) => Ok(seal_each(lines(arguments, "seal")?, sealing, &mut printer)?),
     }
@@ -79,91 +80,49 @@ fn refusals(show: Show, out: &mut impl Write) -> Result<u8, Failure> {
     Ok(0)
 }
 
-/// Shows what an operation says of each frame. Inter-PAN frames, whose NWK header is short, are not handed over.
-fn frames<W: Write>(
-    arguments: &Arguments,
-    summary: Summary,
-    printer: &mut Printer<'_, W>,
-    operation: impl Fn(&[u8]) -> Answer,
-) -> Result<u8, Failure> {
-    let source = source(arguments)?;
-    let mut run = Run::new(source.extent(), arguments, summary);
-    let entries = Frames { source };
-    run.each(entries, printer, operation)?;
-    run.end(printer)
-}
-
-/// The entries of a source, inter-PAN frames named as such.
-struct Frames {
-    source: Source,
-}
-
-/// Entries, and the first line whose offset was passed over.
-trait Entries: Iterator<Item = Entry> {
-    fn first_offset(&self) -> Option<u64>;
-}
-
-impl Entries for Source {
-    fn first_offset(&self) -> Option<u64> {
-        Source::first_offset(self)
-    }
-}
-
-impl Entries for Frames {
-    fn first_offset(&self) -> Option<u64> {
-        self.source.first_offset()
-    }
-}
-
-impl Iterator for Frames {
-    type Item = Entry;
-
-    fn next(&mut self) -> Option<Entry> {
-        let mut entry = self.source.next()?;
-        if let Content::Frame(bytes) = &entry.content {
-            if is_inter_pan(bytes) {
-                entry.content = Content::Other("inter-PAN frame".into(), bytes[INTER_PAN_HEADER..].to_vec());
-            }
-        }
-        Some(entry)
-    }
-}
-
-/// A run over inputs: what it counts, and how far it is.
+/// A run over inputs and what it counts.
 struct Run {
     summary: Summary,
     senders: Option<Senders>,
-    progress: Progress,
-    noted_offset: bool,
+    /// The inputs are frames, of which inter-PAN frames are not handed over: their NWK header is short.
+    of_frames: bool,
+    lines_come: bool,
     done: &'static str,
 }
 
 impl Run {
-    fn new(extent: Extent, arguments: &Arguments, summary: Summary) -> Self {
-        let lines_come = arguments.show != Show::Csv && !arguments.filter.summary_only;
+    fn new(arguments: &Arguments, summary: Summary, of_frames: bool) -> Self {
         Self {
             done: summary.done(),
             summary,
             senders: arguments.by_sender.then(Senders::default),
-            progress: Progress::new(extent, lines_come),
-            noted_offset: false,
+            of_frames,
+            lines_come: arguments.show != Show::Csv && !arguments.filter.summary_only,
         }
     }
 
-    /// Counts and shows each input.
-    fn each<W: Write>(
-        &mut self,
-        mut entries: impl Entries,
+    /// Counts and shows what the operation says of each input, and gives the exit status.
+    fn over<W: Write>(
+        mut self,
+        mut source: Source,
         printer: &mut Printer<'_, W>,
         operation: impl Fn(&[u8]) -> Answer,
-    ) -> io::Result<()> {
-        while let Some(entry) = entries.next() {
-            self.note_offset(entries.first_offset());
+    ) -> Result<u8, Failure> {
+        let mut progress = Progress::new(source.extent(), self.lines_come);
+        let mut noted_offset = false;
+        while let Some(entry) = source.next() {
+            if matches!(entry.content, Content::Broken(_)) || source.first_offset().is_some() != noted_offset {
+                progress.clear();
+            }
+            if let (Some(line), false) = (source.first_offset(), noted_offset) {
+                note_offset(line);
+                noted_offset = true;
+            }
             self.entry(&entry, printer, &operation)?;
-            self.progress.step(self.summary.inputs());
+            progress.step(self.summary.inputs());
         }
-        self.progress.clear();
-        Ok(())
+        progress.clear();
+        self.end(printer)
     }
 
     fn entry<W: Write>(
@@ -174,6 +133,11 @@ impl Run {
     ) -> io::Result<()> {
         self.summary.wrong_fcs += u64::from(entry.wrong_fcs);
         match &entry.content {
+            Content::Frame(bytes) if self.of_frames && is_inter_pan(bytes) => {
+                let kind = "inter-PAN frame";
+                self.summary.other(kind.into());
+                printer.other(entry, kind, &bytes[INTER_PAN_HEADER..])
+            }
             Content::Frame(bytes) => {
                 let answer = operation(bytes);
                 self.summary.count(&answer);
@@ -188,17 +152,8 @@ impl Run {
             }
             Content::Broken(why) => {
                 self.summary.broken += 1;
-                self.progress.clear();
                 printer.broken(entry, why)
             }
-        }
-    }
-
-    fn note_offset(&mut self, first: Option<u64>) {
-        if let (Some(line), false) = (first, self.noted_offset) {
-            self.progress.clear();
-            note_offset(line);
-            self.noted_offset = true;
         }
     }
 
