@@ -56,7 +56,7 @@ refusals! {
 /// };
 /// assert_eq!(why, "no NWK frame");
 /// ```
-#[derive(Debug, Clone, Copy, PartialEq, Eq, PartialOrd, Ord, Hash)]
+#[derive(Clone, Copy, PartialEq, Eq, PartialOrd, Ord, Hash)]
 pub struct Refusal(u8);
 
 impl Refusal {
@@ -104,6 +104,13 @@ impl fmt::Display for Refusal {
             Self::INTERNAL => write!(f, "internal error: {}", self.condition()),
             _ => write!(f, "refused by {}: {}", self.0, self.condition()),
         }
+    }
+}
+
+/// The name and the number, as in `WRONG_MIC(19)`.
+impl fmt::Debug for Refusal {
+    fn fmt(&self, f: &mut fmt::Formatter<'_>) -> fmt::Result {
+        write!(f, "{}({})", self.name(), self.0)
     }
 }
 

@@ -74,6 +74,7 @@ fn names_are_found_by_number_and_match_in_patterns() {
     const NUMBER: u8 = Refusal::NO_AUXILIARY.number();
     assert_eq!(NUMBER, 14);
     assert!(matches!(Refusal::from_number(19), Some(Refusal::WRONG_MIC)));
+    assert_eq!(format!("{:?}", Refusal::WRONG_MIC), "WRONG_MIC(19)");
 }
 
 /// The internal error is none of the codec's answers, and does not call itself a refusal.
