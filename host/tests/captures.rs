@@ -98,6 +98,17 @@ fn every_link_type() {
     }
 }
 
+/// A wrong FCS is marked on whatever it stands behind, and counted of frames.
+#[test]
+fn a_wrong_fcs_is_marked() {
+    let beacon = [0x00, 0x80, 1, 0x62, 0x1A, 0, 0, 0xFF, 0xCF, 0, 0];
+    let ran = run(&["read"], &pcap(195, &[&beacon[..], &[0, 0]].concat()));
+    let shown = format!("   1  {NO_TIME}  0x1A62 0x0000>none     MAC beacon  (wrong frame check sequence)\n");
+    assert!(ran.out.starts_with(&shown) && !ran.out.contains("1 with a wrong"), "{}", ran.out);
+    let ran = run(&["read"], &pcap(195, &[&MAC[..], &[0, 0]].concat()));
+    assert!(ran.out.ends_with("1 frame: 1 read, 0 refused\n     1 with a wrong frame check sequence\n"), "{}", ran.out);
+}
+
 #[test]
 fn a_big_endian_capture_without_fcs() {
     let mut capture = pcap_header(230, true);

@@ -131,7 +131,6 @@ impl Run {
         printer: &mut Printer<'_, W>,
         operation: impl Fn(&[u8]) -> Answer,
     ) -> io::Result<()> {
-        self.summary.wrong_fcs += u64::from(entry.wrong_fcs);
         match &entry.content {
             Content::Frame(bytes) if self.of_frames && is_inter_pan(bytes) => {
                 let kind = "inter-PAN frame";
@@ -140,7 +139,7 @@ impl Run {
             }
             Content::Frame(bytes) => {
                 let answer = operation(bytes);
-                self.summary.count(&answer);
+                self.summary.count(&answer, entry.wrong_fcs);
                 if let Some(senders) = &mut self.senders {
                     senders.note(&answer, entry.mac.as_ref(), entry.time);
                 }

@@ -64,13 +64,17 @@ impl<W: Write> Printer<'_, W> {
             return Ok(());
         }
         match self.show {
-            Show::Line => writeln!(self.out, "{}{kind}", front(entry)),
+            Show::Line => {
+                let line = [Some(kind.to_string()), note(entry)];
+                writeln!(self.out, "{}{}", front(entry), line.into_iter().flatten().collect::<Vec<_>>().join("  "))
+            }
             Show::Full => {
                 let mut fields = record_fields(entry);
                 if !bytes.is_empty() {
                     fields.push(("bytes", Value::bytes(bytes)));
                 }
-                write!(self.out, "{}\n  {kind}\n{}", entry.place, full(&fields, 2))
+                let note = note(entry).map_or(String::new(), |note| format!("  {note}"));
+                write!(self.out, "{}{note}\n  {kind}\n{}", entry.place, full(&fields, 2))
             }
             Show::Json => {
                 let mut fields: Fields = vec![("skipped", Value::text(kind))];

@@ -14,7 +14,7 @@ pub struct Summary {
     /// Accepted inputs by the key that opened them, where there are several.
     keys: BTreeMap<usize, u64>,
     others: BTreeMap<Kind, u64>,
-    pub wrong_fcs: u64,
+    wrong_fcs: u64,
     pub broken: u64,
     /// What the inputs are called, what is done with them, and the same of those to come.
     noun: &'static str,
@@ -32,7 +32,9 @@ impl Summary {
         self.done
     }
 
-    pub fn count(&mut self, answer: &Answer) {
+    /// Counts a frame or command, and whether the frame check sequence around it is wrong.
+    pub fn count(&mut self, answer: &Answer, wrong_fcs: bool) {
+        self.wrong_fcs += u64::from(wrong_fcs);
         match answer.refusal {
             None => self.accepted += 1,
             Some(refusal) => *self.refused.entry(refusal).or_default() += 1,
