@@ -1,8 +1,9 @@
 /* nwk.h: the Zigbee NWK frame codec in C.
  *
- * A slice is a pointer and a length. Two things are the caller's to see to: a slice of a length above 0 has that many bytes
- * (so its pointer is not NULL; for an empty slice NULL will do), and no two slices of a call overlap if one of them is
- * written. A key is two numbers, its first eight bytes in the first, the first byte lowest (nwk_key_of).
+ * A slice is a pointer and a length, an array of fixed size a pointer alone. Two things are the caller's to see to: a slice of
+ * a length above 0, and an array, has that many bytes (so its pointer is not NULL; for an empty slice NULL will do), and no two
+ * of a call overlap if one of them is written. A key is two numbers, its first eight bytes in the first, the first byte
+ * lowest (nwk_key_of).
  *
  * Every function answers one number: the length in bits 0 to 31 (NWK_LENGTH), the refusal in bits 32 to 39 (NWK_REFUSAL,
  * 0: accepted), the other bits 0. A refusal has length 0 and leaves every lent byte as it was, records included. Where
@@ -121,8 +122,8 @@ enum nwk_refusal {
  * Auxiliary record, 19 bytes
  *
  *   offset  bytes  field
- *        0      1  presence of the auxiliary header itself; where it is 0 all the rest is 0 on reading, and on writing the
- *                  bytes at 1 to 4 and 9 must be such as their fields can take all the same
+ *        0      1  presence of the auxiliary header itself; where it is 0 all the rest is 0 on reading and not read on
+ *                  writing
  *        1      1  security level, 0 to 7
  *        2      1  key identifier, 0 to 3
  *        3      1  extended nonce bit
@@ -131,6 +132,20 @@ enum nwk_refusal {
  *        9      1  presence of the IEEE
  *       10      8  IEEE, in wire order
  *       18      1  key sequence number
+ *
+ * Opened record, 182 bytes: what opening says of a frame. The address of the byte at 16 is that of a header record, and the
+ * address of the byte at 163 that of an auxiliary record.
+ *
+ *   offset  bytes  field
+ *        0      1  refusal; 0, since a refused frame changes no byte of the record
+ *        1      1  mark: room for what is said of a frame beside; 0
+ *        2      2  length of the payload
+ *        4      1  count of cipher blocks; 0 until it is reported
+ *        5      1  presence of the IEEE that the nonce used; 0 until it is reported
+ *        6      8  that IEEE, in wire order; 0 until it is reported
+ *       14      2  0
+ *       16    147  header record
+ *      163     19  auxiliary record, with the level as received
  */
 #define NWK_HEADER_RECORD 147
 #define NWK_HEADER_FRAME_TYPE 0
@@ -168,6 +183,16 @@ enum nwk_refusal {
 #define NWK_AUXILIARY_HAS_IEEE 9
 #define NWK_AUXILIARY_IEEE 10
 #define NWK_AUXILIARY_KEY_SEQUENCE 18
+
+#define NWK_OPENED_RECORD 182
+#define NWK_OPENED_REFUSAL 0
+#define NWK_OPENED_MARK 1
+#define NWK_OPENED_LENGTH 2
+#define NWK_OPENED_BLOCKS 4
+#define NWK_OPENED_HAS_NONCE_IEEE 5
+#define NWK_OPENED_NONCE_IEEE 6
+#define NWK_OPENED_HEADER 16
+#define NWK_OPENED_AUXILIARY 163
 
 /* Command record, 535 bytes
  *
@@ -257,19 +282,18 @@ uint64_t nwk_write_frame(const uint8_t *header, size_t header_len, const uint8_t
                          size_t out_len);
 
 /* Seal a frame. The level in the auxiliary record does not matter: level 5 is authenticated and level 0 is sent. Length: the
- * frame's bytes. Refusals: 13 a record; 14 the auxiliary record's presence byte is 0; 15 neither record has an IEEE for the
- * nonce (the auxiliary one, else the header's source); 17 a payload over 108 or a frame over 118; 18 out shorter than the
- * frame. Afterwards out holds the frame in its first bytes. */
+ * frame's bytes. Refusals: 13 a record; 14 the auxiliary record's presence byte is 0, whatever its other bytes are; 15 neither
+ * record has an IEEE for the nonce (the auxiliary one, else the header's source); 17 a payload over 108 or a frame over 118; 18
+ * out shorter than the frame. Afterwards out holds the frame in its first bytes. */
 uint64_t nwk_seal(uint64_t key_first, uint64_t key_second, const uint8_t *header, size_t header_len,
                   const uint8_t *auxiliary, size_t auxiliary_len, const uint8_t *payload, size_t payload_len, uint8_t *out,
                   size_t out_len);
 
 /* Open a frame. Length: the payload's bytes. Refusals: 1 to 12 as nwk_read_frame; 14 no auxiliary header; 15 no IEEE for the
- * nonce; 16 fewer than 4 bytes behind the headers; 18 out shorter than the payload, header shorter than 147, or auxiliary
- * shorter than 19; 19 the MIC is not the one computed. Afterwards out holds the payload in its first bytes, and the records
- * hold the two headers, with the level as received. */
-uint64_t nwk_open(uint64_t key_first, uint64_t key_second, const uint8_t *bytes, size_t bytes_len, uint8_t *header,
-                  size_t header_len, uint8_t *auxiliary, size_t auxiliary_len, uint8_t *out, size_t out_len);
+ * nonce; 16 fewer than 4 bytes behind the headers; 18 out shorter than the payload, or opened shorter than 182; 19 the MIC is
+ * not the one computed. Afterwards out holds the payload in its first bytes, and opened the opened record. */
+uint64_t nwk_open(uint64_t key_first, uint64_t key_second, const uint8_t *bytes, size_t bytes_len, uint8_t *opened,
+                  size_t opened_len, uint8_t *out, size_t out_len);
 
 /* ---- commands */
 
@@ -289,26 +313,27 @@ uint64_t nwk_write_command(const uint8_t *command, size_t command_len, uint8_t *
  * 14. Refusals: 13 a code above 14. */
 uint64_t nwk_timeout_seconds(uint8_t code);
 
-/* ---- CCM and AES alone */
+/* ---- CCM and AES alone; a nonce, a MIC and a block are arrays */
 
 /* Seal a payload with CCM (SP 800-38C, AES-128, a nonce of 13 bytes, a MIC of 4). Length: the payload's. Refusals: 1 auth or
- * payload over 127; 13 nonce_len is not 13; 18 out shorter than the payload or mic shorter than 4.
- * Afterwards out holds the ciphertext, as long as the payload, and mic the MIC, in their first bytes. */
-uint64_t nwk_encrypt_ccm(uint64_t key_first, uint64_t key_second, const uint8_t *nonce, size_t nonce_len,
-                         const uint8_t *auth, size_t auth_len, const uint8_t *payload, size_t payload_len, uint8_t *out,
-                         size_t out_len, uint8_t *mic, size_t mic_len);
+ * payload over 127; 18 out shorter than the payload.
+ * Afterwards out holds the ciphertext, as long as the payload, in its first bytes, and mic the MIC. */
+uint64_t nwk_encrypt_ccm(uint64_t key_first, uint64_t key_second, const uint8_t nonce[13], const uint8_t *auth,
+                         size_t auth_len, const uint8_t *payload, size_t payload_len, uint8_t *out, size_t out_len,
+                         uint8_t mic[4]);
 
-/* Open a ciphertext with its MIC. Length: the payload's. Refusals: 1 auth or ciphertext over 127; 13 nonce_len is not 13 or
- * mic_len is not 4; 18 out shorter than the ciphertext; 19 the MIC is not the one computed.
- * Afterwards out holds the payload in its first bytes. */
-uint64_t nwk_decrypt_ccm(uint64_t key_first, uint64_t key_second, const uint8_t *nonce, size_t nonce_len,
-                         const uint8_t *auth, size_t auth_len, const uint8_t *ciphertext, size_t ciphertext_len,
-                         const uint8_t *mic, size_t mic_len, uint8_t *out, size_t out_len);
+/* Open a ciphertext with its MIC. Length: the payload's. Refusals: 1 auth or ciphertext over 127; 18 out shorter than the
+ * ciphertext; 19 the MIC is not the one computed. Afterwards out holds the payload in its first bytes. */
+uint64_t nwk_decrypt_ccm(uint64_t key_first, uint64_t key_second, const uint8_t nonce[13], const uint8_t *auth,
+                         size_t auth_len, const uint8_t *ciphertext, size_t ciphertext_len, const uint8_t mic[4],
+                         uint8_t *out, size_t out_len);
 
-/* One block of AES-128 (FIPS 197). Length: 16. Refusals: 13 block_len is not 16; 18 out shorter than 16.
- * Afterwards out holds the block in its first 16 bytes. */
-uint64_t nwk_encrypt_block(uint64_t key_first, uint64_t key_second, const uint8_t *block, size_t block_len, uint8_t *out,
-                           size_t out_len);
+/* Take the MIC, the last 4 bytes, off ciphertext with MIC. Length: that of the ciphertext in front of it. Refusals: 16 fewer
+ * than 4 bytes. Afterwards mic holds the MIC. */
+uint64_t nwk_split_mic(const uint8_t *bytes, size_t bytes_len, uint8_t mic[4]);
+
+/* One block of AES-128 (FIPS 197). Length: 16. Nothing is refused. Afterwards out holds the block. */
+uint64_t nwk_encrypt_block(uint64_t key_first, uint64_t key_second, const uint8_t block[16], uint8_t out[16]);
 
 /* ---- helpers */
 
@@ -419,16 +444,14 @@ static inline uint64_t nwk_write_frame_or_null(const uint8_t *header, size_t hea
 static inline uint64_t nwk_seal_or_null(uint64_t key_first, uint64_t key_second, const uint8_t *header, size_t header_len,
                                         const uint8_t *auxiliary, size_t auxiliary_len, const uint8_t *payload,
                                         size_t payload_len, uint8_t *out, size_t out_len) {
-  return nwk_seal(key_first, key_second, nwk_given(header, header_len), header_len,
-                  nwk_given(auxiliary, auxiliary_len), auxiliary_len, nwk_given(payload, payload_len), payload_len,
-                  nwk_lent(out, out_len), out_len);
+  return nwk_seal(key_first, key_second, nwk_given(header, header_len), header_len, nwk_given(auxiliary, auxiliary_len),
+                  auxiliary_len, nwk_given(payload, payload_len), payload_len, nwk_lent(out, out_len), out_len);
 }
 
 static inline uint64_t nwk_open_or_null(uint64_t key_first, uint64_t key_second, const uint8_t *bytes, size_t bytes_len,
-                                        uint8_t *header, size_t header_len, uint8_t *auxiliary, size_t auxiliary_len,
-                                        uint8_t *out, size_t out_len) {
-  return nwk_open(key_first, key_second, nwk_given(bytes, bytes_len), bytes_len, nwk_lent(header, header_len), header_len,
-                  nwk_lent(auxiliary, auxiliary_len), auxiliary_len, nwk_lent(out, out_len), out_len);
+                                        uint8_t *opened, size_t opened_len, uint8_t *out, size_t out_len) {
+  return nwk_open(key_first, key_second, nwk_given(bytes, bytes_len), bytes_len, nwk_lent(opened, opened_len), opened_len,
+                  nwk_lent(out, out_len), out_len);
 }
 
 static inline uint64_t nwk_read_command_or_null(const uint8_t *bytes, size_t bytes_len, uint8_t *command,
@@ -440,27 +463,22 @@ static inline uint64_t nwk_write_command_or_null(const uint8_t *command, size_t 
   return nwk_write_command(nwk_given(command, command_len), command_len, nwk_lent(out, out_len), out_len);
 }
 
-static inline uint64_t nwk_encrypt_ccm_or_null(uint64_t key_first, uint64_t key_second, const uint8_t *nonce,
-                                               size_t nonce_len, const uint8_t *auth, size_t auth_len,
-                                               const uint8_t *payload, size_t payload_len, uint8_t *out, size_t out_len,
-                                               uint8_t *mic, size_t mic_len) {
-  return nwk_encrypt_ccm(key_first, key_second, nwk_given(nonce, nonce_len), nonce_len, nwk_given(auth, auth_len), auth_len,
-                         nwk_given(payload, payload_len), payload_len, nwk_lent(out, out_len), out_len,
-                         nwk_lent(mic, mic_len), mic_len);
+static inline uint64_t nwk_encrypt_ccm_or_null(uint64_t key_first, uint64_t key_second, const uint8_t nonce[13],
+                                               const uint8_t *auth, size_t auth_len, const uint8_t *payload,
+                                               size_t payload_len, uint8_t *out, size_t out_len, uint8_t mic[4]) {
+  return nwk_encrypt_ccm(key_first, key_second, nonce, nwk_given(auth, auth_len), auth_len, nwk_given(payload, payload_len),
+                         payload_len, nwk_lent(out, out_len), out_len, mic);
 }
 
-static inline uint64_t nwk_decrypt_ccm_or_null(uint64_t key_first, uint64_t key_second, const uint8_t *nonce,
-                                               size_t nonce_len, const uint8_t *auth, size_t auth_len,
-                                               const uint8_t *ciphertext, size_t ciphertext_len, const uint8_t *mic,
-                                               size_t mic_len, uint8_t *out, size_t out_len) {
-  return nwk_decrypt_ccm(key_first, key_second, nwk_given(nonce, nonce_len), nonce_len, nwk_given(auth, auth_len), auth_len,
-                         nwk_given(ciphertext, ciphertext_len), ciphertext_len, nwk_given(mic, mic_len), mic_len,
-                         nwk_lent(out, out_len), out_len);
+static inline uint64_t nwk_decrypt_ccm_or_null(uint64_t key_first, uint64_t key_second, const uint8_t nonce[13],
+                                               const uint8_t *auth, size_t auth_len, const uint8_t *ciphertext,
+                                               size_t ciphertext_len, const uint8_t mic[4], uint8_t *out, size_t out_len) {
+  return nwk_decrypt_ccm(key_first, key_second, nonce, nwk_given(auth, auth_len), auth_len,
+                         nwk_given(ciphertext, ciphertext_len), ciphertext_len, mic, nwk_lent(out, out_len), out_len);
 }
 
-static inline uint64_t nwk_encrypt_block_or_null(uint64_t key_first, uint64_t key_second, const uint8_t *block,
-                                                 size_t block_len, uint8_t *out, size_t out_len) {
-  return nwk_encrypt_block(key_first, key_second, nwk_given(block, block_len), block_len, nwk_lent(out, out_len), out_len);
+static inline uint64_t nwk_split_mic_or_null(const uint8_t *bytes, size_t bytes_len, uint8_t mic[4]) {
+  return nwk_split_mic(nwk_given(bytes, bytes_len), bytes_len, mic);
 }
 
 #define nwk_read_header nwk_read_header_or_null
@@ -475,7 +493,7 @@ static inline uint64_t nwk_encrypt_block_or_null(uint64_t key_first, uint64_t ke
 #define nwk_write_command nwk_write_command_or_null
 #define nwk_encrypt_ccm nwk_encrypt_ccm_or_null
 #define nwk_decrypt_ccm nwk_decrypt_ccm_or_null
-#define nwk_encrypt_block nwk_encrypt_block_or_null
+#define nwk_split_mic nwk_split_mic_or_null
 
 #ifdef __cplusplus
 }

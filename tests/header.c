@@ -52,11 +52,12 @@ static void print_empty(void) {
   print_answer("seal", nwk_seal(0, 0, header, sizeof header, auxiliary, sizeof auxiliary, NULL, 0, NULL, 0));
   print_answer("read_command", nwk_read_command(NULL, 0, command, sizeof command));
   print_answer("write_command", nwk_write_command(command, sizeof command, NULL, 0));
-  print_answer("open", nwk_open(0, 0, NULL, 0, NULL, 0, NULL, 0, NULL, 0));
+  print_answer("open", nwk_open(0, 0, NULL, 0, NULL, 0, NULL, 0));
   uint8_t nonce[13] = {0};
   uint8_t mic[4] = {0};
-  print_answer("encrypt_ccm", nwk_encrypt_ccm(0, 0, nonce, sizeof nonce, NULL, 0, NULL, 0, NULL, 0, mic, sizeof mic));
-  print_answer("decrypt_ccm", nwk_decrypt_ccm(0, 0, nonce, sizeof nonce, NULL, 0, NULL, 0, mic, sizeof mic, NULL, 0));
+  print_answer("encrypt_ccm", nwk_encrypt_ccm(0, 0, nonce, NULL, 0, NULL, 0, NULL, 0, mic));
+  print_answer("decrypt_ccm", nwk_decrypt_ccm(0, 0, nonce, NULL, 0, NULL, 0, mic, NULL, 0));
+  print_answer("split_mic", nwk_split_mic(NULL, 0, mic));
 }
 
 int main(void) {

@@ -1,5 +1,5 @@
 //! Reading, writing, sealing and opening frames.
-use crate::header::Records;
+use crate::header::{OpenedRecord, Records};
 use crate::refusal::length;
 use crate::{sys, Key, NwkAuxHeader, NwkHeader, Refusal};
 
@@ -153,7 +153,7 @@ pub fn seal(
 /// Refusals 1 to 12, 14, 15, 16, 18, 19.
 pub fn open<'a>(key: &Key, frame: &[u8], out: &'a mut [u8]) -> Result<OpenedFrame<'a>, Refusal> {
     let (first, second) = key.halves();
-    let mut records = Records::new();
+    let mut record = OpenedRecord::new();
     // SAFETY: each pointer goes with the length of its slice, and no two slices overlap.
     let answer = unsafe {
         sys::nwk_open(
@@ -161,16 +161,13 @@ pub fn open<'a>(key: &Key, frame: &[u8], out: &'a mut [u8]) -> Result<OpenedFram
             second,
             frame.as_ptr(),
             frame.len(),
-            records.header.as_mut_ptr(),
-            records.header.len(),
-            records.auxiliary.as_mut_ptr(),
-            records.auxiliary.len(),
+            record.0.as_mut_ptr(),
+            record.0.len(),
             out.as_mut_ptr(),
             out.len(),
         )
     };
     let n = length(answer)?;
-    let (header, auxiliary) = records.headers()?;
-    let auxiliary = auxiliary.ok_or(Refusal::INTERNAL)?;
+    let (header, auxiliary) = record.headers()?;
     Ok(OpenedFrame { header, auxiliary, payload: out.get(..n).unwrap_or(&[]) })
 }

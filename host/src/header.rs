@@ -6,6 +6,10 @@ use crate::{sys, Eui64, List, Nwk, Refusal};
 
 const HEADER_RECORD: usize = 147;
 const AUXILIARY_RECORD: usize = 19;
+const OPENED_RECORD: usize = 182;
+
+/// Where an opened record has the header record, and behind it the auxiliary record.
+const OPENED_HEADER_AT: usize = 16;
 
 /// How many relays a source route has places for.
 const RELAY_PLACES: usize = 54;
@@ -385,5 +389,23 @@ impl Records {
 
     pub fn headers(&self) -> Result<(NwkHeader, Option<NwkAuxHeader>), Refusal> {
         Ok((NwkHeader::from_record(&self.header)?, NwkAuxHeader::from_record(&self.auxiliary)?))
+    }
+}
+
+/// Room for an opened record, as the codec fills it.
+pub(crate) struct OpenedRecord(pub [u8; OPENED_RECORD]);
+
+impl OpenedRecord {
+    pub fn new() -> Self {
+        Self([0; OPENED_RECORD])
+    }
+
+    /// The two headers. An opened frame has both.
+    pub fn headers(&self) -> Result<(NwkHeader, NwkAuxHeader), Refusal> {
+        let (_, records) = self.0.split_at(OPENED_HEADER_AT);
+        let (header, auxiliary) = records.split_at(HEADER_RECORD);
+        let header = header.try_into().map_err(|_| Refusal::INTERNAL)?;
+        let auxiliary = auxiliary.try_into().map_err(|_| Refusal::INTERNAL)?;
+        Ok((NwkHeader::from_record(header)?, NwkAuxHeader::from_record(auxiliary)?.ok_or(Refusal::INTERNAL)?))
     }
 }

@@ -43,7 +43,7 @@ mod refusal;
 pub mod sys;
 
 pub use address::{hex, Eui64, HexError, Key, Nwk, PanId};
-pub use cipher::{decrypt_ccm, encrypt_block, encrypt_ccm};
+pub use cipher::{decrypt_ccm, encrypt_block, encrypt_ccm, split_mic};
 pub use command::{
     timeout_seconds, EndDeviceTimeout, Nwk802154AssociationStatus, NwkCommand, NwkCommandId, NwkCommissioningType,
     NwkEndDeviceTimeoutResponseStatus, NwkLinkPowerDeltaType, NwkLinkStatus, NwkNetworkStatus, NwkPowerListEntry,

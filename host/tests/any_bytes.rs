@@ -4,8 +4,8 @@ mod support;
 
 use std::fs;
 use store_reader::{
-    decrypt_ccm, encrypt_ccm, hex, open, read, seal, write, Eui64, Key, NwkAuxHeader, NwkCommand, NwkHeader, Refusal,
-    MAX_FRAME, MAX_PAYLOAD,
+    decrypt_ccm, encrypt_ccm, hex, open, read, seal, split_mic, write, Eui64, Key, NwkAuxHeader, NwkCommand, NwkHeader,
+    Refusal, MAX_FRAME, MAX_PAYLOAD,
 };
 use support::command::{root, run, KEY};
 use support::random::Random;
@@ -54,6 +54,7 @@ fn safe_operations_take_any_bytes() {
         let (nonce, mic) = (random.array(), random.array());
         let _ = encrypt_ccm(&key, &nonce, &input, &input, &mut out).map_err(number);
         let _ = decrypt_ccm(&key, &nonce, &input, &input, &mic, &mut out).map_err(number);
+        let _ = split_mic(&input).map_err(number);
         let _ = hex(&String::from_utf8_lossy(&input), &mut out);
     }
     println!("{ROUNDS} inputs, {headers} read as frames, {commands} as commands");

@@ -2,7 +2,7 @@
 use std::alloc::{GlobalAlloc, Layout, System};
 use std::cell::Cell;
 use store_reader::{
-    decrypt_ccm, encrypt_block, encrypt_ccm, hex, open, read, seal, timeout_seconds, write, Eui64, Key, Nwk,
+    decrypt_ccm, encrypt_block, encrypt_ccm, hex, open, read, seal, split_mic, timeout_seconds, write, Eui64, Key, Nwk,
     NwkAuxHeader, NwkCommand, NwkFrameType, NwkHeader, NwkSourceRoute, Refusal, MAX_FRAME, MAX_PAYLOAD,
 };
 
@@ -55,6 +55,7 @@ fn everything() -> Result<(), Refusal> {
     let (n, mic) = encrypt_ccm(&key, &[0; 13], b"auth", b"payload", &mut out)?;
     decrypt_ccm(&key, &[0; 13], b"auth", &out[..n], &mic, &mut frame)?;
     let _ = encrypt_block(&key, &[0; 16]);
+    split_mic(&[0; 5])?;
     timeout_seconds(14)?;
     hex("08 00", &mut out).map_err(|_| Refusal::INTERNAL)?;
     assert_eq!(open(&key, &[0; 3], &mut out).map(|_| ()), Err(Refusal::SHORT_HEADER));
