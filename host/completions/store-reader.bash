@@ -1,3 +1,4 @@
+# shellcheck shell=bash
 # Completion of store-reader in bash. zsh takes it after: autoload -U bashcompinit && bashcompinit
 
 _store_reader() {

@@ -120,6 +120,29 @@ fn a_big_endian_capture_without_fcs() {
     assert_eq!(first_line(&capture), format!("2026-11-18T11:06:40.000042Z  {SHOWN}"));
 }
 
+/// The samples are what `samples/capture.py` makes, where Python and its package cryptography are installed.
+#[test]
+fn the_samples_are_as_they_are_made() {
+    let folder = scratch("samples");
+    fs::create_dir_all(&folder).expect("a folder");
+    for file in ["capture.py", "store.key"] {
+        fs::copy(root().join("samples").join(file), folder.join(file)).expect(file);
+    }
+    let script = folder.join("capture.py");
+    let Some(made) = tool("python3", &[script.to_str().expect("UTF-8")]) else {
+        return;
+    };
+    if !made.status.success() && String::from_utf8_lossy(&made.stderr).contains("ModuleNotFoundError") {
+        eprintln!("the Python package cryptography is not installed: skipped");
+        return;
+    }
+    assert!(made.status.success(), "{}", String::from_utf8_lossy(&made.stderr));
+    for file in ["store.pcap", "store.pcapng"] {
+        let kept = fs::read(root().join("samples").join(file)).expect(file);
+        assert_eq!(fs::read(folder.join(file)).expect(file), kept, "{file}");
+    }
+}
+
 /// Interfaces with a link type and a resolution each, in sections of both byte orders, with blocks to pass over between:
 /// the times and frames that `samples/capture.py` put in.
 #[test]

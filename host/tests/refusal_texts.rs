@@ -39,10 +39,20 @@ fn in_code(text: &str) -> Listed {
 
 #[test]
 fn the_code_has_the_same_list() {
-    match fs::read_to_string(root().join(CODE)) {
-        Ok(text) => assert_eq!(in_code(&text), in_rust()),
-        Err(_) => eprintln!("{CODE} is not there: skipped"),
+    let modules = fs::read_to_string(root().join("crates/octets/src/lib.rt")).expect("the crate octets");
+    if !modules.contains("mod refusals;") {
+        eprintln!("octets has no module of refusals: skipped");
+        return;
     }
+    let text = fs::read_to_string(root().join(CODE)).expect(CODE);
+    assert_eq!(in_code(&text), in_rust());
+}
+
+#[test]
+fn constants_are_read_with_the_words_above_them() {
+    let text = "// The refusals.\n\n// 1: too\n// long\npub const TOO_LONG: u8 = 1;\n\n// 2: short\npub const SHORT: u8 = 2;\n";
+    let listed = [("TOO_LONG", 1, "too long"), ("SHORT", 2, "short")];
+    assert_eq!(in_code(text), listed.map(|(name, number, words)| (name.to_string(), number, words.to_string())));
 }
 
 #[test]
