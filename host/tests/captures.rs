@@ -5,7 +5,7 @@ mod support;
 
 use std::collections::BTreeMap;
 use std::fs;
-use support::command::{root, run, scratch, tool, KEY};
+use support::command::{not_installed, root, run, scratch, tool, KEY};
 
 /// A MAC data frame of PAN 0x1A62 from 0x1234 to 0x0000 around a NWK frame without security, and its FCS. The FCS is that
 /// which tshark calls correct.
@@ -128,14 +128,12 @@ fn the_samples_are_as_they_are_made() {
     for file in ["capture.py", "store.key"] {
         fs::copy(root().join("samples").join(file), folder.join(file)).expect(file);
     }
-    let script = folder.join("capture.py");
-    let Some(made) = tool("python3", &[script.to_str().expect("UTF-8")]) else {
-        return;
-    };
-    if !made.status.success() && String::from_utf8_lossy(&made.stderr).contains("ModuleNotFoundError") {
-        eprintln!("the Python package cryptography is not installed: skipped");
+    if !tool("python3", &["-c", "import cryptography"]).is_some_and(|asked| asked.status.success()) {
+        not_installed("the Python package cryptography");
         return;
     }
+    let script = folder.join("capture.py");
+    let made = tool("python3", &[script.to_str().expect("UTF-8")]).expect("python3");
     assert!(made.status.success(), "{}", String::from_utf8_lossy(&made.stderr));
     for file in ["store.pcap", "store.pcapng"] {
         let kept = fs::read(root().join("samples").join(file)).expect(file);

@@ -6,7 +6,7 @@ use std::fs;
 use std::os::unix::fs::symlink;
 use std::path::{Path, PathBuf};
 use std::process::{Command, Output};
-use support::command::{root, scratch};
+use support::command::{not_installed, root, scratch};
 
 /// A folder that is empty.
 fn fresh(name: &str) -> PathBuf {
@@ -40,7 +40,7 @@ fn help_lists_every_target() {
 #[test]
 fn what_is_installed_works() {
     if !root().join("host/target/release/store-reader").exists() {
-        eprintln!("the command is not built in host/target/release: skipped");
+        not_installed("the command, built in host/target/release,");
         return;
     }
     let (staging, prefix) = (fresh("staging"), "/opt/nwk");
@@ -61,7 +61,7 @@ fn what_is_installed_works() {
         .env("PKG_CONFIG_PATH", at("lib/pkgconfig"))
         .output();
     let Ok(flags) = asked else {
-        eprintln!("pkg-config is not installed: skipped");
+        not_installed("pkg-config");
         return;
     };
     let flags = String::from_utf8(flags.stdout).expect("UTF-8");

@@ -1,7 +1,9 @@
 //! `store-reader` as a user runs it, and outside tools where they are installed.
+use std::collections::BTreeSet;
 use std::io::Write;
 use std::path::PathBuf;
 use std::process::{Command, Output, Stdio};
+use std::sync::Mutex;
 
 /// The sample's key.
 pub const KEY: &str = "C0C1C2C3C4C5C6C7C8C9CACBCCCDCECF";
@@ -47,13 +49,19 @@ pub fn run(arguments: &[&str], input: &[u8]) -> Ran {
     }
 }
 
-/// What an outside tool answers; where it is not installed, none, and one line on the standard error itself says so.
+/// What an outside tool answers; none where it is not installed, which is said once.
 pub fn tool(name: &str, arguments: &[&str]) -> Option<Output> {
-    match Command::new(name).args(arguments).current_dir(root()).output() {
-        Ok(output) => Some(output),
-        Err(_) => {
-            let _ = writeln!(std::io::stderr(), "{name} is not installed: skipped");
-            None
-        }
+    let answered = Command::new(name).args(arguments).current_dir(root()).output().ok();
+    if answered.is_none() {
+        not_installed(name);
+    }
+    answered
+}
+
+/// Says in one line, on the standard error itself, that something is missing and what needs it is skipped.
+pub fn not_installed(name: &str) {
+    static SAID: Mutex<BTreeSet<String>> = Mutex::new(BTreeSet::new());
+    if SAID.lock().expect("no panic").insert(name.to_string()) {
+        let _ = writeln!(std::io::stderr(), "{name} is not installed: skipped");
     }
 }
