@@ -1,7 +1,12 @@
-# make          the archive and the command, and what is in the sample capture
-# make test     the gate: every proof and must-fail edit, then the tests of the host and of the C programs
-# make bench    times beside nettle and mbedtls, stack and memory
-# make clean    removes what the above made
+# make                  the archive and the command, and what is in the sample capture
+# make archive          the proved codec alone, target/staticlib/libnwk.a
+# make command          the archive and the command, host/target/release/store-reader
+# make test             the gate: every proof and must-fail edit, then the tests of the host and of the C programs
+# make host-test        the tests of the host and of the C programs alone
+# make bench            times beside nettle and mbedtls, stack and memory
+# make install          the command, its man page and completion, header, archive and pkg-config file, below PREFIX
+# make clean            removes what the above made
+# make help             this list
 
 SHELL := bash
 .SHELLFLAGS := -euo pipefail -c
@@ -11,12 +16,26 @@ SHELL := bash
 # The folder where rustup puts cargo, for a shell whose path does not have it.
 export PATH := $(PATH):$(shell echo ~)/.cargo/bin
 
+# The toolchain that everything here was proved with, as rt version prints it.
+TOOLCHAIN := rattle-kit-5b logic 064da1ca440f63e7
+
+PREFIX ?= /usr/local
+DESTDIR ?=
+
 ARCHIVE := target/staticlib/libnwk.a
 COMMAND := host/target/release/store-reader
 RATTLE := crates.txt $(shell find crates -name '*.rt' -o -name '*.antt')
 HOST := host/Cargo.toml host/Cargo.lock host/build.rs $(shell find host/src -type f)
+VERSION := $(shell sed -n 's/^version = "\(.*\)"/\1/p' host/Cargo.toml)
 
-.PHONY: sample archive command test host-test clean
+# Ends with a sentence where a program is missing.
+needs = command -v $(1) > /dev/null || { echo "$(1) is missing: $(2)" >&2; exit 1; }
+needs_rt = $(call needs,rt,put the Rattle toolchain on the path)
+# Says where the toolchain is another; the proofs then decide.
+compares_rt = [[ $$(rt version) == "$(TOOLCHAIN)" ]] || echo "rt is another than $(TOOLCHAIN), which this was proved with" >&2
+needs_cargo = $(call needs,cargo,put Rust on the path (https://rustup.rs))
+
+.PHONY: sample archive command test host-test install clean help
 
 sample: $(COMMAND)
 	@$(COMMAND) open --key-file samples/store.key samples/store.pcap
@@ -25,21 +44,31 @@ archive: $(ARCHIVE)
 
 command: $(COMMAND)
 
-# The codec is proved before it is compiled: ten minutes or so the first time.
+help:
+	@sed -n 's/^# make/make/p' $(firstword $(MAKEFILE_LIST))
+
+# The codec is proved before it is compiled: ten minutes or so the first time. What comes after it is asked for first.
 $(ARCHIVE): $(RATTLE)
-	@echo "proving and compiling the codec, ten minutes or so the first time"
+	@$(needs_rt)
+	$(compares_rt)
+	$(if $(filter archive bench,$(MAKECMDGOALS)),,$(needs_cargo))
+	echo "proving and compiling the codec, ten minutes or so the first time"
 	log=$$(mktemp)
 	trap 'rm -f "$$log"' EXIT
 	rt staticlib nwk 2>&1 | tee "$$log" | sed -un '/^rt: .* proved/p' || { cat "$$log"; exit 1; }
 	touch $@
 
 $(COMMAND): $(ARCHIVE) $(HOST)
-	@cd host
+	@$(needs_cargo)
+	cd host
 	cargo build --release --offline --quiet
 
 # rt's last line, the count, is kept for the end: it is printed only if everything passed.
 test:
-	@log=$$(mktemp)
+	@$(needs_rt)
+	$(compares_rt)
+	$(needs_cargo)
+	log=$$(mktemp)
 	trap 'rm -f "$$log"' EXIT
 	rt ci | tee "$$log" | sed -u '$$d' || { tail -n 1 "$$log"; exit 1; }
 	count=$$(tail -n 1 "$$log")
@@ -51,6 +80,16 @@ test:
 host-test: $(COMMAND)
 	@cd host
 	cargo test --release --offline
+
+install: $(COMMAND)
+	@to=$(DESTDIR)$(PREFIX)
+	install -D -m 755 $(COMMAND) $$to/bin/store-reader
+	install -D -m 644 host/man/store-reader.1 $$to/share/man/man1/store-reader.1
+	install -D -m 644 host/completions/store-reader.bash $$to/share/bash-completion/completions/store-reader
+	install -D -m 644 include/nwk.h $$to/include/nwk.h
+	install -D -m 644 $(ARCHIVE) $$to/lib/libnwk.a
+	install -d $$to/lib/pkgconfig
+	sed 's|@PREFIX@|$(PREFIX)|; s|@VERSION@|$(VERSION)|' include/nwk.pc.in > $$to/lib/pkgconfig/nwk.pc
 
 clean:
 	rm -rf target host/target

@@ -32,6 +32,7 @@ struct message {
   uint8_t out[NWK_MAX_FRAME];
   uint8_t header_out[NWK_HEADER_RECORD];
   uint8_t auxiliary_out[NWK_AUXILIARY_RECORD];
+  uint8_t opened[NWK_OPENED_RECORD];
 };
 
 /* A call to be measured; whether it went well. */

@@ -3,21 +3,21 @@
 
 static bool seal(void *input) {
   struct message *m = input;
-  uint64_t answer = nwk_encrypt_ccm(m->key_first, m->key_second, m->nonce, NONCE_LENGTH, m->auth, AUTH_LENGTH,
-                                    m->payload, m->length, m->out, m->length, m->out + m->length, MIC_LENGTH);
+  uint64_t answer = nwk_encrypt_ccm(m->key_first, m->key_second, m->nonce, m->auth, AUTH_LENGTH, m->payload, m->length,
+                                    m->out, m->length, m->out + m->length);
   return answer == m->length;
 }
 
 static bool open(void *input) {
   struct message *m = input;
-  uint64_t answer = nwk_decrypt_ccm(m->key_first, m->key_second, m->nonce, NONCE_LENGTH, m->auth, AUTH_LENGTH,
-                                    m->sealed, m->length, m->sealed + m->length, MIC_LENGTH, m->out, m->length);
+  uint64_t answer = nwk_decrypt_ccm(m->key_first, m->key_second, m->nonce, m->auth, AUTH_LENGTH, m->sealed, m->length,
+                                    m->sealed + m->length, m->out, m->length);
   return answer == m->length;
 }
 
 static bool block(void *input) {
   struct message *m = input;
-  return nwk_encrypt_block(m->key_first, m->key_second, m->payload, BLOCK_LENGTH, m->out, BLOCK_LENGTH) == BLOCK_LENGTH;
+  return nwk_encrypt_block(m->key_first, m->key_second, m->payload, m->out) == BLOCK_LENGTH;
 }
 
 bool seal_frame(void *input) {
@@ -29,8 +29,8 @@ bool seal_frame(void *input) {
 
 bool open_frame(void *input) {
   struct message *m = input;
-  uint64_t answer = nwk_open(m->key_first, m->key_second, m->frame, m->frame_length, m->header_out,
-                             sizeof m->header_out, m->auxiliary_out, sizeof m->auxiliary_out, m->out, sizeof m->out);
+  uint64_t answer = nwk_open(m->key_first, m->key_second, m->frame, m->frame_length, m->opened, sizeof m->opened, m->out,
+                             sizeof m->out);
   return answer == m->length;
 }
 

@@ -79,6 +79,11 @@ static bool write_auxiliary(void *input) {
   return NWK_REFUSAL(nwk_write_auxiliary(m->auxiliary, sizeof m->auxiliary, m->out, sizeof m->out)) == 0;
 }
 
+static bool split_mic(void *input) {
+  struct message *m = input;
+  return nwk_split_mic(m->sealed, m->length + MIC_LENGTH, m->out) == m->length;
+}
+
 static bool timeout_seconds(void *input) {
   struct message *m = input;
   return NWK_REFUSAL(nwk_timeout_seconds((uint8_t)m->length)) == 0;
@@ -143,6 +148,7 @@ void print_stack_use(void) {
       {"nwk_timeout_seconds", over_messages, timeout_seconds},
       {"nwk_encrypt_ccm", over_messages, ours.seal},
       {"nwk_decrypt_ccm", over_messages, ours.open},
+      {"nwk_split_mic", over_messages, split_mic},
       {"nwk_encrypt_block", over_messages, ours.block},
   };
   printf("\n### Stack, the most that a call touched\n\n");

@@ -10,9 +10,9 @@
 #include <stdio.h>
 #include <string.h>
 
-/* The key C0 C1 .. CF, as two numbers. */
-#define KEY_FIRST UINT64_C(0xC7C6C5C4C3C2C1C0)
-#define KEY_SECOND UINT64_C(0xCFCECDCCCBCAC9C8)
+static const uint8_t key_bytes[16] = {
+    0xC0, 0xC1, 0xC2, 0xC3, 0xC4, 0xC5, 0xC6, 0xC7, 0xC8, 0xC9, 0xCA, 0xCB, 0xCC, 0xCD, 0xCE, 0xCF,
+};
 
 static const uint8_t expected[] = {
     0x48, 0x02, 0x00, 0x00, 0x34, 0x12, 0x1E, 0x07, 0x28, 0x45, 0x23, 0x01, 0x00, 0x01, 0x02, 0x03, 0x04, 0x05, 0x06,
@@ -30,22 +30,30 @@ static void show(const char *name, const uint8_t *bytes, size_t n) {
 int main(void) {
   /* A data frame of version 2 from 0x1234 to 0x0000, radius 30, sequence number 7, discovery on, security bit set. */
   uint8_t header[NWK_HEADER_RECORD] = {0};
-  header[1] = 2;
-  header[2] = 1;
-  header[4] = 1;
-  header[12] = 0x34;
-  header[13] = 0x12;
-  header[14] = 30;
-  header[15] = 7;
+  header[NWK_HEADER_VERSION] = 2;
+  header[NWK_HEADER_DISCOVERY] = 1;
+  header[NWK_HEADER_SECURITY_BIT] = 1;
+  nwk_put16(header + NWK_HEADER_SOURCE, 0x1234);
+  header[NWK_HEADER_RADIUS] = 30;
+  header[NWK_HEADER_SEQUENCE] = 7;
   /* The network key, an extended nonce, frame counter 0x00012345, IEEE 01 02 .. 08 in wire order. */
-  uint8_t auxiliary[NWK_AUXILIARY_RECORD] = {1, 0, 1, 1, 0, 0x45, 0x23, 0x01, 0x00, 1, 1, 2, 3, 4, 5, 6, 7, 8, 0};
+  uint8_t auxiliary[NWK_AUXILIARY_RECORD] = {0};
+  auxiliary[NWK_AUXILIARY_PRESENT] = 1;
+  auxiliary[NWK_AUXILIARY_KEY_ID] = 1;
+  auxiliary[NWK_AUXILIARY_EXTENDED_NONCE_BIT] = 1;
+  nwk_put32(auxiliary + NWK_AUXILIARY_COUNTER, 0x00012345);
+  auxiliary[NWK_AUXILIARY_HAS_IEEE] = 1;
+  for (uint8_t i = 0; i < 8; i++) {
+    auxiliary[NWK_AUXILIARY_IEEE + i] = i + 1;
+  }
   const uint8_t payload[] = {'s', 't', 'o', 'r', 'e', ' ', 'r', 'e', 'a', 'd', 'e', 'r'};
+  const struct nwk_key key = nwk_key_of(key_bytes);
 
   uint8_t frame[NWK_MAX_FRAME];
-  uint64_t sealed = nwk_seal(KEY_FIRST, KEY_SECOND, header, sizeof header, auxiliary, sizeof auxiliary, payload,
+  uint64_t sealed = nwk_seal(key.first, key.second, header, sizeof header, auxiliary, sizeof auxiliary, payload,
                              sizeof payload, frame, sizeof frame);
-  if (NWK_REFUSAL(sealed) != 0) {
-    printf("sealing refused: %u\n", NWK_REFUSAL(sealed));
+  if (NWK_REFUSAL(sealed) != NWK_ACCEPTED) {
+    printf("sealing refused: %s\n", nwk_refusal_text(NWK_REFUSAL(sealed)));
     return 1;
   }
   size_t n = NWK_LENGTH(sealed);
@@ -55,21 +63,22 @@ int main(void) {
     return 1;
   }
 
-  uint8_t header_read[NWK_HEADER_RECORD];
-  uint8_t auxiliary_read[NWK_AUXILIARY_RECORD];
+  uint8_t record[NWK_OPENED_RECORD];
   uint8_t plain[NWK_MAX_PAYLOAD];
-  uint64_t opened = nwk_open(KEY_FIRST, KEY_SECOND, frame, n, header_read, sizeof header_read, auxiliary_read,
-                             sizeof auxiliary_read, plain, sizeof plain);
-  if (NWK_REFUSAL(opened) != 0) {
-    printf("opening refused: %u\n", NWK_REFUSAL(opened));
+  uint64_t opened = nwk_open(key.first, key.second, frame, n, record, sizeof record, plain, sizeof plain);
+  if (NWK_REFUSAL(opened) != NWK_ACCEPTED) {
+    printf("opening refused: %s\n", nwk_refusal_text(NWK_REFUSAL(opened)));
     return 1;
   }
   size_t m = NWK_LENGTH(opened);
+  const uint8_t *header_read = record + NWK_OPENED_HEADER;
+  const uint8_t *auxiliary_read = record + NWK_OPENED_AUXILIARY;
   printf("opened, %zu bytes: %.*s\n", m, (int)m, (const char *)plain);
-  printf("source 0x%04X, radius %u, sequence %u\n", (unsigned)(header_read[12] | header_read[13] << 8), header_read[14],
-         header_read[15]);
-  if (m != sizeof payload || memcmp(plain, payload, m) != 0 || memcmp(header_read, header, sizeof header) != 0 ||
-      memcmp(auxiliary_read, auxiliary, sizeof auxiliary) != 0) {
+  printf("source 0x%04X, radius %u, sequence %u, counter %lu\n", nwk_get16(header_read + NWK_HEADER_SOURCE),
+         header_read[NWK_HEADER_RADIUS], header_read[NWK_HEADER_SEQUENCE],
+         (unsigned long)nwk_get32(auxiliary_read + NWK_AUXILIARY_COUNTER));
+  if (m != sizeof payload || m != nwk_get16(record + NWK_OPENED_LENGTH) || memcmp(plain, payload, m) != 0 ||
+      memcmp(header_read, header, sizeof header) != 0 || memcmp(auxiliary_read, auxiliary, sizeof auxiliary) != 0) {
     printf("not what was sealed\n");
     return 1;
   }
@@ -77,12 +86,10 @@ int main(void) {
   /* One bit of the ciphertext changed: refused by 19, and every lent byte is as it was. */
   frame[n - 5] ^= 1;
   memset(plain, 0xA5, sizeof plain);
-  memset(header_read, 0xA5, sizeof header_read);
-  memset(auxiliary_read, 0xA5, sizeof auxiliary_read);
-  uint64_t damaged = nwk_open(KEY_FIRST, KEY_SECOND, frame, n, header_read, sizeof header_read, auxiliary_read,
-                              sizeof auxiliary_read, plain, sizeof plain);
+  memset(record, 0xA5, sizeof record);
+  uint64_t damaged = nwk_open(key.first, key.second, frame, n, record, sizeof record, plain, sizeof plain);
   printf("damaged: refusal %u, length %u\n", NWK_REFUSAL(damaged), NWK_LENGTH(damaged));
-  if (NWK_REFUSAL(damaged) != 19 || NWK_LENGTH(damaged) != 0) {
+  if (NWK_REFUSAL(damaged) != NWK_REFUSED_WRONG_MIC || NWK_LENGTH(damaged) != 0) {
     return 1;
   }
   for (size_t i = 0; i < sizeof plain; i++) {
@@ -90,13 +97,8 @@ int main(void) {
       return 1;
     }
   }
-  for (size_t i = 0; i < sizeof header_read; i++) {
-    if (header_read[i] != 0xA5) {
-      return 1;
-    }
-  }
-  for (size_t i = 0; i < sizeof auxiliary_read; i++) {
-    if (auxiliary_read[i] != 0xA5) {
+  for (size_t i = 0; i < sizeof record; i++) {
+    if (record[i] != 0xA5) {
       return 1;
     }
   }

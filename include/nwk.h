@@ -1,8 +1,9 @@
 /* nwk.h: the Zigbee NWK frame codec in C.
  *
- * A slice is a pointer and a length. The pointer of an empty slice is not read, but must not be NULL. No two slices of a
- * call may overlap if one of them is written. A key is two numbers, its first eight bytes in the first, the first byte
- * lowest.
+ * A slice is a pointer and a length, an array of fixed size a pointer alone. Two things are the caller's to see to: a slice of
+ * a length above 0, and an array, has that many bytes (so its pointer is not NULL; for an empty slice NULL will do), and no two
+ * of a call overlap if one of them is written. A key is two numbers, its first eight bytes in the first, the first byte
+ * lowest (nwk_key_of).
  *
  * Every function answers one number: the length in bits 0 to 31 (NWK_LENGTH), the refusal in bits 32 to 39 (NWK_REFUSAL,
  * 0: accepted), the other bits 0. A refusal has length 0 and leaves every lent byte as it was, records included. Where
@@ -18,13 +19,16 @@
  *     const uint8_t bytes[] = {0x0B, 0x0E, 0x00};
  *     uint8_t command[NWK_COMMAND_RECORD];
  *     uint64_t answer = nwk_read_command(bytes, sizeof bytes, command, sizeof command);
- *     if (NWK_REFUSAL(answer) == 0 && command[0] == 11) {
- *       printf("timeout %u, %u seconds\n", command[1], NWK_LENGTH(nwk_timeout_seconds(command[1])));
+ *     if (NWK_REFUSAL(answer) == NWK_ACCEPTED && command[NWK_COMMAND_IDENTIFIER] == 11) {
+ *       uint8_t code = command[NWK_COMMAND_FIELDS];
+ *       printf("timeout %u, %u seconds\n", code, NWK_LENGTH(nwk_timeout_seconds(code)));
  *     }
  *     return 0;
  *   }
  *
  * It prints "timeout 14, 983040 seconds". Build: cc -Iinclude FILE.c target/staticlib/libnwk.a
+ *
+ * The archive is compiled for x86-64 (System V calls, as on Linux), which is what the toolchain compiles for today.
  */
 #ifndef NWK_H
 #define NWK_H
@@ -36,12 +40,46 @@
 extern "C" {
 #endif
 
-#define NWK_LENGTH(answer) ((uint32_t)((answer) & 0xFFFFFFFFu))
-#define NWK_REFUSAL(answer) ((uint8_t)((answer) >> 32 & 0xFFu))
+#define NWK_VERSION "0.2.0"
+#define NWK_VERSION_NUMBER 0x000200
+
+#ifdef __cplusplus
+#define NWK_CAST(type, value) static_cast<type>(value)
+#else
+#define NWK_CAST(type, value) ((type)(value))
+#endif
+
+#define NWK_LENGTH(answer) NWK_CAST(uint32_t, (answer) & 0xFFFFFFFFu)
+#define NWK_REFUSAL(answer) NWK_CAST(uint8_t, (answer) >> 32 & 0xFFu)
 
 /* The longest frame, and the longest payload or command. */
 #define NWK_MAX_FRAME 118
 #define NWK_MAX_PAYLOAD 108
+
+/* ---- refusals; nwk_refusal_text gives their conditions in words */
+
+enum nwk_refusal {
+  NWK_ACCEPTED = 0,
+  NWK_REFUSED_TOO_LONG = 1,
+  NWK_REFUSED_SHORT_HEADER = 2,
+  NWK_REFUSED_FRAME_TYPE = 3,
+  NWK_REFUSED_DISCOVERY = 4,
+  NWK_REFUSED_DESTINATION_IEEE = 5,
+  NWK_REFUSED_SOURCE_IEEE = 6,
+  NWK_REFUSED_MULTICAST = 7,
+  NWK_REFUSED_SOURCE_ROUTE = 8,
+  NWK_REFUSED_SHORT_AUXILIARY = 9,
+  NWK_REFUSED_SHORT_EXTENDED = 10,
+  NWK_REFUSED_NO_KEY_SEQUENCE = 11,
+  NWK_REFUSED_PAYLOAD = 12,
+  NWK_REFUSED_FIELD = 13,
+  NWK_REFUSED_NO_AUXILIARY = 14,
+  NWK_REFUSED_NO_IEEE = 15,
+  NWK_REFUSED_NO_MIC = 16,
+  NWK_REFUSED_LENGTH = 17,
+  NWK_REFUSED_NO_ROOM = 18,
+  NWK_REFUSED_WRONG_MIC = 19
+};
 
 /* ---- records
  *
@@ -84,8 +122,8 @@ extern "C" {
  * Auxiliary record, 19 bytes
  *
  *   offset  bytes  field
- *        0      1  presence of the auxiliary header itself; where it is 0 all the rest is 0 on reading, and on writing the
- *                  bytes at 1 to 4 and 9 must be such as their fields can take all the same
+ *        0      1  presence of the auxiliary header itself; where it is 0 all the rest is 0 on reading and not read on
+ *                  writing
  *        1      1  security level, 0 to 7
  *        2      1  key identifier, 0 to 3
  *        3      1  extended nonce bit
@@ -94,9 +132,67 @@ extern "C" {
  *        9      1  presence of the IEEE
  *       10      8  IEEE, in wire order
  *       18      1  key sequence number
+ *
+ * Opened record, 182 bytes: what opening says of a frame. The address of the byte at 16 is that of a header record, and the
+ * address of the byte at 163 that of an auxiliary record.
+ *
+ *   offset  bytes  field
+ *        0      1  refusal; 0, since a refused frame changes no byte of the record
+ *        1      1  mark: room for what is said of a frame beside; 0
+ *        2      2  length of the payload
+ *        4      1  count of cipher blocks; 0 until it is reported
+ *        5      1  presence of the IEEE that the nonce used; 0 until it is reported
+ *        6      8  that IEEE, in wire order; 0 until it is reported
+ *       14      2  0
+ *       16    147  header record
+ *      163     19  auxiliary record, with the level as received
  */
 #define NWK_HEADER_RECORD 147
+#define NWK_HEADER_FRAME_TYPE 0
+#define NWK_HEADER_VERSION 1
+#define NWK_HEADER_DISCOVERY 2
+#define NWK_HEADER_MULTICAST_BIT 3
+#define NWK_HEADER_SECURITY_BIT 4
+#define NWK_HEADER_SOURCE_ROUTE_BIT 5
+#define NWK_HEADER_DESTINATION_IEEE_BIT 6
+#define NWK_HEADER_SOURCE_IEEE_BIT 7
+#define NWK_HEADER_END_DEVICE_BIT 8
+#define NWK_HEADER_BITS_14_15 9
+#define NWK_HEADER_DESTINATION 10
+#define NWK_HEADER_SOURCE 12
+#define NWK_HEADER_RADIUS 14
+#define NWK_HEADER_SEQUENCE 15
+#define NWK_HEADER_HAS_DESTINATION_IEEE 16
+#define NWK_HEADER_DESTINATION_IEEE 17
+#define NWK_HEADER_HAS_SOURCE_IEEE 25
+#define NWK_HEADER_SOURCE_IEEE 26
+#define NWK_HEADER_HAS_MULTICAST 34
+#define NWK_HEADER_MULTICAST 35
+#define NWK_HEADER_HAS_SOURCE_ROUTE 36
+#define NWK_HEADER_RELAY_COUNT 37
+#define NWK_HEADER_RELAY_INDEX 38
+#define NWK_HEADER_RELAYS 39
+
 #define NWK_AUXILIARY_RECORD 19
+#define NWK_AUXILIARY_PRESENT 0
+#define NWK_AUXILIARY_LEVEL 1
+#define NWK_AUXILIARY_KEY_ID 2
+#define NWK_AUXILIARY_EXTENDED_NONCE_BIT 3
+#define NWK_AUXILIARY_VERIFIED_BIT 4
+#define NWK_AUXILIARY_COUNTER 5
+#define NWK_AUXILIARY_HAS_IEEE 9
+#define NWK_AUXILIARY_IEEE 10
+#define NWK_AUXILIARY_KEY_SEQUENCE 18
+
+#define NWK_OPENED_RECORD 182
+#define NWK_OPENED_REFUSAL 0
+#define NWK_OPENED_MARK 1
+#define NWK_OPENED_LENGTH 2
+#define NWK_OPENED_BLOCKS 4
+#define NWK_OPENED_HAS_NONCE_IEEE 5
+#define NWK_OPENED_NONCE_IEEE 6
+#define NWK_OPENED_HEADER 16
+#define NWK_OPENED_AUXILIARY 163
 
 /* Command record, 535 bytes
  *
@@ -136,6 +232,18 @@ extern "C" {
  *   15 network commissioning response    1: network address (2); 3: association status, 0 to 3, 0x80 or 0xF0
  */
 #define NWK_COMMAND_RECORD 535
+#define NWK_COMMAND_IDENTIFIER 0
+#define NWK_COMMAND_FIELDS 1
+#define NWK_COMMAND_RELAY_COUNT 25
+#define NWK_COMMAND_RELAYS 26
+#define NWK_COMMAND_LINK_COUNT 132
+#define NWK_COMMAND_LINKS 133
+#define NWK_COMMAND_PAN_COUNT 257
+#define NWK_COMMAND_PANS 258
+#define NWK_COMMAND_POWER_COUNT 320
+#define NWK_COMMAND_POWERS 321
+#define NWK_COMMAND_UNPARSED_LENGTH 426
+#define NWK_COMMAND_UNPARSED 427
 
 /* ---- headers */
 
@@ -174,19 +282,18 @@ uint64_t nwk_write_frame(const uint8_t *header, size_t header_len, const uint8_t
                          size_t out_len);
 
 /* Seal a frame. The level in the auxiliary record does not matter: level 5 is authenticated and level 0 is sent. Length: the
- * frame's bytes. Refusals: 13 a record; 14 the auxiliary record's presence byte is 0; 15 neither record has an IEEE for the
- * nonce (the auxiliary one, else the header's source); 17 a payload over 108 or a frame over 118; 18 out shorter than the
- * frame. Afterwards out holds the frame in its first bytes. */
+ * frame's bytes. Refusals: 13 a record; 14 the auxiliary record's presence byte is 0, whatever its other bytes are; 15 neither
+ * record has an IEEE for the nonce (the auxiliary one, else the header's source); 17 a payload over 108 or a frame over 118; 18
+ * out shorter than the frame. Afterwards out holds the frame in its first bytes. */
 uint64_t nwk_seal(uint64_t key_first, uint64_t key_second, const uint8_t *header, size_t header_len,
                   const uint8_t *auxiliary, size_t auxiliary_len, const uint8_t *payload, size_t payload_len, uint8_t *out,
                   size_t out_len);
 
 /* Open a frame. Length: the payload's bytes. Refusals: 1 to 12 as nwk_read_frame; 14 no auxiliary header; 15 no IEEE for the
- * nonce; 16 fewer than 4 bytes behind the headers; 18 out shorter than the payload, header shorter than 147, or auxiliary
- * shorter than 19; 19 the MIC is not the one computed. Afterwards out holds the payload in its first bytes, and the records
- * hold the two headers, with the level as received. */
-uint64_t nwk_open(uint64_t key_first, uint64_t key_second, const uint8_t *bytes, size_t bytes_len, uint8_t *header,
-                  size_t header_len, uint8_t *auxiliary, size_t auxiliary_len, uint8_t *out, size_t out_len);
+ * nonce; 16 fewer than 4 bytes behind the headers; 18 out shorter than the payload, or opened shorter than 182; 19 the MIC is
+ * not the one computed. Afterwards out holds the payload in its first bytes, and opened the opened record. */
+uint64_t nwk_open(uint64_t key_first, uint64_t key_second, const uint8_t *bytes, size_t bytes_len, uint8_t *opened,
+                  size_t opened_len, uint8_t *out, size_t out_len);
 
 /* ---- commands */
 
@@ -206,26 +313,187 @@ uint64_t nwk_write_command(const uint8_t *command, size_t command_len, uint8_t *
  * 14. Refusals: 13 a code above 14. */
 uint64_t nwk_timeout_seconds(uint8_t code);
 
-/* ---- CCM and AES alone */
+/* ---- CCM and AES alone; a nonce, a MIC and a block are arrays */
 
 /* Seal a payload with CCM (SP 800-38C, AES-128, a nonce of 13 bytes, a MIC of 4). Length: the payload's. Refusals: 1 auth or
- * payload over 127; 13 nonce_len is not 13; 18 out shorter than the payload or mic shorter than 4.
- * Afterwards out holds the ciphertext, as long as the payload, and mic the MIC, in their first bytes. */
-uint64_t nwk_encrypt_ccm(uint64_t key_first, uint64_t key_second, const uint8_t *nonce, size_t nonce_len,
-                         const uint8_t *auth, size_t auth_len, const uint8_t *payload, size_t payload_len, uint8_t *out,
-                         size_t out_len, uint8_t *mic, size_t mic_len);
+ * payload over 127; 18 out shorter than the payload.
+ * Afterwards out holds the ciphertext, as long as the payload, in its first bytes, and mic the MIC. */
+uint64_t nwk_encrypt_ccm(uint64_t key_first, uint64_t key_second, const uint8_t nonce[13], const uint8_t *auth,
+                         size_t auth_len, const uint8_t *payload, size_t payload_len, uint8_t *out, size_t out_len,
+                         uint8_t mic[4]);
 
-/* Open a ciphertext with its MIC. Length: the payload's. Refusals: 1 auth or ciphertext over 127; 13 nonce_len is not 13 or
- * mic_len is not 4; 18 out shorter than the ciphertext; 19 the MIC is not the one computed.
- * Afterwards out holds the payload in its first bytes. */
-uint64_t nwk_decrypt_ccm(uint64_t key_first, uint64_t key_second, const uint8_t *nonce, size_t nonce_len,
-                         const uint8_t *auth, size_t auth_len, const uint8_t *ciphertext, size_t ciphertext_len,
-                         const uint8_t *mic, size_t mic_len, uint8_t *out, size_t out_len);
+/* Open a ciphertext with its MIC. Length: the payload's. Refusals: 1 auth or ciphertext over 127; 18 out shorter than the
+ * ciphertext; 19 the MIC is not the one computed. Afterwards out holds the payload in its first bytes. */
+uint64_t nwk_decrypt_ccm(uint64_t key_first, uint64_t key_second, const uint8_t nonce[13], const uint8_t *auth,
+                         size_t auth_len, const uint8_t *ciphertext, size_t ciphertext_len, const uint8_t mic[4],
+                         uint8_t *out, size_t out_len);
 
-/* One block of AES-128 (FIPS 197). Length: 16. Refusals: 13 block_len is not 16; 18 out shorter than 16.
- * Afterwards out holds the block in its first 16 bytes. */
-uint64_t nwk_encrypt_block(uint64_t key_first, uint64_t key_second, const uint8_t *block, size_t block_len, uint8_t *out,
-                           size_t out_len);
+/* Take the MIC, the last 4 bytes, off ciphertext with MIC. Length: that of the ciphertext in front of it. Refusals: 16 fewer
+ * than 4 bytes. Afterwards mic holds the MIC. */
+uint64_t nwk_split_mic(const uint8_t *bytes, size_t bytes_len, uint8_t mic[4]);
+
+/* One block of AES-128 (FIPS 197). Length: 16. Nothing is refused. Afterwards out holds the block. */
+uint64_t nwk_encrypt_block(uint64_t key_first, uint64_t key_second, const uint8_t block[16], uint8_t out[16]);
+
+/* ---- helpers */
+
+/* A refusal's condition in words; "accepted" for 0. */
+static inline const char *nwk_refusal_text(uint8_t refusal) {
+  static const char *const texts[] = {
+      "accepted",
+      "a frame, or the bytes given to read a header or an auxiliary header, are more than 118; or "
+      "authenticated data or a payload handed to CCM alone is more than 127",
+      "a header has fewer than 8 bytes",
+      "the frame type is 2",
+      "discovery is 3",
+      "fewer than 8 bytes remain for a destination IEEE",
+      "fewer than 8 bytes remain for a source IEEE",
+      "no byte remains for multicast control",
+      "a source route has fewer than 2 + 2n bytes for its n relays, or fewer than 2",
+      "an auxiliary header has fewer than 6 bytes",
+      "an auxiliary header with extended nonce has 6 to 12 bytes",
+      "an auxiliary header with extended nonce has exactly 13 bytes",
+      "an unsecured payload, or a command to read, has more than 108 bytes",
+      "a field to write exceeds its bits or has an undeclared code, or a list exceeds its places",
+      "sealing or opening has no auxiliary header",
+      "sealing or opening has neither an auxiliary nor a header source IEEE",
+      "ciphertext with MIC has fewer than 4 bytes",
+      "the bytes to write exceed 118 for a header or frame, or 108 for a payload, alone or in a frame",
+      "the lent output is shorter than what is to be written",
+      "the MIC is not the one computed",
+  };
+  return refusal < sizeof texts / sizeof texts[0] ? texts[refusal] : "a number that the list does not have";
+}
+
+/* The two numbers of a key. */
+struct nwk_key {
+  uint64_t first, second;
+};
+
+static inline struct nwk_key nwk_key_of(const uint8_t bytes[16]) {
+  struct nwk_key key = {0, 0};
+  for (int i = 7; i >= 0; i--) {
+    key.first = key.first << 8 | bytes[i];
+    key.second = key.second << 8 | bytes[8 + i];
+  }
+  return key;
+}
+
+/* A number of two or four bytes in a record, which has the least significant byte first. */
+static inline uint16_t nwk_get16(const uint8_t *at) { return NWK_CAST(uint16_t, at[0] | at[1] << 8); }
+
+static inline uint32_t nwk_get32(const uint8_t *at) {
+  return nwk_get16(at) | NWK_CAST(uint32_t, nwk_get16(at + 2)) << 16;
+}
+
+static inline void nwk_put16(uint8_t *at, uint16_t number) {
+  at[0] = NWK_CAST(uint8_t, number & 0xFF);
+  at[1] = NWK_CAST(uint8_t, number >> 8);
+}
+
+static inline void nwk_put32(uint8_t *at, uint32_t number) {
+  nwk_put16(at, NWK_CAST(uint16_t, number & 0xFFFF));
+  nwk_put16(at + 2, NWK_CAST(uint16_t, number >> 16));
+}
+
+/* ---- empty slices
+ *
+ * The compiled functions are to be given the address of a byte even for an empty slice. So that NULL will do there, each
+ * function's name stands from here on for one that puts such an address in its place. */
+
+static inline uint8_t *nwk_lent(uint8_t *bytes, size_t len) {
+  static uint8_t none;
+  return len == 0 ? &none : bytes;
+}
+
+static inline const uint8_t *nwk_given(const uint8_t *bytes, size_t len) {
+  static const uint8_t none = 0;
+  return len == 0 ? &none : bytes;
+}
+
+static inline uint64_t nwk_read_header_or_null(const uint8_t *bytes, size_t bytes_len, uint8_t *header, size_t header_len) {
+  return nwk_read_header(nwk_given(bytes, bytes_len), bytes_len, nwk_lent(header, header_len), header_len);
+}
+
+static inline uint64_t nwk_write_header_or_null(const uint8_t *header, size_t header_len, uint8_t *out, size_t out_len) {
+  return nwk_write_header(nwk_given(header, header_len), header_len, nwk_lent(out, out_len), out_len);
+}
+
+static inline uint64_t nwk_read_auxiliary_or_null(const uint8_t *bytes, size_t bytes_len, uint8_t *auxiliary,
+                                                  size_t auxiliary_len) {
+  return nwk_read_auxiliary(nwk_given(bytes, bytes_len), bytes_len, nwk_lent(auxiliary, auxiliary_len), auxiliary_len);
+}
+
+static inline uint64_t nwk_write_auxiliary_or_null(const uint8_t *auxiliary, size_t auxiliary_len, uint8_t *out,
+                                                   size_t out_len) {
+  return nwk_write_auxiliary(nwk_given(auxiliary, auxiliary_len), auxiliary_len, nwk_lent(out, out_len), out_len);
+}
+
+static inline uint64_t nwk_read_frame_or_null(const uint8_t *bytes, size_t bytes_len, uint8_t *header, size_t header_len,
+                                              uint8_t *auxiliary, size_t auxiliary_len) {
+  return nwk_read_frame(nwk_given(bytes, bytes_len), bytes_len, nwk_lent(header, header_len), header_len,
+                        nwk_lent(auxiliary, auxiliary_len), auxiliary_len);
+}
+
+static inline uint64_t nwk_write_frame_or_null(const uint8_t *header, size_t header_len, const uint8_t *payload,
+                                               size_t payload_len, uint8_t *out, size_t out_len) {
+  return nwk_write_frame(nwk_given(header, header_len), header_len, nwk_given(payload, payload_len), payload_len,
+                         nwk_lent(out, out_len), out_len);
+}
+
+static inline uint64_t nwk_seal_or_null(uint64_t key_first, uint64_t key_second, const uint8_t *header, size_t header_len,
+                                        const uint8_t *auxiliary, size_t auxiliary_len, const uint8_t *payload,
+                                        size_t payload_len, uint8_t *out, size_t out_len) {
+  return nwk_seal(key_first, key_second, nwk_given(header, header_len), header_len, nwk_given(auxiliary, auxiliary_len),
+                  auxiliary_len, nwk_given(payload, payload_len), payload_len, nwk_lent(out, out_len), out_len);
+}
+
+static inline uint64_t nwk_open_or_null(uint64_t key_first, uint64_t key_second, const uint8_t *bytes, size_t bytes_len,
+                                        uint8_t *opened, size_t opened_len, uint8_t *out, size_t out_len) {
+  return nwk_open(key_first, key_second, nwk_given(bytes, bytes_len), bytes_len, nwk_lent(opened, opened_len), opened_len,
+                  nwk_lent(out, out_len), out_len);
+}
+
+static inline uint64_t nwk_read_command_or_null(const uint8_t *bytes, size_t bytes_len, uint8_t *command,
+                                                size_t command_len) {
+  return nwk_read_command(nwk_given(bytes, bytes_len), bytes_len, nwk_lent(command, command_len), command_len);
+}
+
+static inline uint64_t nwk_write_command_or_null(const uint8_t *command, size_t command_len, uint8_t *out, size_t out_len) {
+  return nwk_write_command(nwk_given(command, command_len), command_len, nwk_lent(out, out_len), out_len);
+}
+
+static inline uint64_t nwk_encrypt_ccm_or_null(uint64_t key_first, uint64_t key_second, const uint8_t nonce[13],
+                                               const uint8_t *auth, size_t auth_len, const uint8_t *payload,
+                                               size_t payload_len, uint8_t *out, size_t out_len, uint8_t mic[4]) {
+  return nwk_encrypt_ccm(key_first, key_second, nonce, nwk_given(auth, auth_len), auth_len, nwk_given(payload, payload_len),
+                         payload_len, nwk_lent(out, out_len), out_len, mic);
+}
+
+static inline uint64_t nwk_decrypt_ccm_or_null(uint64_t key_first, uint64_t key_second, const uint8_t nonce[13],
+                                               const uint8_t *auth, size_t auth_len, const uint8_t *ciphertext,
+                                               size_t ciphertext_len, const uint8_t mic[4], uint8_t *out, size_t out_len) {
+  return nwk_decrypt_ccm(key_first, key_second, nonce, nwk_given(auth, auth_len), auth_len,
+                         nwk_given(ciphertext, ciphertext_len), ciphertext_len, mic, nwk_lent(out, out_len), out_len);
+}
+
+static inline uint64_t nwk_split_mic_or_null(const uint8_t *bytes, size_t bytes_len, uint8_t mic[4]) {
+  return nwk_split_mic(nwk_given(bytes, bytes_len), bytes_len, mic);
+}
+
+#define nwk_read_header nwk_read_header_or_null
+#define nwk_write_header nwk_write_header_or_null
+#define nwk_read_auxiliary nwk_read_auxiliary_or_null
+#define nwk_write_auxiliary nwk_write_auxiliary_or_null
+#define nwk_read_frame nwk_read_frame_or_null
+#define nwk_write_frame nwk_write_frame_or_null
+#define nwk_seal nwk_seal_or_null
+#define nwk_open nwk_open_or_null
+#define nwk_read_command nwk_read_command_or_null
+#define nwk_write_command nwk_write_command_or_null
+#define nwk_encrypt_ccm nwk_encrypt_ccm_or_null
+#define nwk_decrypt_ccm nwk_decrypt_ccm_or_null
+#define nwk_split_mic nwk_split_mic_or_null
 
 #ifdef __cplusplus
 }

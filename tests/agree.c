@@ -1,4 +1,4 @@
-/* Calls all fourteen functions of nwk.h with generated inputs, from a fixed seed, and prints one line for each call:
+/* Calls all fifteen functions of nwk.h with generated inputs, from a fixed seed, and prints one line for each call:
  *
  *   name [key_first key_second] inputs = answer outputs
  *
@@ -32,6 +32,7 @@ enum operation {
   TIMEOUT_SECONDS,
   ENCRYPT_CCM,
   DECRYPT_CCM,
+  SPLIT_MIC,
   ENCRYPT_BLOCK,
   OPERATIONS
 };
@@ -46,9 +47,9 @@ struct shape {
 static const struct shape shapes[OPERATIONS] = {
     {"nwk_read_header", 0, 1, 1},     {"nwk_write_header", 0, 1, 1},  {"nwk_read_auxiliary", 0, 1, 1},
     {"nwk_write_auxiliary", 0, 1, 1}, {"nwk_read_frame", 0, 1, 2},    {"nwk_write_frame", 0, 2, 1},
-    {"nwk_seal", 1, 3, 1},            {"nwk_open", 1, 1, 3},          {"nwk_read_command", 0, 1, 1},
+    {"nwk_seal", 1, 3, 1},            {"nwk_open", 1, 1, 2},          {"nwk_read_command", 0, 1, 1},
     {"nwk_write_command", 0, 1, 1},   {"nwk_timeout_seconds", 0, 1, 0}, {"nwk_encrypt_ccm", 1, 3, 2},
-    {"nwk_decrypt_ccm", 1, 4, 1},     {"nwk_encrypt_block", 1, 1, 1},
+    {"nwk_decrypt_ccm", 1, 4, 1},     {"nwk_split_mic", 0, 1, 1},     {"nwk_encrypt_block", 1, 1, 1},
 };
 
 struct buffer {
@@ -60,7 +61,7 @@ struct call {
   enum operation operation;
   uint64_t key_first, key_second;
   struct buffer in[4];
-  struct buffer out[3];
+  struct buffer out[2];
 };
 
 /* ---- the generator: splitmix64 */
@@ -112,7 +113,7 @@ static uint64_t perform(struct call *c) {
   case SEAL:
     return nwk_seal(k1, k2, IN(0), IN(1), IN(2), OUT(0));
   case OPEN:
-    return nwk_open(k1, k2, IN(0), OUT(0), OUT(1), OUT(2));
+    return nwk_open(k1, k2, IN(0), OUT(0), OUT(1));
   case READ_COMMAND:
     return nwk_read_command(IN(0), OUT(0));
   case WRITE_COMMAND:
@@ -120,11 +121,13 @@ static uint64_t perform(struct call *c) {
   case TIMEOUT_SECONDS:
     return nwk_timeout_seconds(in[0].bytes[0]);
   case ENCRYPT_CCM:
-    return nwk_encrypt_ccm(k1, k2, IN(0), IN(1), IN(2), OUT(0), OUT(1));
+    return nwk_encrypt_ccm(k1, k2, in[0].bytes, IN(1), IN(2), OUT(0), out[1].bytes);
   case DECRYPT_CCM:
-    return nwk_decrypt_ccm(k1, k2, IN(0), IN(1), IN(2), IN(3), OUT(0));
+    return nwk_decrypt_ccm(k1, k2, in[0].bytes, IN(1), IN(2), in[3].bytes, OUT(0));
+  case SPLIT_MIC:
+    return nwk_split_mic(IN(0), out[0].bytes);
   case ENCRYPT_BLOCK:
-    return nwk_encrypt_block(k1, k2, IN(0), OUT(0));
+    return nwk_encrypt_block(k1, k2, in[0].bytes, out[0].bytes);
   case OPERATIONS:
     break;
   }
@@ -166,13 +169,13 @@ static void lend(struct call *c, size_t output, size_t room) {
 }
 
 static uint64_t perform_roomy(struct call *c) {
-  for (size_t i = 0; i < 3; i++) {
+  for (size_t i = 0; i < 2; i++) {
     lend(c, i, ROOMY);
   }
   return perform(c);
 }
 
-/* What an output needs: a record's size, the MIC's, or the length answered; anything where the call is refused. */
+/* What a slice needs: a record's size, or the length answered; anything where the call is refused. */
 static size_t needed(const struct call *c, size_t output, uint64_t roomy_answer) {
   const size_t length = NWK_REFUSAL(roomy_answer) == 0 ? NWK_LENGTH(roomy_answer) : NWK_MAX_FRAME;
   switch (c->operation) {
@@ -183,13 +186,25 @@ static size_t needed(const struct call *c, size_t output, uint64_t roomy_answer)
   case READ_FRAME:
     return output == 0 ? NWK_HEADER_RECORD : NWK_AUXILIARY_RECORD;
   case OPEN:
-    return output == 0 ? NWK_HEADER_RECORD : output == 1 ? NWK_AUXILIARY_RECORD : length;
+    return output == 0 ? NWK_OPENED_RECORD : length;
   case READ_COMMAND:
     return NWK_COMMAND_RECORD;
-  case ENCRYPT_CCM:
-    return output == 0 ? length : 4;
   default:
     return length;
+  }
+}
+
+/* The size of an output that is an array and not a slice; 0 for a slice. */
+static size_t array(const struct call *c, size_t output) {
+  switch (c->operation) {
+  case ENCRYPT_CCM:
+    return output == 1 ? 4 : 0;
+  case SPLIT_MIC:
+    return 4;
+  case ENCRYPT_BLOCK:
+    return 16;
+  default:
+    return 0;
   }
 }
 
@@ -208,7 +223,8 @@ static size_t room(size_t exact) {
 static void call_and_print(struct call *c) {
   const uint64_t roomy_answer = perform_roomy(c);
   for (size_t i = 0; i < shapes[c->operation].outputs; i++) {
-    lend(c, i, room(needed(c, i, roomy_answer)));
+    const size_t size = array(c, i);
+    lend(c, i, size != 0 ? size : room(needed(c, i, roomy_answer)));
   }
   print_call(c, perform(c));
 }
@@ -343,7 +359,7 @@ static void written(enum operation operation, void (*record)(struct buffer *), s
 }
 
 static void ccm_inputs(struct call *c) {
-  random_bytes(&c->in[0], percent(95) ? 13 : below(20));
+  random_bytes(&c->in[0], 13);
   random_bytes(&c->in[1], below(percent(90) ? 60 : 131));
   random_bytes(&c->in[2], below(percent(90) ? 60 : 131));
 }
@@ -360,9 +376,6 @@ static void seal_ccm(struct call *c) {
   }
   if (percent(20)) {
     c->in[below(4)].bytes[0] ^= 1;
-  }
-  if (percent(5)) {
-    c->in[3].n = below(8);
   }
 }
 
@@ -420,8 +433,11 @@ static void generate(struct call *c) {
     ccm_inputs(c);
     seal_ccm(c);
     return;
+  case SPLIT_MIC:
+    random_bytes(&c->in[0], below(percent(30) ? 8 : 131));
+    return;
   case ENCRYPT_BLOCK:
-    random_bytes(&c->in[0], percent(85) ? 16 : below(131));
+    random_bytes(&c->in[0], 16);
     return;
   case OPERATIONS:
     return;

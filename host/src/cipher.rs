@@ -2,7 +2,7 @@
 use crate::refusal::length;
 use crate::{sys, Key, Refusal};
 
-/// Encrypts a payload to the front of the output, and gives its length and the MIC. Refusals 1, 18.
+/// Encrypts a payload to the front of the output, and gives its length and the MIC.
 ///
 /// ```
 /// use store_reader::{decrypt_ccm, encrypt_ccm, Key};
@@ -16,6 +16,10 @@ use crate::{sys, Key, Refusal};
 /// assert_eq!(&opened, b"grain");
 /// # Ok::<(), store_reader::Refusal>(())
 /// ```
+///
+/// # Errors
+///
+/// Refusals 1, 18.
 pub fn encrypt_ccm(
     key: &Key,
     nonce: &[u8; 13],
@@ -30,23 +34,25 @@ pub fn encrypt_ccm(
         sys::nwk_encrypt_ccm(
             first,
             second,
-            nonce.as_ptr(),
-            nonce.len(),
+            nonce,
             auth.as_ptr(),
             auth.len(),
             payload.as_ptr(),
             payload.len(),
             out.as_mut_ptr(),
             out.len(),
-            mic.as_mut_ptr(),
-            mic.len(),
+            &mut mic,
         )
     };
     Ok((length(answer)?, mic))
 }
 
-/// Decrypts a ciphertext to the front of the output if its MIC is right, and gives its length. Refusals 1, 18, 19. An
-/// example stands at [`encrypt_ccm`].
+/// Decrypts a ciphertext to the front of the output if its MIC is right, and gives its length. An example stands at
+/// [`encrypt_ccm`].
+///
+/// # Errors
+///
+/// Refusals 1, 18, 19.
 pub fn decrypt_ccm(
     key: &Key,
     nonce: &[u8; 13],
@@ -61,18 +67,35 @@ pub fn decrypt_ccm(
         sys::nwk_decrypt_ccm(
             first,
             second,
-            nonce.as_ptr(),
-            nonce.len(),
+            nonce,
             auth.as_ptr(),
             auth.len(),
             ciphertext.as_ptr(),
             ciphertext.len(),
-            mic.as_ptr(),
-            mic.len(),
+            mic,
             out.as_mut_ptr(),
             out.len(),
         )
     })
+}
+
+/// The ciphertext in front of the MIC, and the MIC: the last four bytes.
+///
+/// ```
+/// use store_reader::{split_mic, Refusal};
+///
+/// assert_eq!(split_mic(&[1, 2, 3, 4, 5, 6]), Ok((&[1, 2][..], [3, 4, 5, 6])));
+/// assert_eq!(split_mic(&[1, 2, 3]), Err(Refusal::NO_MIC));
+/// ```
+///
+/// # Errors
+///
+/// Refusal 16.
+pub fn split_mic(bytes: &[u8]) -> Result<(&[u8], [u8; 4]), Refusal> {
+    let mut mic = [0; 4];
+    // SAFETY: the pointer goes with the length of its slice, the MIC has four places, and they do not overlap.
+    let n = length(unsafe { sys::nwk_split_mic(bytes.as_ptr(), bytes.len(), &mut mic) })?;
+    Ok((bytes.get(..n).ok_or(Refusal::INTERNAL)?, mic))
 }
 
 /// One block of AES-128.
@@ -83,16 +106,15 @@ pub fn decrypt_ccm(
 /// // FIPS 197, appendix C.1.
 /// let key: Key = "000102030405060708090A0B0C0D0E0F".parse().unwrap();
 /// let block = std::array::from_fn(|i| 0x11 * i as u8);
-/// let expected = hex("69C4E0D86A7B0430D8CDB78070B4C55A").unwrap();
-/// assert_eq!(encrypt_block(&key, &block)?[..], expected);
-/// # Ok::<(), store_reader::Refusal>(())
+/// let mut expected = [0; 16];
+/// hex("69C4E0D86A7B0430D8CDB78070B4C55A", &mut expected).unwrap();
+/// assert_eq!(encrypt_block(&key, &block), expected);
 /// ```
-pub fn encrypt_block(key: &Key, block: &[u8; 16]) -> Result<[u8; 16], Refusal> {
+#[must_use]
+pub fn encrypt_block(key: &Key, block: &[u8; 16]) -> [u8; 16] {
     let (first, second) = key.halves();
     let mut out = [0; 16];
-    // SAFETY: each pointer goes with the length of its slice, and no two slices overlap.
-    let answer =
-        unsafe { sys::nwk_encrypt_block(first, second, block.as_ptr(), block.len(), out.as_mut_ptr(), out.len()) };
-    length(answer)?;
-    Ok(out)
+    // SAFETY: both arrays have their 16 places, and they do not overlap. Nothing is refused.
+    let _ = unsafe { sys::nwk_encrypt_block(first, second, block, &mut out) };
+    out
 }

@@ -2,12 +2,12 @@
 
 /// An enum with `code`, `from_code` and `ALL`.
 macro_rules! codes {
-    ($(#[$doc:meta])* $name:ident { $($case:ident = $code:literal),+ $(,)? }) => {
+    ($(#[$doc:meta])* $name:ident { $($(#[$case_doc:meta])* $case:ident = $code:literal),+ $(,)? }) => {
         $(#[$doc])*
-        #[derive(Debug, Clone, Copy, PartialEq, Eq, Hash)]
+        #[derive(Debug, Clone, Copy, PartialEq, Eq, PartialOrd, Ord, Hash)]
         #[repr(u8)]
         pub enum $name {
-            $($case = $code),+
+            $($(#[$case_doc])* $case = $code),+
         }
 
         impl $name {
@@ -15,11 +15,13 @@ macro_rules! codes {
             pub const ALL: &'static [Self] = &[$(Self::$case),+];
 
             /// The code on the wire.
-            pub fn code(self) -> u8 {
+            #[must_use]
+            pub const fn code(self) -> u8 {
                 self as u8
             }
 
             /// The case with this code, if one is declared.
+            #[must_use]
             pub fn from_code(code: u8) -> Option<Self> {
                 Self::ALL.iter().copied().find(|case| case.code() == code)
             }

@@ -1,5 +1,5 @@
 //! Reading, writing, sealing and opening frames.
-use crate::header::Records;
+use crate::header::{OpenedRecord, Records};
 use crate::refusal::length;
 use crate::{sys, Key, NwkAuxHeader, NwkHeader, Refusal};
 
@@ -7,20 +7,26 @@ use crate::{sys, Key, NwkAuxHeader, NwkHeader, Refusal};
 /// the payload.
 #[derive(Debug, Clone, PartialEq, Eq)]
 pub struct NwkFrame<'a> {
+    /// The NWK header.
     pub header: NwkHeader,
+    /// The auxiliary header, which a frame has exactly if its security bit is set.
     pub auxiliary: Option<NwkAuxHeader>,
+    /// The bytes behind the headers.
     pub rest: &'a [u8],
 }
 
 /// A sealed frame as opened: its headers, the auxiliary one with the level received, and its payload.
 #[derive(Debug, Clone, PartialEq, Eq)]
 pub struct OpenedFrame<'a> {
+    /// The NWK header.
     pub header: NwkHeader,
+    /// The auxiliary header.
     pub auxiliary: NwkAuxHeader,
+    /// The bytes that were sealed, at the front of the output.
     pub payload: &'a [u8],
 }
 
-/// Reads a frame without a key. Refusals 1 to 12.
+/// Reads a frame without a key.
 ///
 /// ```
 /// use store_reader::{read, Nwk};
@@ -30,6 +36,10 @@ pub struct OpenedFrame<'a> {
 /// assert_eq!((frame.auxiliary, frame.rest), (None, &[0xAA][..]));
 /// # Ok::<(), store_reader::Refusal>(())
 /// ```
+///
+/// # Errors
+///
+/// Refusals 1 to 12.
 pub fn read(frame: &[u8]) -> Result<NwkFrame<'_>, Refusal> {
     let mut records = Records::new();
     // SAFETY: each pointer goes with the length of its slice, and no two slices overlap.
@@ -48,19 +58,22 @@ pub fn read(frame: &[u8]) -> Result<NwkFrame<'_>, Refusal> {
     Ok(NwkFrame { header, auxiliary, rest: frame.get(n..).unwrap_or(&[]) })
 }
 
-/// Writes a frame without a key, header and payload, to the front of the output, and gives its length. Refusals 13, 17,
-/// 18.
+/// Writes a frame without a key, header and payload, to the front of the output, and gives its length.
 ///
 /// ```
-/// use store_reader::{write, Nwk, NwkFrameType, NwkHeader};
+/// use store_reader::{write, Nwk, NwkFrameType, NwkHeader, Refusal, MAX_FRAME};
 ///
 /// let header = NwkHeader::new(NwkFrameType::Data, Nwk(0x1234), Nwk(0x0000));
-/// let mut out = [0; 118];
+/// let mut out = [0; MAX_FRAME];
 /// let n = write(&header, &[0xAA], &mut out)?;
 /// assert_eq!(&out[..n], [0x08, 0x00, 0x00, 0x00, 0x34, 0x12, 0x1E, 0x00, 0xAA]);
-/// assert_eq!(write(&header, &[0xAA], &mut out[..8]).unwrap_err().number(), 18);
-/// # Ok::<(), store_reader::Refusal>(())
+/// assert_eq!(write(&header, &[0xAA], &mut out[..8]), Err(Refusal::NO_ROOM));
+/// # Ok::<(), Refusal>(())
 /// ```
+///
+/// # Errors
+///
+/// Refusals 13, 17, 18.
 pub fn write(header: &NwkHeader, payload: &[u8], out: &mut [u8]) -> Result<usize, Refusal> {
     let record = header.record();
     // SAFETY: each pointer goes with the length of its slice, and no two slices overlap.
@@ -76,28 +89,35 @@ pub fn write(header: &NwkHeader, payload: &[u8], out: &mut [u8]) -> Result<usize
     })
 }
 
-/// Seals a frame to the front of the output, and gives its length. Refusals 13, 14, 15, 17, 18.
+/// Seals a frame to the front of the output, and gives its length. The caller sees to it that no frame counter is sealed twice
+/// under one key by one device: two such frames repeat the key stream.
 ///
 /// ```
-/// use store_reader::{open, seal, Eui64, Key, Nwk, NwkAuxHeader, NwkFrameType, NwkHeader};
+/// use store_reader::{
+///     open, seal, Eui64, Key, Nwk, NwkAuxHeader, NwkFrameType, NwkHeader, Refusal, MAX_FRAME, MAX_PAYLOAD,
+/// };
 ///
 /// let key: Key = "C0C1C2C3C4C5C6C7C8C9CACBCCCDCECF".parse().unwrap();
 /// let mut header = NwkHeader::new(NwkFrameType::Data, Nwk(0x1234), Nwk(0x0000));
 /// header.frame_control.security = true;
 /// let auxiliary = NwkAuxHeader::new(0x12345, Eui64([1, 2, 3, 4, 5, 6, 7, 8]));
 ///
-/// let mut frame = [0; 118];
+/// let mut frame = [0; MAX_FRAME];
 /// let n = seal(&key, &header, Some(&auxiliary), b"21.5 C", &mut frame)?;
 /// assert_eq!(n, 8 + 14 + 6 + 4);
 ///
-/// let mut out = [0; 108];
+/// let mut out = [0; MAX_PAYLOAD];
 /// let opened = open(&key, &frame[..n], &mut out)?;
 /// assert_eq!((opened.header, opened.auxiliary, opened.payload), (header, auxiliary, &b"21.5 C"[..]));
 ///
 /// frame[n - 1] ^= 1;
-/// assert_eq!(open(&key, &frame[..n], &mut out).unwrap_err().number(), 19);
-/// # Ok::<(), store_reader::Refusal>(())
+/// assert_eq!(open(&key, &frame[..n], &mut out), Err(Refusal::WRONG_MIC));
+/// # Ok::<(), Refusal>(())
 /// ```
+///
+/// # Errors
+///
+/// Refusals 13, 14, 15, 17, 18.
 pub fn seal(
     key: &Key,
     header: &NwkHeader,
@@ -125,11 +145,15 @@ pub fn seal(
     })
 }
 
-/// Opens a sealed frame; its payload stands at the front of the output, of which 108 bytes are always enough. Refusals 1 to
-/// 12, 14, 15, 16, 18, 19. An example stands at [`seal`].
+/// Opens a sealed frame; its payload stands at the front of the output, of which [`MAX_PAYLOAD`](crate::MAX_PAYLOAD) bytes are
+/// always enough. An example stands at [`seal`].
+///
+/// # Errors
+///
+/// Refusals 1 to 12, 14, 15, 16, 18, 19.
 pub fn open<'a>(key: &Key, frame: &[u8], out: &'a mut [u8]) -> Result<OpenedFrame<'a>, Refusal> {
     let (first, second) = key.halves();
-    let mut records = Records::new();
+    let mut record = OpenedRecord::new();
     // SAFETY: each pointer goes with the length of its slice, and no two slices overlap.
     let answer = unsafe {
         sys::nwk_open(
@@ -137,16 +161,13 @@ pub fn open<'a>(key: &Key, frame: &[u8], out: &'a mut [u8]) -> Result<OpenedFram
             second,
             frame.as_ptr(),
             frame.len(),
-            records.header.as_mut_ptr(),
-            records.header.len(),
-            records.auxiliary.as_mut_ptr(),
-            records.auxiliary.len(),
+            record.0.as_mut_ptr(),
+            record.0.len(),
             out.as_mut_ptr(),
             out.len(),
         )
     };
     let n = length(answer)?;
-    let (header, auxiliary) = records.headers()?;
-    let auxiliary = auxiliary.ok_or(Refusal::UNDECLARED)?;
+    let (header, auxiliary) = record.headers()?;
     Ok(OpenedFrame { header, auxiliary, payload: out.get(..n).unwrap_or(&[]) })
 }

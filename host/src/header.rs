@@ -2,37 +2,75 @@
 use crate::codes::codes;
 use crate::record::{Putter, Taker};
 use crate::refusal::length;
-use crate::{sys, Eui64, Nwk, Refusal};
+use crate::{sys, Eui64, List, Nwk, Refusal};
 
 const HEADER_RECORD: usize = 147;
 const AUXILIARY_RECORD: usize = 19;
+const OPENED_RECORD: usize = 182;
+
+/// Where an opened record has the header record, and behind it the auxiliary record.
+const OPENED_HEADER_AT: usize = 16;
+
+/// How many relays a source route has places for.
 const RELAY_PLACES: usize = 54;
 
 codes! {
     /// What a frame carries.
-    NwkFrameType { Data = 0, Command = 1, Interpan = 3 }
+    NwkFrameType {
+        /// A payload for the layer above.
+        Data = 0,
+        /// A NWK command.
+        Command = 1,
+        /// A frame between networks. By the standard its NWK header is the frame control alone; the codec, as the Rust,
+        /// reads a whole one.
+        Interpan = 3,
+    }
 }
 
 codes! {
     /// How a route may be looked for.
-    NwkRouteDiscovery { Suppress = 0, Enable = 1, WithMulticast = 2 }
+    NwkRouteDiscovery {
+        /// No route is looked for.
+        Suppress = 0,
+        /// A route is looked for where none is known.
+        Enable = 1,
+        /// Reserved by the standard, and read as the Rust does.
+        WithMulticast = 2,
+    }
 }
 
 codes! {
     /// Which key sealed a frame.
-    NwkSecurityHeaderKeyId { DataKey = 0, NetworkKey = 1, KeyTransportKey = 2, KeyLoadKey = 3 }
+    NwkSecurityHeaderKeyId {
+        /// A link key.
+        DataKey = 0,
+        /// The network key, which seals NWK frames.
+        NetworkKey = 1,
+        /// The key that transports another.
+        KeyTransportKey = 2,
+        /// The key that loads another.
+        KeyLoadKey = 3,
+    }
 }
 
 codes! {
     /// How a frame is protected. Sealing authenticates `EncMic32` and sends `NoSecurity`, whatever it is handed.
     NwkSecurityLevel {
+        /// Neither; the level that is sent.
         NoSecurity = 0,
+        /// A MIC of 4 bytes.
         Mic32 = 1,
+        /// A MIC of 8 bytes.
         Mic64 = 2,
+        /// A MIC of 16 bytes.
         Mic128 = 3,
+        /// Encryption alone.
         Enc = 4,
+        /// Encryption and a MIC of 4 bytes; the level that is authenticated.
         EncMic32 = 5,
+        /// Encryption and a MIC of 8 bytes.
         EncMic64 = 6,
+        /// Encryption and a MIC of 16 bytes.
         EncMic128 = 7,
     }
 }
@@ -40,15 +78,23 @@ codes! {
 /// Frame control. Writing writes the presence bits as they are here, and goes by the fields present.
 #[derive(Debug, Clone, Copy, PartialEq, Eq)]
 pub struct NwkFrameControl {
+    /// What the frame carries.
     pub frame_type: NwkFrameType,
     /// 0 to 15; Zigbee's is 2.
     pub protocol_version: u8,
+    /// How a route may be looked for.
     pub discover_route: NwkRouteDiscovery,
+    /// The presence bit of the multicast control.
     pub multicast: bool,
+    /// Whether the frame is sealed: an auxiliary header follows.
     pub security: bool,
+    /// The presence bit of the source route.
     pub source_route: bool,
+    /// The presence bit of the destination's long address.
     pub destination: bool,
+    /// The presence bit of the source's long address.
     pub extended_source: bool,
+    /// Whether an end device made the frame.
     pub end_device_initiator: bool,
     /// Bits 14 and 15.
     pub reserved1: u8,
@@ -57,8 +103,10 @@ pub struct NwkFrameControl {
 /// The relays of a frame that is routed by its source, 54 at most.
 #[derive(Debug, Clone, PartialEq, Eq)]
 pub struct NwkSourceRoute {
+    /// Which relay is next; it is not compared with their number.
     pub relay_index: u8,
-    pub relays: Vec<Nwk>,
+    /// The relays, the one nearest to the destination first.
+    pub relays: List<Nwk, RELAY_PLACES>,
 }
 
 /// The NWK header.
@@ -76,19 +124,29 @@ pub struct NwkSourceRoute {
 /// ```
 #[derive(Debug, Clone, PartialEq, Eq)]
 pub struct NwkHeader {
+    /// The frame's type, and the bits that say which fields follow.
     pub frame_control: NwkFrameControl,
+    /// Whom the frame is for.
     pub destination: Nwk,
+    /// Who made it.
     pub source: Nwk,
+    /// How many hops it may still take.
     pub radius: u8,
+    /// A number that each of the source's frames raises.
     pub sequence_number: u8,
+    /// The destination's long address.
     pub destination_ieee: Option<Eui64>,
+    /// The source's long address.
     pub source_ieee: Option<Eui64>,
+    /// The multicast control byte.
     pub multicast_control: Option<u8>,
+    /// The way that the source has chosen.
     pub source_route: Option<NwkSourceRoute>,
 }
 
 impl NwkHeader {
     /// A header of version 2 without optional fields, every bit off.
+    #[must_use]
     pub fn new(frame_type: NwkFrameType, source: Nwk, destination: Nwk) -> Self {
         Self {
             frame_control: NwkFrameControl {
@@ -114,7 +172,11 @@ impl NwkHeader {
         }
     }
 
-    /// Reads the header at the front of the bytes, and gives how many bytes it takes. Refusals 1 to 8.
+    /// Reads the header at the front of the bytes, and gives how many bytes it takes.
+    ///
+    /// # Errors
+    ///
+    /// Refusals 1 to 8.
     pub fn read(bytes: &[u8]) -> Result<(Self, usize), Refusal> {
         let mut record = [0; HEADER_RECORD];
         // SAFETY: each pointer goes with the length of its slice, and no two slices overlap.
@@ -123,7 +185,11 @@ impl NwkHeader {
         Ok((Self::from_record(&record)?, n))
     }
 
-    /// Writes the header to the front of the output, and gives how many bytes it takes. Refusals 13, 17, 18.
+    /// Writes the header to the front of the output, and gives how many bytes it takes.
+    ///
+    /// # Errors
+    ///
+    /// Refusals 13, 17, 18.
     pub fn write(&self, out: &mut [u8]) -> Result<usize, Refusal> {
         let record = self.record();
         // SAFETY: each pointer goes with the length of its slice, and no two slices overlap.
@@ -152,7 +218,7 @@ impl NwkHeader {
             destination_ieee: r.optional(Taker::eui64),
             source_ieee: r.optional(Taker::eui64),
             multicast_control: r.optional(Taker::byte),
-            source_route: r.optional(source_route),
+            source_route: source_route(&mut r)?,
         })
     }
 
@@ -180,9 +246,9 @@ impl NwkHeader {
         r.bit(self.source_route.is_some());
         if let Some(route) = &self.source_route {
             // The count stands before the index, and the relays behind it.
-            r.byte(u8::try_from(route.relays.len()).unwrap_or(u8::MAX));
+            r.count(&route.relays);
             r.byte(route.relay_index);
-            for relay in route.relays.iter().take(RELAY_PLACES) {
+            for relay in &route.relays {
                 r.address(*relay);
             }
         }
@@ -190,18 +256,23 @@ impl NwkHeader {
     }
 }
 
-fn source_route(r: &mut Taker<'_>) -> NwkSourceRoute {
+fn source_route(r: &mut Taker<'_>) -> Result<Option<NwkSourceRoute>, Refusal> {
+    let present = r.bit();
     let count = r.byte();
-    NwkSourceRoute { relay_index: r.byte(), relays: (0..count).map(|_| r.address()).collect() }
+    let route = NwkSourceRoute { relay_index: r.byte(), relays: r.entries(count, Taker::address)? };
+    Ok(present.then_some(route))
 }
 
 /// The security control byte of an auxiliary header.
 #[derive(Debug, Clone, Copy, PartialEq, Eq)]
 pub struct NwkSecurityHeaderControlField {
+    /// The level as received; what is sent is always level 0.
     pub security_level: NwkSecurityLevel,
+    /// Which key sealed the frame.
     pub key_id: NwkSecurityHeaderKeyId,
     /// The presence bit of the long address; written as it is here.
     pub extended_nonce: bool,
+    /// Whether the receiver is to have verified the counter.
     pub require_verified_frame_counter: bool,
 }
 
@@ -216,14 +287,19 @@ pub struct NwkSecurityHeaderControlField {
 /// ```
 #[derive(Debug, Clone, Copy, PartialEq, Eq)]
 pub struct NwkAuxHeader {
+    /// The security control byte.
     pub security_control: NwkSecurityHeaderControlField,
+    /// A number that each sealed frame of a device raises. Under one key no device may seal two frames with the same one.
     pub frame_counter: u32,
+    /// The long address of the device that sealed the frame: on each hop the one that sends.
     pub extended_source: Option<Eui64>,
+    /// Which of the network's keys sealed the frame.
     pub key_sequence_number: u8,
 }
 
 impl NwkAuxHeader {
     /// The auxiliary header of a frame under the network key, with its sender's long address for the nonce.
+    #[must_use]
     pub fn new(frame_counter: u32, extended_source: Eui64) -> Self {
         Self {
             security_control: NwkSecurityHeaderControlField {
@@ -238,19 +314,25 @@ impl NwkAuxHeader {
         }
     }
 
-    /// Reads the auxiliary header at the front of the bytes, and gives how many bytes it takes. Refusals 1, 9, 10, 11.
+    /// Reads the auxiliary header at the front of the bytes, and gives how many bytes it takes.
+    ///
+    /// # Errors
+    ///
+    /// Refusals 1, 9, 10, 11.
     pub fn read(bytes: &[u8]) -> Result<(Self, usize), Refusal> {
         let mut record = [0; AUXILIARY_RECORD];
         // SAFETY: each pointer goes with the length of its slice, and no two slices overlap.
         let answer = unsafe { sys::nwk_read_auxiliary(bytes.as_ptr(), bytes.len(), record.as_mut_ptr(), record.len()) };
         let n = length(answer)?;
-        match Self::from_record(&record)? {
-            Some(auxiliary) => Ok((auxiliary, n)),
-            None => Err(Refusal::UNDECLARED),
-        }
+        let auxiliary = Self::from_record(&record)?.ok_or(Refusal::INTERNAL)?;
+        Ok((auxiliary, n))
     }
 
-    /// Writes the auxiliary header to the front of the output, and gives how many bytes it takes. Refusals 13, 18.
+    /// Writes the auxiliary header to the front of the output, and gives how many bytes it takes.
+    ///
+    /// # Errors
+    ///
+    /// Refusal 18.
     pub fn write(&self, out: &mut [u8]) -> Result<usize, Refusal> {
         let record = Self::record(Some(self));
         // SAFETY: each pointer goes with the length of its slice, and no two slices overlap.
@@ -307,5 +389,23 @@ impl Records {
 
     pub fn headers(&self) -> Result<(NwkHeader, Option<NwkAuxHeader>), Refusal> {
         Ok((NwkHeader::from_record(&self.header)?, NwkAuxHeader::from_record(&self.auxiliary)?))
+    }
+}
+
+/// Room for an opened record, as the codec fills it.
+pub(crate) struct OpenedRecord(pub [u8; OPENED_RECORD]);
+
+impl OpenedRecord {
+    pub fn new() -> Self {
+        Self([0; OPENED_RECORD])
+    }
+
+    /// The two headers. An opened frame has both.
+    pub fn headers(&self) -> Result<(NwkHeader, NwkAuxHeader), Refusal> {
+        let (_, records) = self.0.split_at(OPENED_HEADER_AT);
+        let (header, auxiliary) = records.split_at(HEADER_RECORD);
+        let header = header.try_into().map_err(|_| Refusal::INTERNAL)?;
+        let auxiliary = auxiliary.try_into().map_err(|_| Refusal::INTERNAL)?;
+        Ok((NwkHeader::from_record(header)?, NwkAuxHeader::from_record(auxiliary)?.ok_or(Refusal::INTERNAL)?))
     }
 }

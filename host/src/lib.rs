@@ -1,39 +1,49 @@
 //! Zigbee NWK frames for the gateway: reading, writing, sealing and opening through a codec whose every function is proved.
 //!
 //! An operation succeeds, or it is refused by a number whose condition is written down ([`Refusal`]) and nothing lent to it
-//! has changed. No input of any length or content makes an operation panic.
+//! has changed. No input of any length or content makes an operation panic. The library needs neither the standard library
+//! nor an allocator, and depends on no other crate.
 //!
 //! ```
-//! use store_reader::{open, seal, Eui64, Key, Nwk, NwkAuxHeader, NwkFrameType, NwkHeader};
+//! use store_reader::{
+//!     open, seal, Eui64, Key, Nwk, NwkAuxHeader, NwkFrameType, NwkHeader, Refusal, MAX_FRAME, MAX_PAYLOAD,
+//! };
 //!
 //! let key: Key = "C0C1C2C3C4C5C6C7C8C9CACBCCCDCECF".parse().unwrap();
 //! let mut header = NwkHeader::new(NwkFrameType::Data, Nwk(0x1234), Nwk(0x0000));
 //! header.frame_control.security = true;
 //! let probe: Eui64 = "00:12:4B:00:1C:A1:B2:C3".parse().unwrap();
 //!
-//! let mut frame = [0; 118];
+//! let mut frame = [0; MAX_FRAME];
 //! let n = seal(&key, &header, Some(&NwkAuxHeader::new(1, probe)), b"21.5 C", &mut frame)?;
-//! let mut out = [0; 108];
+//! let mut out = [0; MAX_PAYLOAD];
 //! assert_eq!(open(&key, &frame[..n], &mut out)?.payload, b"21.5 C");
 //!
 //! // The last byte lost: the MIC is then not the one computed.
 //! let refusal = open(&key, &frame[..n - 1], &mut out).unwrap_err();
+//! assert_eq!(refusal, Refusal::WRONG_MIC);
 //! assert_eq!(refusal.to_string(), "refused by 19: the MIC is not the one computed");
-//! # Ok::<(), store_reader::Refusal>(())
+//! # Ok::<(), Refusal>(())
 //! ```
+#![no_std]
+#![deny(missing_docs)]
+#![warn(clippy::missing_errors_doc, clippy::must_use_candidate)]
+
 mod address;
 mod cipher;
 mod codes;
 mod command;
 mod frame;
 mod header;
+mod list;
 mod record;
 mod refusal;
 #[doc(hidden)]
+#[allow(missing_docs, clippy::missing_safety_doc)]
 pub mod sys;
 
 pub use address::{hex, Eui64, HexError, Key, Nwk, PanId};
-pub use cipher::{decrypt_ccm, encrypt_block, encrypt_ccm};
+pub use cipher::{decrypt_ccm, encrypt_block, encrypt_ccm, split_mic};
 pub use command::{
     timeout_seconds, EndDeviceTimeout, Nwk802154AssociationStatus, NwkCommand, NwkCommandId, NwkCommissioningType,
     NwkEndDeviceTimeoutResponseStatus, NwkLinkPowerDeltaType, NwkLinkStatus, NwkNetworkStatus, NwkPowerListEntry,
@@ -44,7 +54,14 @@ pub use header::{
     NwkAuxHeader, NwkFrameControl, NwkFrameType, NwkHeader, NwkRouteDiscovery, NwkSecurityHeaderControlField,
     NwkSecurityHeaderKeyId, NwkSecurityLevel, NwkSourceRoute,
 };
+pub use list::{Full, List};
 pub use refusal::Refusal;
+
+/// The most bytes that a frame has.
+pub const MAX_FRAME: usize = 118;
+
+/// The most bytes that a payload or a command has.
+pub const MAX_PAYLOAD: usize = 108;
 
 /// The README's example.
 #[cfg(doctest)]

@@ -1,17 +1,32 @@
 //! `store-reader`: shows what is in a capture of NWK frames, and why a frame was refused.
 mod cli {
+    pub mod answer;
     pub mod arguments;
+    pub mod bytes;
+    pub mod csv;
     pub mod describe;
+    pub mod keys;
+    pub mod lines;
+    pub mod link;
     pub mod mac;
+    pub mod pcap;
+    pub mod pcapng;
+    pub mod progress;
+    pub mod protocol;
     pub mod run;
+    pub mod seal;
+    pub mod senders;
+    pub mod show;
     pub mod source;
     pub mod summary;
+    pub mod time;
     pub mod value;
 }
 
-use cli::arguments::{parse, Parsed};
-use cli::run::{complain, Failure};
-use std::io::{self, ErrorKind, Write};
+use cli::arguments::{parse, Arguments, Parsed};
+use cli::run::Failure;
+use cli::show::complain;
+use std::io::{self, BufWriter, ErrorKind, IsTerminal, Write};
 use std::process::ExitCode;
 
 const HELP: &str = include_str!("cli/help.txt");
@@ -20,16 +35,31 @@ const HELP: &str = include_str!("cli/help.txt");
 const USAGE: u8 = 2;
 
 fn main() -> ExitCode {
-    let mut out = io::stdout().lock();
-    match arguments().and_then(|given| parse(given.into_iter())) {
-        Ok(Parsed::Run(arguments)) => cli::run::run(&arguments, &mut out).map_or_else(failed, ExitCode::from),
-        Ok(Parsed::Help) => print(&mut out, HELP),
-        Ok(Parsed::Version) => print(&mut out, concat!("store-reader ", env!("CARGO_PKG_VERSION"), "\n")),
-        Err(why) => {
-            complain(&format!("{why}\nstore-reader --help says more"));
-            ExitCode::from(USAGE)
-        }
+    let ended = match arguments().and_then(|given| parse(given.into_iter())) {
+        Ok(Parsed::Run(arguments)) => run(&arguments),
+        Ok(Parsed::Help) => print(HELP),
+        Ok(Parsed::Version) => print(concat!("store-reader ", env!("CARGO_PKG_VERSION"), "\n")),
+        Err(why) => Err(Failure::Input(format!("{why}\nstore-reader --help says more"))),
+    };
+    ended.map_or_else(failed, ExitCode::from)
+}
+
+/// Runs a command. What it prints comes line by line on a terminal, else through a buffer.
+fn run(arguments: &Arguments) -> Result<u8, Failure> {
+    let mut stdout = io::stdout().lock();
+    if stdout.is_terminal() {
+        return cli::run::run(arguments, wants_colour(), &mut stdout);
     }
+    let mut buffered = BufWriter::new(stdout);
+    let status = cli::run::run(arguments, false, &mut buffered)?;
+    buffered.flush()?;
+    Ok(status)
+}
+
+/// Whether a terminal is to be coloured: unless `NO_COLOR` is set to something, or the terminal knows no colours.
+fn wants_colour() -> bool {
+    let is_set = |name: &str| std::env::var_os(name).is_some_and(|value| !value.is_empty());
+    !is_set("NO_COLOR") && std::env::var_os("TERM").is_some_and(|term| term != "dumb")
 }
 
 /// The arguments behind the program's name.
@@ -38,11 +68,9 @@ fn arguments() -> Result<Vec<String>, String> {
     given.collect::<Result<_, _>>().map_err(|argument| format!("{argument:?} is not written in UTF-8"))
 }
 
-fn print(out: &mut impl Write, text: &str) -> ExitCode {
-    match out.write_all(text.as_bytes()) {
-        Ok(()) => ExitCode::SUCCESS,
-        Err(e) => failed(Failure::Output(e)),
-    }
+fn print(text: &str) -> Result<u8, Failure> {
+    io::stdout().write_all(text.as_bytes())?;
+    Ok(0)
 }
 
 /// A reader that has gone away is no error to report.

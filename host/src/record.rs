@@ -1,5 +1,5 @@
 //! Records of the C functions, taken and put field by field from the front.
-use crate::{Eui64, Nwk, Refusal};
+use crate::{Eui64, List, Nwk, Refusal};
 
 /// A record read from its front; behind its end every byte is 0.
 pub(crate) struct Taker<'a> {
@@ -35,7 +35,7 @@ impl<'a> Taker<'a> {
     }
 
     pub fn eui64(&mut self) -> Eui64 {
-        Eui64(std::array::from_fn(|_| self.byte()))
+        Eui64(core::array::from_fn(|_| self.byte()))
     }
 
     /// A field behind its presence byte.
@@ -45,15 +45,31 @@ impl<'a> Taker<'a> {
         present.then_some(field)
     }
 
-    /// A code of one byte; 13 for one that is not declared, which the codec never gives.
+    /// A code of one byte. The codec gives declared ones only.
     pub fn code<T>(&mut self, from_code: impl Fn(u8) -> Option<T>) -> Result<T, Refusal> {
-        from_code(self.byte()).ok_or(Refusal::UNDECLARED)
+        from_code(self.byte()).ok_or(Refusal::INTERNAL)
     }
 
     /// A list behind its count.
-    pub fn list<T>(&mut self, take: impl Fn(&mut Self) -> T) -> Vec<T> {
+    pub fn list<T: Copy + Default, const PLACES: usize>(
+        &mut self,
+        take: impl Fn(&mut Self) -> T,
+    ) -> Result<List<T, PLACES>, Refusal> {
         let count = self.byte();
-        (0..count).map(|_| take(self)).collect()
+        self.entries(count, take)
+    }
+
+    /// So many entries. The codec gives no more than the list has places for.
+    pub fn entries<T: Copy + Default, const PLACES: usize>(
+        &mut self,
+        count: u8,
+        take: impl Fn(&mut Self) -> T,
+    ) -> Result<List<T, PLACES>, Refusal> {
+        let mut list = List::new();
+        for _ in 0..count {
+            list.push(take(self)).map_err(|_| Refusal::INTERNAL)?;
+        }
+        Ok(list)
     }
 }
 
@@ -95,10 +111,15 @@ impl<'a> Putter<'a> {
         self.bytes(&field.unwrap_or([0; N]));
     }
 
-    /// A list's count and its entries, as many as it has places. A count over 255 is put as 255, which every list refuses.
-    pub fn list<T>(&mut self, list: &[T], places: usize, put: impl Fn(&mut Self, &T)) {
+    /// A list's count. No list has places for more than 108 entries.
+    pub fn count<T>(&mut self, list: &[T]) {
         self.byte(u8::try_from(list.len()).unwrap_or(u8::MAX));
-        for entry in list.iter().take(places) {
+    }
+
+    /// A list's count and its entries.
+    pub fn list<T>(&mut self, list: &[T], put: impl Fn(&mut Self, &T)) {
+        self.count(list);
+        for entry in list {
             put(self, entry);
         }
     }

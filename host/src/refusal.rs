@@ -1,29 +1,43 @@
 //! Why something was refused: a number of the list, and its condition in words.
-use std::error::Error;
-use std::fmt;
+use core::error::Error;
+use core::fmt;
 
-/// The conditions, number 1 first.
-const CONDITIONS: [&str; 19] = [
-    "a frame, or the bytes given to read a header or an auxiliary header, are more than 118; or authenticated data or a payload handed to CCM alone is more than 127",
-    "a header has fewer than 8 bytes",
-    "the frame type is 2",
-    "discovery is 3",
-    "fewer than 8 bytes remain for a destination IEEE",
-    "fewer than 8 bytes remain for a source IEEE",
-    "no byte remains for multicast control",
-    "a source route has fewer than 2 + 2n bytes for its n relays, or fewer than 2",
-    "an auxiliary header has fewer than 6 bytes",
-    "an auxiliary header with extended nonce has 6 to 12 bytes",
-    "an auxiliary header with extended nonce has exactly 13 bytes",
-    "an unsecured payload, or a command to read, has more than 108 bytes",
-    "a field to write exceeds its bits or has an undeclared code, or a list exceeds its places",
-    "sealing or opening has no auxiliary header",
-    "sealing or opening has neither an auxiliary nor a header source IEEE",
-    "ciphertext with MIC has fewer than 4 bytes",
-    "the bytes to write exceed 118 for a header or frame, or 108 for a payload, alone or in a frame",
-    "the lent output is shorter than what is to be written",
-    "the MIC is not the one computed",
-];
+/// The list's names, numbers and conditions, each said once; number 1 first.
+macro_rules! refusals {
+    ($($name:ident = $number:literal, $condition:literal;)+) => {
+        impl Refusal {
+            $(
+                #[doc = concat!(stringify!($number), ": ", $condition, ".")]
+                pub const $name: Self = Self($number);
+            )+
+        }
+
+        /// Each refusal with its name in the list.
+        const LIST: &[(Refusal, &str, &str)] = &[$((Refusal::$name, stringify!($name), $condition)),+];
+    };
+}
+
+refusals! {
+    TOO_LONG = 1, "a frame, or the bytes given to read a header or an auxiliary header, are more than 118; or authenticated data or a payload handed to CCM alone is more than 127";
+    SHORT_HEADER = 2, "a header has fewer than 8 bytes";
+    FRAME_TYPE = 3, "the frame type is 2";
+    DISCOVERY = 4, "discovery is 3";
+    DESTINATION_IEEE = 5, "fewer than 8 bytes remain for a destination IEEE";
+    SOURCE_IEEE = 6, "fewer than 8 bytes remain for a source IEEE";
+    MULTICAST = 7, "no byte remains for multicast control";
+    SOURCE_ROUTE = 8, "a source route has fewer than 2 + 2n bytes for its n relays, or fewer than 2";
+    SHORT_AUXILIARY = 9, "an auxiliary header has fewer than 6 bytes";
+    SHORT_EXTENDED = 10, "an auxiliary header with extended nonce has 6 to 12 bytes";
+    NO_KEY_SEQUENCE = 11, "an auxiliary header with extended nonce has exactly 13 bytes";
+    PAYLOAD = 12, "an unsecured payload, or a command to read, has more than 108 bytes";
+    FIELD = 13, "a field to write exceeds its bits or has an undeclared code, or a list exceeds its places";
+    NO_AUXILIARY = 14, "sealing or opening has no auxiliary header";
+    NO_IEEE = 15, "sealing or opening has neither an auxiliary nor a header source IEEE";
+    NO_MIC = 16, "ciphertext with MIC has fewer than 4 bytes";
+    LENGTH = 17, "the bytes to write exceed 118 for a header or frame, or 108 for a payload, alone or in a frame";
+    NO_ROOM = 18, "the lent output is shorter than what is to be written";
+    WRONG_MIC = 19, "the MIC is not the one computed";
+}
 
 /// A refusal. Nothing that was lent to the operation has changed.
 ///
@@ -34,39 +48,69 @@ const CONDITIONS: [&str; 19] = [
 /// assert_eq!(refusal.number(), 2);
 /// assert_eq!(refusal.to_string(), "refused by 2: a header has fewer than 8 bytes");
 /// assert_eq!(Refusal::all().count(), 19);
+///
+/// let why = match refusal {
+///     Refusal::WRONG_MIC => "damaged, or another key",
+///     Refusal::TOO_LONG | Refusal::SHORT_HEADER => "no NWK frame",
+///     _ => "another reason",
+/// };
+/// assert_eq!(why, "no NWK frame");
 /// ```
-#[derive(Debug, Clone, Copy, PartialEq, Eq, PartialOrd, Ord, Hash)]
+#[derive(Clone, Copy, PartialEq, Eq, PartialOrd, Ord, Hash)]
 pub struct Refusal(u8);
 
 impl Refusal {
+    /// Not an answer of the codec and not in the list: the codec filled in a code that this crate does not know, so the
+    /// archive is not the one that the crate was written for. The number is 255.
+    pub const INTERNAL: Self = Self(u8::MAX);
+
     /// The refusal with this number, if the list has it.
+    #[must_use]
     pub fn from_number(number: u8) -> Option<Self> {
         Self::all().find(|refusal| refusal.0 == number)
     }
 
     /// Every refusal of the list, in order.
     pub fn all() -> impl Iterator<Item = Self> {
-        (1u8..).zip(CONDITIONS).map(|(number, _)| Self(number))
+        LIST.iter().map(|(refusal, _, _)| *refusal)
     }
 
     /// The number in the list.
-    pub fn number(self) -> u8 {
+    #[must_use]
+    pub const fn number(self) -> u8 {
         self.0
     }
 
-    /// The condition that was met, in words.
-    pub fn condition(self) -> &'static str {
-        let at = usize::from(self.0).wrapping_sub(1);
-        CONDITIONS.get(at).copied().unwrap_or("a number that the list does not have")
+    /// The name of the constant, as in `Refusal::WRONG_MIC`.
+    #[must_use]
+    pub fn name(self) -> &'static str {
+        self.listed().map_or("INTERNAL", |(name, _)| name)
     }
 
-    /// A field has a code that is not declared.
-    pub(crate) const UNDECLARED: Self = Self(13);
+    /// The condition that was met, in words.
+    #[must_use]
+    pub fn condition(self) -> &'static str {
+        self.listed().map_or("the codec answered what this crate does not know", |(_, condition)| condition)
+    }
+
+    fn listed(self) -> Option<(&'static str, &'static str)> {
+        LIST.iter().find(|(refusal, _, _)| *refusal == self).map(|(_, name, condition)| (*name, *condition))
+    }
 }
 
 impl fmt::Display for Refusal {
     fn fmt(&self, f: &mut fmt::Formatter<'_>) -> fmt::Result {
-        write!(f, "refused by {}: {}", self.0, self.condition())
+        match *self {
+            Self::INTERNAL => write!(f, "internal error: {}", self.condition()),
+            _ => write!(f, "refused by {}: {}", self.0, self.condition()),
+        }
+    }
+}
+
+/// The name and the number, as in `WRONG_MIC(19)`.
+impl fmt::Debug for Refusal {
+    fn fmt(&self, f: &mut fmt::Formatter<'_>) -> fmt::Result {
+        write!(f, "{}({})", self.name(), self.0)
     }
 }
 

@@ -37,10 +37,8 @@ extern "C" {
         key_second: u64,
         bytes: *const u8,
         bytes_len: usize,
-        header: *mut u8,
-        header_len: usize,
-        auxiliary: *mut u8,
-        auxiliary_len: usize,
+        opened: *mut u8,
+        opened_len: usize,
         out: *mut u8,
         out_len: usize,
     ) -> u64;
@@ -50,37 +48,27 @@ extern "C" {
     pub fn nwk_encrypt_ccm(
         key_first: u64,
         key_second: u64,
-        nonce: *const u8,
-        nonce_len: usize,
+        nonce: *const [u8; 13],
         auth: *const u8,
         auth_len: usize,
         payload: *const u8,
         payload_len: usize,
         out: *mut u8,
         out_len: usize,
-        mic: *mut u8,
-        mic_len: usize,
+        mic: *mut [u8; 4],
     ) -> u64;
     pub fn nwk_decrypt_ccm(
         key_first: u64,
         key_second: u64,
-        nonce: *const u8,
-        nonce_len: usize,
+        nonce: *const [u8; 13],
         auth: *const u8,
         auth_len: usize,
         ciphertext: *const u8,
         ciphertext_len: usize,
-        mic: *const u8,
-        mic_len: usize,
+        mic: *const [u8; 4],
         out: *mut u8,
         out_len: usize,
     ) -> u64;
-    pub fn nwk_encrypt_block(
-        key_first: u64,
-        key_second: u64,
-        block: *const u8,
-        block_len: usize,
-        out: *mut u8,
-        out_len: usize,
-    ) -> u64;
+    pub fn nwk_split_mic(bytes: *const u8, bytes_len: usize, mic: *mut [u8; 4]) -> u64;
+    pub fn nwk_encrypt_block(key_first: u64, key_second: u64, block: *const [u8; 16], out: *mut [u8; 16]) -> u64;
 }

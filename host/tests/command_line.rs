@@ -1,79 +1,64 @@
 //! `store-reader` as a user runs it: what it prints and its exit status. The sample's contents are those that
 //! `samples/capture.py` put in.
-use std::fs;
-use std::io::Write;
-use std::path::PathBuf;
-use std::process::{Command, Stdio};
+#[allow(dead_code)]
+mod support;
 
-const KEY: &str = "C0C1C2C3C4C5C6C7C8C9CACBCCCDCECF";
+use std::fs;
+use std::path::PathBuf;
+use std::process::Command;
+use support::command::{root, run, scratch, tool, KEY};
 
 /// The frame that `examples/seal_open.c` expects, made with another AES-CCM.
 const SEALED: &str = "480200003412 1E0728 45230100 0102030405060708 00 34C76392C2746D941C179CD01798E03A";
 
-struct Ran {
-    out: String,
-    err: String,
-    status: i32,
-}
-
-/// Runs the command from the repository's root with this standard input.
-fn run(arguments: &[&str], input: &[u8]) -> Ran {
-    let mut child = Command::new(env!("CARGO_BIN_EXE_store-reader"))
-        .args(arguments)
-        .current_dir(root())
-        .stdin(Stdio::piped())
-        .stdout(Stdio::piped())
-        .stderr(Stdio::piped())
-        .spawn()
-        .expect("the command starts");
-    let mut stdin = child.stdin.take().expect("standard input");
-    // A command that refuses its arguments does not read its input.
-    let _ = stdin.write_all(input);
-    drop(stdin);
-    let done = child.wait_with_output().expect("the command ends");
-    Ran {
-        out: String::from_utf8(done.stdout).expect("UTF-8"),
-        err: String::from_utf8(done.stderr).expect("UTF-8"),
-        status: done.status.code().expect("no signal"),
-    }
-}
-
-fn root() -> PathBuf {
-    PathBuf::from(env!("CARGO_MANIFEST_DIR")).join("..")
-}
-
-fn sample() -> Vec<u8> {
-    fs::read(root().join("samples/store.pcap")).expect("the sample capture")
-}
-
 /// The sample's text lines up to the summary.
-const OPENED: &str = "   1  MAC beacon
-   2  command   0x0000 -> 0xFFFC  sequence 21  counter 90210  link status: first last links [to 0x3F21 in 1 out 3, to 0x7A10 in 2 out 1]
-   3  data      0x7A10 -> 0x0000  sequence 7  counter 74565  payload 16 bytes: 000102040401010118010A0000296608
-   4  MAC acknowledgement
-   5  command   0xD105 -> 0x0000  sequence 40  counter 512  route record: relays [0x52B0, 0x3F21]
-   6  data      0xD105 -> 0x0000  sequence 41  counter 513  payload 16 bytes: 000102040401010918090A0000295C0D
-   7  data      0x0000 -> 0xD105  sequence 22  counter 90211  payload 8 bytes: 0201020404010109
-   8  data      0x7A10 -> 0x0000  sequence 8  counter 74566  refused by 19: the MIC is not the one computed
-   9  data      0x9C44 -> 0x0000  sequence 1  counter 3  refused by 19: the MIC is not the one computed
-  10  data      0x9C44 -> 0x0000  sequence 2  refused by 14: sealing or opening has no auxiliary header
-  11  command   0x7A10 -> 0x0000  sequence 9  counter 74567  end device timeout request: timeout 14 seconds 983040 configuration 0
-  12  refused by 10: an auxiliary header with extended nonce has 6 to 12 bytes  (wrong frame check sequence)
-  13  command   0x3F21 -> 0x0000  sequence 60  counter 7001  network status: status source route failure of 0xD105
-  14  command   0x3F21 -> 0x0000  sequence 61  counter 7002  unparsed: bytes 100102
-  15  refused by 3: the frame type is 2
+const OPENED: &str = "   1  2026-11-18T11:06:40.000000Z  0x1A62 0x0000>none     MAC beacon
+   2  2026-11-18T11:06:41.000000Z  0x1A62 0x0000>0xFFFF   command   0x0000 -> 0xFFFC  sequence 21  counter 90210  link status: first, last, links [to 0x3F21 in 1 out 3, to 0x7A10 in 2 out 1]
+   3  2026-11-18T11:06:42.000000Z  0x1A62 0x7A10>0x0000   data      0x7A10 -> 0x0000  sequence 7  counter 74565  payload 16 bytes: 000102040401010118010A0000296608
+   4  2026-11-18T11:06:43.000000Z  MAC acknowledgement
+   5  2026-11-18T11:06:44.000000Z  0x1A62 0x3F21>0x0000   command   0xD105 -> 0x0000  sequence 40  counter 6998  route record: relays [0x52B0, 0x3F21]
+   6  2026-11-18T11:06:45.000000Z  0x1A62 0x3F21>0x0000   data      0xD105 -> 0x0000  sequence 41  counter 6999  payload 16 bytes: 000102040401010918090A0000295C0D
+   7  2026-11-18T11:06:46.000000Z  0x1A62 0x0000>0x3F21   data      0x0000 -> 0xD105  sequence 22  counter 90211  payload 8 bytes: 0201020404010109
+   8  2026-11-18T11:06:47.000000Z  0x1A62 0x7A10>0x0000   data      0x7A10 -> 0x0000  sequence 8  counter 74566  ieee 00:12:4B:00:1C:A1:B2:C3  refused by 19: the MIC is not the one computed
+   9  2026-11-18T11:06:48.000000Z  0x1A62 0x9C44>0x0000   data      0x9C44 -> 0x0000  sequence 1  counter 3  ieee 00:12:4B:00:AA:AA:00:44  refused by 19: the MIC is not the one computed
+  10  2026-11-18T11:06:49.000000Z  0x1A62 0x9C44>0x0000   data      0x9C44 -> 0x0000  sequence 2  refused by 14: sealing or opening has no auxiliary header
+  11  2026-11-18T11:06:50.000000Z  0x1A62 0x7A10>0x0000   command   0x7A10 -> 0x0000  sequence 9  counter 74567  end device timeout request: timeout 14, seconds 983040, configuration 0
+  12  2026-11-18T11:06:51.000000Z  0x1A62 0x7A10>0x0000   data      0x7A10 -> 0x0000  sequence 10  refused by 10: an auxiliary header with extended nonce has 6 to 12 bytes  (wrong frame check sequence)
+  13  2026-11-18T11:06:52.000000Z  0x1A62 0x3F21>0x0000   command   0x3F21 -> 0x0000  sequence 60  counter 7001  network status: status source route failure, of 0xD105
+  14  2026-11-18T11:06:53.000000Z  0x1A62 0x3F21>0x0000   command   0x3F21 -> 0x0000  sequence 61  counter 7002  unparsed: bytes 100102
+  15  2026-11-18T11:06:54.000000Z  0x1A62 0x9C44>0x0000   refused by 3: the frame type is 2
+  16  2026-11-18T11:06:55.000000Z  0x1A62 0x7A10>0x0000   data      0x7A10 -> 0x0000  sequence 13  counter 74571  payload 16 bytes: 000102040401010618060A0000299808
+  17  2026-11-18T11:06:56.000000Z  0xFFFF 00:12:4B:00:AA:AA:00:44>0xFFFF  inter-PAN frame
+  18  2026-11-18T11:06:57.000000Z  0xFFFF none>0xFFFF     Green Power frame
+  19  2026-11-18T11:06:58.000000Z  0x2B73 0x0002>0x0001   6LoWPAN frame
+  20  2026-11-18T11:06:59.000000Z  0x1A62 0x7A10>0x0000   MAC data frame without a payload
 ";
 
-const SUMMARY: &str = "13 frames: 8 opened, 5 refused
+const SUMMARY: &str = "14 frames: 9 opened, 5 refused
      1 refused by 3: the frame type is 2
      1 refused by 10: an auxiliary header with extended nonce has 6 to 12 bytes
      1 refused by 14: sealing or opening has no auxiliary header
      2 refused by 19: the MIC is not the one computed
      1 with a wrong frame check sequence
-2 records without a NWK frame
+6 records without a NWK frame to open
+     1 6LoWPAN frame
+     1 Green Power frame
      1 MAC acknowledgement
      1 MAC beacon
+     1 MAC data frame without a payload
+     1 inter-PAN frame
 ";
+
+fn sample() -> Vec<u8> {
+    fs::read(root().join("samples/store.pcap")).expect("the sample capture")
+}
+
+/// The lines of a text that start with one of these numbers.
+fn numbered(text: &str, numbers: &[u64]) -> String {
+    let number = |line: &str| line.split_whitespace().next().and_then(|word| word.parse().ok());
+    let lines = text.lines().filter(|line| number(line).is_some_and(|number| numbers.contains(&number)));
+    lines.map(|line| format!("{line}\n")).collect()
+}
 
 #[test]
 fn the_sample_opens_as_it_was_made() {
@@ -88,36 +73,111 @@ fn standard_input_and_a_key_on_the_line_do_the_same() {
     assert_eq!((ran.out, ran.status), (format!("{OPENED}{SUMMARY}"), 0));
 }
 
+/// Each block of output in the README is what its command prints, `..` standing for lines left out.
 #[test]
 fn the_readme_shows_what_the_command_prints() {
     let readme = fs::read_to_string(root().join("README.md")).expect("README.md");
-    assert!(readme.contains(&format!("{OPENED}{SUMMARY}")), "README.md does not show the sample as it is printed");
-    assert!(readme.contains(&run(&["refusals"], b"").out), "README.md does not show the refusals as they are printed");
+    let mut shown = 0;
+    for block in readme.split("```text\n$ ").skip(1) {
+        let (command, rest) = block.split_once('\n').expect("a command");
+        let block = rest.split("```").next().expect("the end of a block");
+        let arguments: Vec<&str> = command.split_whitespace().skip(1).collect();
+        let mut printed = run(&arguments, b"").out;
+        for part in block.split("..\n") {
+            let at = printed.find(part).unwrap_or_else(|| panic!("{command} does not print, in this place:\n{part}"));
+            printed.drain(..at + part.len());
+        }
+        shown += 1;
+    }
+    assert!(shown >= 2, "the README shows {shown} commands with what they print");
 }
 
 #[test]
-fn the_list_of_refusals_is_the_documents() {
-    let ran = run(&["refusals"], b"");
-    let table = fs::read_to_string(root().join("docs/REFUSALS.md")).expect("docs/REFUSALS.md");
-    assert_eq!((ran.out.lines().count(), ran.status), (19, 0));
-    for line in ran.out.lines() {
-        let (number, condition) = line.trim().split_once("  ").expect("a number and a condition");
-        let row = format!("| {number} | {condition}");
-        assert!(table.contains(&row), "docs/REFUSALS.md has no row {row:?}");
+fn filters_choose_what_is_printed_and_not_what_is_counted() {
+    let open = |options: &[&str]| {
+        let arguments = [&["open", "--key", KEY], options, &["samples/store.pcap"]].concat();
+        let ran = run(&arguments, b"");
+        assert_eq!((ran.err.as_str(), ran.status), ("", 0));
+        ran.out
+    };
+    assert_eq!(open(&["--summary-only"]), SUMMARY);
+    assert_eq!(open(&["--refused"]), numbered(OPENED, &[8, 9, 10, 12, 15]) + SUMMARY);
+    assert_eq!(open(&["--source", "0xD105"]), numbered(OPENED, &[5, 6]) + SUMMARY);
+    // The router made two frames and passed two on, which its long address stands in.
+    assert_eq!(open(&["--source", "00:12:4B:00:1C:A1:00:02"]), numbered(OPENED, &[5, 6, 13, 14]) + SUMMARY);
+    assert_eq!(open(&["--source=d105", "--source=0000"]), numbered(OPENED, &[2, 5, 6, 7]) + SUMMARY);
+    assert_eq!(open(&["--source", "0x7A10", "--refused"]), numbered(OPENED, &[8, 12]) + SUMMARY);
+    let json = open(&["--summary-only", "--json"]);
+    assert!(json.starts_with(r#"{"summary":{"frames":14,"#) && json.lines().count() == 1, "{json}");
+}
+
+#[test]
+fn several_keys_are_told_by_their_place() {
+    let ran = run(&["open", "--key-file", "samples/store.keys", "samples/store.pcap"], b"");
+    let ninth =
+        "   9  2026-11-18T11:06:48.000000Z  0x1A62 0x9C44>0x0000   data      0x9C44 -> 0x0000  sequence 1  counter 3  \
+                 key 2  payload 16 bytes: 000102040401010118010A000029C607\n";
+    assert_eq!(numbered(&ran.out, &[9]).lines().next(), ninth.lines().next());
+    assert!(ran.out.contains("counter 74565  key 1  payload"), "{}", ran.out);
+    assert!(
+        ran.out.contains("14 frames: 10 opened, 4 refused\n     9 opened with key 1\n     1 opened with key 2\n"),
+        "{}",
+        ran.out
+    );
+    assert!(!ran.out.contains(KEY) && !ran.out.contains("C0C1C2C3"), "a key is printed");
+    let other = "000102030405060708090A0B0C0D0E0F";
+    let ran = run(&["open", "--key", other, "--key-file=samples/store.key", "--json", "samples/store.pcap"], b"");
+    assert!(ran.out.contains(r#""opened_with_key":2,"payload":"000102040401010118010A0000296608""#), "{}", ran.out);
+    assert!(ran.out.contains(r#""opened_with":[{"key":1,"count":1},{"key":2,"count":9}]"#), "{}", ran.out);
+}
+
+/// Two keys that open the same frame, one of them with the frame's key sequence number: that one is tried first.
+#[test]
+fn a_frame_is_tried_by_its_key_sequence_number_first() {
+    let clear = b"0800000034121E07AA\n";
+    let ieee = "--ieee=0807060504030201";
+    let sealed = run(&["seal", "--key", &format!("7:{KEY}"), ieee, "--counter=1"], clear).out;
+    for (first, second, place) in [("", "7:", 2), ("7:", "", 1), ("6:", "", 2), ("6:", "5:", 1)] {
+        let keys = [format!("--key={first}{KEY}"), format!("--key={second}{KEY}")];
+        let ran = run(&["open", &keys[0], &keys[1]], sealed.as_bytes());
+        assert!(ran.out.contains(&format!("counter 1  key {place}  payload 1 byte: AA\n")), "{}", ran.out);
     }
 }
 
 #[test]
-fn a_big_endian_capture_without_fcs() {
-    let mac = [0x41, 0x88, 1, 0x62, 0x1A, 0, 0, 0x34, 0x12, 0x08, 0, 0, 0, 0x34, 0x12, 0x1E, 0x07, 0xAA];
-    let mut capture = capture_header(230, true);
-    capture.extend([0; 8]);
-    capture.extend((mac.len() as u32).to_be_bytes());
-    capture.extend((mac.len() as u32).to_be_bytes());
-    capture.extend(mac);
-    let ran = run(&["read"], &capture);
-    let expected = "   1  data      0x1234 -> 0x0000  sequence 7  payload 1 byte: AA\n1 frame: 1 read, 0 refused\n";
-    assert_eq!((ran.out.as_str(), ran.err.as_str(), ran.status), (expected, "", 0));
+fn keys_that_look_wrong_are_said_at_the_end() {
+    let other = "000102030405060708090A0B0C0D0E0E";
+    let ran = run(&["open", "--key", other, "--summary-only", "samples/store.pcap"], b"");
+    assert!(ran.out.ends_with("no key opened any of 11 sealed frames: the keys look wrong\n"), "{}", ran.out);
+    assert_eq!((ran.err.as_str(), ran.status), ("", 0));
+    let ran = run(&["open", "--key", other, "--summary-only", "--json", "samples/store.pcap"], b"");
+    assert!(ran.out.ends_with(",\"keys_look_wrong\":true}}\n"), "{}", ran.out);
+    // A table is left as it is, and the line comes on standard error.
+    let ran = run(&["open", "--key", other, "--csv", "--by-sender", "samples/store.pcap"], b"");
+    assert_eq!(ran.err, "store-reader: no key opened any of 11 sealed frames: the keys look wrong\n");
+    assert!(!ran.out.contains("wrong") && ran.status == 0, "{}", ran.out);
+    // A capture without any sealed frame says nothing of the keys.
+    let ran = run(&["open", "--key", other], b"0800000034121E07AA\n");
+    assert!(!ran.out.contains("wrong"), "{}", ran.out);
+}
+
+#[test]
+fn key_files_are_read_line_by_line() {
+    let path = scratch("some.keys");
+    let name = path.to_str().expect("UTF-8").to_string();
+    for (text, message) in [
+        (
+            format!("# none\n\n{KEY}\n1:C0C1\n"),
+            format!("{name}, line 4: behind the key sequence number: 2 bytes where 16 are expected"),
+        ),
+        ("# none\n".to_string(), format!("{name}: the file has no key")),
+        (format!("{KEY} {KEY}\n"), format!("{name}, line 1: 32 bytes where 16 are expected")),
+    ] {
+        fs::write(&path, text).expect("a key file");
+        let ran = run(&["open", "--key-file", &name], b"");
+        assert_eq!(ran.err, format!("store-reader: {message}\nstore-reader --help says more\n"));
+        assert_eq!(ran.status, 2);
+    }
 }
 
 #[test]
@@ -128,54 +188,49 @@ fn a_damaged_frame_is_counted_and_the_rest_is_opened() {
     let at = capture.windows(4).position(|w| w == counter).expect("the third record");
     capture[at + 14] ^= 0x40;
     let ran = run(&["open", "--key", KEY], &capture);
-    let line = "   3  data      0x7A10 -> 0x0000  sequence 7  counter 74565  refused by 19: the MIC is not the one \
-                computed  (wrong frame check sequence)\n";
+    let line =
+        "data      0x7A10 -> 0x0000  sequence 7  counter 74565  ieee 00:12:4B:00:1C:A1:B2:C3  refused by 19: the MIC \
+                is not the one computed  (wrong frame check sequence)\n";
     assert!(ran.out.contains(line), "{}", ran.out);
-    assert!(ran.out.contains("13 frames: 7 opened, 6 refused\n"), "{}", ran.out);
+    assert!(ran.out.contains("14 frames: 8 opened, 6 refused\n"), "{}", ran.out);
     assert_eq!((ran.err.as_str(), ran.status), ("", 0));
 }
 
+/// Whatever of the headers reads is shown beside a refusal, on the line and as JSON.
 #[test]
-fn a_capture_that_is_cut_says_where() {
-    let whole = sample();
-    let ran = run(&["open", "--key", KEY], &whole[..whole.len() - 1]);
-    assert!(ran.out.starts_with(OPENED.split("  15  ").next().unwrap()), "{}", ran.out);
-    assert!(ran.out.ends_with("1 input could not be read\n"), "{}", ran.out);
-    assert_eq!((ran.err.as_str(), ran.status), ("store-reader: record 15: the capture ends inside this record\n", 1));
-    let ran = run(&["read"], &whole[..30]);
-    let message = "store-reader: record 1: the capture ends inside this record's header\n";
-    assert_eq!((ran.err.as_str(), ran.status), (message, 1));
-}
-
-#[test]
-fn a_frame_captured_in_part_is_not_handed_to_the_codec() {
-    let mut capture = capture_header(195, false);
-    capture.extend([0; 8]);
-    capture.extend(5u32.to_le_bytes());
-    capture.extend(40u32.to_le_bytes());
-    capture.extend([0x41, 0x88, 1, 2, 3]);
-    let ran = run(&["read"], &capture);
-    let message = "store-reader: record 1: only 5 of the frame's 40 bytes were captured\n";
-    assert_eq!((ran.err.as_str(), ran.status), (message, 1));
-}
-
-#[test]
-fn captures_of_another_kind_are_refused() {
-    let other = run(&["read"], &capture_header(1, false));
-    let message =
-        "store-reader: standard input: a capture of link type 1; only IEEE 802.15.4 is read, link types 195 and 230\n";
-    assert_eq!((other.err.as_str(), other.status), (message, 2));
-    let pcapng = run(&["read"], &[0x0A, 0x0D, 0x0D, 0x0A, 0, 0]);
-    assert!(pcapng.err.contains("a pcapng capture"), "{}", pcapng.err);
-    assert_eq!(pcapng.status, 2);
-    let short = run(&["read"], &capture_header(195, false)[..20]);
-    assert_eq!(
-        (short.err.as_str(), short.status),
-        ("store-reader: standard input: the capture ends inside its header\n", 2)
-    );
-    let command = run(&["command", "samples/store.pcap"], b"");
-    assert!(command.err.contains("takes lines of hexadecimal digits"), "{}", command.err);
-    assert_eq!(command.status, 2);
+fn the_sender_of_a_refused_frame_is_kept() {
+    let header = "08 02 00 00 34 12 1E 07";
+    let auxiliary = "28 45 23 01 00 01 02 03 04 05 06 07 08 00";
+    let shown = "data      0x1234 -> 0x0000  sequence 7";
+    let long = "AA ".repeat(119 - 22);
+    for (frame, line) in [
+        (format!("{header} 28"), format!("{shown}  refused by 9: an auxiliary header has fewer than 6 bytes")),
+        (
+            format!("{header} {}", &auxiliary[..38]),
+            format!("{shown}  refused by 11: an auxiliary header with extended nonce has exactly 13 bytes"),
+        ),
+        (
+            format!("08 00 00 00 34 12 1E 07 {}", "AA ".repeat(109)),
+            format!("{shown}  refused by 12: an unsecured payload, or a command to read, has more than 108 bytes"),
+        ),
+        (
+            format!("{header} {auxiliary} {long}"),
+            format!("{shown}  counter 74565  ieee 08:07:06:05:04:03:02:01  refused by 1: a frame has more than 118 bytes"),
+        ),
+        (
+            format!("{header} {auxiliary} 00 00 00"),
+            format!("{shown}  counter 74565  ieee 08:07:06:05:04:03:02:01  refused by 16: ciphertext with MIC has fewer than 4 bytes"),
+        ),
+        ("0A 00 00 00 34 12 1E 07".to_string(), "refused by 3: the frame type is 2".to_string()),
+    ] {
+        let ran = run(&["open", "--key", KEY], frame.as_bytes());
+        assert_eq!(ran.out.lines().next(), Some(format!("   1  {line}").as_str()));
+    }
+    let ran = run(&["open", "--key", KEY, "--json"], format!("{header} {auxiliary} 00 00 00").as_bytes());
+    let json = r#"{"line":1,"refusal":16,"condition":"ciphertext with MIC has fewer than 4 bytes","type":"data","source":"0x1234","#;
+    assert!(ran.out.starts_with(json), "{}", ran.out);
+    assert!(ran.out.contains(r#""auxiliary":{"counter":74565,"#), "{}", ran.out);
+    assert!(ran.out.contains(r#""ieee":"08:07:06:05:04:03:02:01"}"#), "{}", ran.out);
 }
 
 #[test]
@@ -191,6 +246,45 @@ fn a_broken_line_is_reported_and_the_rest_is_read() {
     let errors = "store-reader: line 4: an odd number of hexadecimal digits, 3\n\
                   store-reader: line 5: column 3: 'x' is no hexadecimal digit\n";
     assert_eq!((ran.out.as_str(), ran.err.as_str(), ran.status), (expected, errors, 1));
+}
+
+/// Digits behind `0x`, with commas, and in the lines of a dump; the offset is said once to be passed over.
+#[test]
+fn digits_in_other_clothes() {
+    let expected = "data      0x1234 -> 0x0000  sequence 7  payload 9 bytes: AABBCCDDEEFF001122\n";
+    for input in [
+        "0x08, 0x00, 0x00, 0x00, 0x34, 0x12, 0x1E, 0x07, 0xAA, 0xBB, 0xCC, 0xDD, 0xEE, 0xFF, 0x00, 0x11, 0x22\n",
+        "0x0800000034121E07AABBCCDDEEFF001122\n",
+        "0800 00 00 34 12 1E 07 AA BB CC DD EE FF 00 11 22\n",
+    ] {
+        let ran = run(&["read"], input.as_bytes());
+        assert_eq!(ran.out, format!("   1  {expected}1 frame: 1 read, 0 refused\n"));
+        assert_eq!((ran.err.as_str(), ran.status), ("", 0));
+    }
+    let dump = "0000  08 00 00 00 34 12 1e 07 aa bb cc dd ee ff 00 11   ....4...........\n0010  22   \"\n\n\
+                00000000  08 00 00 00 34 12 1e 07  aa bb cc dd ee ff 00 11  |....4...........|\n00000010  22  |\"|\n";
+    let ran = run(&["read"], dump.as_bytes());
+    assert_eq!(ran.out, format!("   1  {expected}   4  {expected}2 frames: 2 read, 0 refused\n"));
+    let said = "store-reader: line 1: the offset in front is passed over, here and in what follows\n";
+    assert_eq!((ran.err.as_str(), ran.status), (said, 0));
+}
+
+/// What these programs print of a frame of 17 bytes, where they are installed.
+#[test]
+fn dumps_of_other_programs() {
+    let frame = [0x08, 0, 0, 0, 0x34, 0x12, 0x1E, 0x07, 0xAA, 0xBB, 0xCC, 0xDD, 0xEE, 0xFF, 0x00, 0x11, 0x22];
+    let path = scratch("frame.bin");
+    fs::write(&path, frame).expect("a file");
+    let name = path.to_str().expect("UTF-8");
+    for command in [&["hexdump", "-C"][..], &["od", "-A", "x", "-t", "x1"], &["xxd"], &["xxd", "-g1"]] {
+        let Some(dump) = tool(command[0], &[&command[1..], &[name]].concat()) else {
+            continue;
+        };
+        let out = run(&["read"], &dump.stdout).out;
+        let expected =
+            "   1  data      0x1234 -> 0x0000  sequence 7  payload 9 bytes: AABBCCDDEEFF001122\n1 frame: 1 read";
+        assert!(out.starts_with(expected), "{command:?}: {out}");
+    }
 }
 
 #[test]
@@ -237,6 +331,30 @@ fn full_shows_every_field() {
     assert_eq!((ran.out.as_str(), ran.status), (expected, 0));
 }
 
+/// The summary as comma-separated values: what is counted, the number, how many, the condition.
+#[test]
+fn the_summary_as_a_table() {
+    let ran = run(&["open", "--key", KEY, "--csv", "samples/store.pcap"], b"");
+    let expected = "counted,refusal,count,condition
+opened,,9,
+refused,3,1,the frame type is 2
+refused,10,1,an auxiliary header with extended nonce has 6 to 12 bytes
+refused,14,1,sealing or opening has no auxiliary header
+refused,19,2,the MIC is not the one computed
+not a NWK frame,,1,6LoWPAN frame
+not a NWK frame,,1,Green Power frame
+not a NWK frame,,1,MAC acknowledgement
+not a NWK frame,,1,MAC beacon
+not a NWK frame,,1,MAC data frame without a payload
+not a NWK frame,,1,inter-PAN frame
+wrong frame check sequence,,1,
+not read,,0,
+";
+    assert_eq!((ran.out.as_str(), ran.err.as_str(), ran.status), (expected, "", 0));
+    let quoted = run(&["refusals", "--csv"], b"").out;
+    assert!(quoted.contains("\n8,\"a source route has fewer than 2 + 2n bytes for its n relays, or fewer than 2\"\n"));
+}
+
 #[test]
 fn sealing_writes_the_frame_that_another_implementation_made() {
     let clear = b"48 00 00 00 34 12 1E 07 73 74 6F 72 65 20 72 65 61 64 65 72\n";
@@ -263,26 +381,49 @@ fn each_sealed_frame_has_the_next_counter_and_what_fails_is_said() {
 
 #[test]
 fn sealing_without_a_long_address_is_refused_by_15() {
-    let ran = run(&["seal", "--key", KEY], b"0800000034121E07AA\n");
+    let ran = run(&["seal", "--key", KEY, "--counter", "1"], b"0800000034121E07AA\n");
     let message =
         "store-reader: line 1: refused by 15: sealing or opening has neither an auxiliary nor a header source IEEE\n";
     assert_eq!((ran.out.as_str(), ran.err.as_str(), ran.status), ("", message, 1));
+    let ran = run(&["seal", "--key", KEY, "--counter=1", "--json"], b"0800000034121E07AA\n08 0\n");
+    let expected = concat!(
+        r#"{"line":1,"refusal":15,"condition":"sealing or opening has neither an auxiliary nor a header source IEEE"}"#,
+        "\n",
+        r#"{"line":2,"error":"an odd number of hexadecimal digits, 3"}"#,
+        "\n"
+    );
+    assert_eq!((ran.out.as_str(), ran.err.as_str(), ran.status), (expected, "", 1));
+}
+
+/// A frame of type 3 that is sealed has been authenticated: it opens as any other.
+#[test]
+fn a_sealed_frame_of_type_3_opens() {
+    let clear = b"0B00000034121E07AA\n";
+    let sealed = run(&["seal", "--key", KEY, "--ieee=0807060504030201", "--counter=1"], clear).out;
+    let ran = run(&["open", "--key", KEY], sealed.as_bytes());
+    assert!(ran.out.starts_with("   1  inter-PAN 0x1234 -> 0x0000  sequence 7  counter 1  payload 1 byte: AA\n"));
+    // Unsealed it has two bytes of NWK header, and what is behind them are no addresses.
+    let ran = run(&["read", "--json"], clear);
+    assert!(ran.out.starts_with("{\"line\":1,\"skipped\":\"inter-PAN frame\",\"bytes\":\"000034121E07AA\"}\n"));
 }
 
 #[test]
 fn commands_are_named_with_their_fields() {
-    let input = "08 E1 34 12 B9\n0B 0E 00\n0B 0F 00\n04 40\n04\n05 01 34 12\n0C 00 05\n";
+    let input = "08 E1 34 12 B9\n0B 0E 00\n0B 0F 00\n04 40\n04\n05 01 34 12\n0C 00 05\n0D 02 02 21 43 F6 65 87 0A\n";
     let ran = run(&["command"], input.as_bytes());
-    let expected = "   1  link status: first last links [to 0x1234 in 1 out 3]
-   2  end device timeout request: timeout 14 seconds 983040 configuration 0
+    let expected = "   1  link status: first, last, links [to 0x1234 in 1 out 3]
+   2  end device timeout request: timeout 14, seconds 983040, configuration 0
    3  unparsed: bytes 0B0F00
    4  leave: request
    5  unparsed: bytes 04
    6  route record: relays [0x1234]
-   7  end device timeout response: status success data poll keepalive power negotiation
-7 commands: 7 read, 0 refused
+   7  end device timeout response: status success, data poll keepalive, power negotiation
+   8  link power delta: kind response, powers [of 0x4321 delta -10, of 0x8765 delta 10]
+8 commands: 8 read, 0 refused
 ";
     assert_eq!((ran.out.as_str(), ran.status), (expected, 0));
+    let json = run(&["command", "--json"], b"0D 00 01 21 43 F6\n").out;
+    assert!(json.contains(r#""powers":[{"of":"0x4321","delta":-10}]"#), "{json}");
 }
 
 #[test]
@@ -294,14 +435,28 @@ fn wrong_arguments_are_named() {
         (&["open", "--key"], "--key needs a value"),
         (&["open", "--key", "C0C1"], "--key: 2 bytes where 16 are expected"),
         (&["open", "--key", "C0x"], "--key: column 3: 'x' is no hexadecimal digit"),
-        (&["open", "--key", KEY, "--key-file", "a"], "--key and --key-file exclude each other"),
         (&["open", "--key-file", "no-such-file"], "no-such-file: No such file or directory (os error 2)"),
         (&["read", "--full", "--json"], "--full and --json exclude each other"),
+        (&["read", "--json", "--csv"], "--json and --csv exclude each other"),
+        (&["read", "--json=no"], "--json takes no value"),
+        (&["read", "--json", "--json"], "--json is given twice"),
         (&["read", "--key", KEY], "read has no option --key"),
         (&["read", "a", "b"], "read takes one file here: \"b\""),
+        (&["read", "--", "--json", "b"], "read takes one file here: \"b\""),
+        (&["read", "--source", "0x12345"], "--source: an odd number of hexadecimal digits, 5"),
         (&["refusals", "a"], "refusals takes no file here: \"a\""),
+        (&["seal", "--key", KEY, "--key", KEY, "--counter", "1"], "seal takes one key"),
+        (&["seal", "--key", KEY, "--counter", "1", "--counter", "2"], "--counter is given twice"),
+        (
+            &["seal", "--key", KEY],
+            "--counter N is missing: a counter sealed twice under one key repeats the key stream",
+        ),
         (&["seal", "--key", KEY, "--counter", "4294967296"], "--counter: \"4294967296\" is no number that fits"),
-        (&["seal", "--key", KEY, "--ieee", "00"], "--ieee: 1 byte where 8 are expected"),
+        (&["seal", "--key", KEY, "--counter", "1", "--ieee", "00"], "--ieee: 1 byte where 8 are expected"),
+        (
+            &["seal", "--key", "2:C0C1C2C3C4C5C6C7C8C9CACBCCCDCECF", "--counter=1", "--key-sequence=1"],
+            "--key-sequence 1 for a key of number 2",
+        ),
     ] {
         let ran = run(arguments, b"");
         let expected = format!("store-reader: {message}\nstore-reader --help says more\n");
@@ -310,15 +465,23 @@ fn wrong_arguments_are_named() {
 }
 
 #[test]
-fn a_missing_file_is_named() {
-    let ran = run(&["read", "no-such-file"], b"");
-    let message = "store-reader: no-such-file: No such file or directory (os error 2)\n";
+fn a_file_may_have_the_name_of_an_option() {
+    let ran = run(&["read", "--", "--json"], b"");
+    let message = "store-reader: --json: No such file or directory (os error 2)\n";
     assert_eq!((ran.out.as_str(), ran.err.as_str(), ran.status), ("", message, 2));
 }
 
 #[test]
+fn the_version_is_that_of_the_crate() {
+    for arguments in [&["--version"][..], &["-V"], &["open", "-V"], &["read", "--version"]] {
+        let ran = run(arguments, b"");
+        assert_eq!((ran.out, ran.status), (format!("store-reader {}\n", env!("CARGO_PKG_VERSION")), 0));
+    }
+}
+
+#[test]
 fn help_shows_an_example_of_each_command() {
-    for arguments in [&["--help"][..], &["open", "--help"], &["help"]] {
+    for arguments in [&["--help"][..], &["open", "--help"], &["help"], &["seal", "-h"]] {
         let ran = run(arguments, b"");
         assert_eq!((ran.err.as_str(), ran.status), ("", 0));
         let examples = ran.out.split("Examples").nth(1).expect("examples");
@@ -337,21 +500,10 @@ fn the_examples_of_the_help_run() {
     let path =
         format!("{}:{}", folder.parent().expect("a folder").display(), std::env::var("PATH").unwrap_or_default());
     let lines: Vec<&str> = examples.lines().filter(|line| !line.trim().is_empty()).collect();
-    assert_eq!(lines.len(), 6);
+    assert_eq!(lines.len(), 7);
     for line in lines {
         let ran =
             Command::new("sh").args(["-c", line]).env("PATH", &path).current_dir(root()).output().expect("a shell");
         assert!(ran.status.success() && ran.stderr.is_empty() && !ran.stdout.is_empty(), "{line}");
     }
-}
-
-/// The 24 bytes at a capture's front.
-fn capture_header(link_type: u32, big_endian: bool) -> Vec<u8> {
-    let order = |number: u32| if big_endian { number.to_be_bytes() } else { number.to_le_bytes() };
-    let mut header = order(0xA1B2_C3D4).to_vec();
-    header.extend(if big_endian { [0, 2, 0, 4] } else { [2, 0, 4, 0] });
-    header.extend([0; 8]);
-    header.extend(order(65535));
-    header.extend(order(link_type));
-    header
 }

@@ -6,7 +6,7 @@ mod support;
 use support::calls::{Call, Outcome};
 use support::compare::compare;
 use support::hex::unhex;
-use support::operations::{Operation, AUXILIARY_RECORD, COMMAND_RECORD, HEADER_RECORD};
+use support::operations::{Operation, AUXILIARY_RECORD, COMMAND_RECORD, HEADER_RECORD, OPENED_RECORD};
 
 const FILL: u8 = 0xA5;
 
@@ -28,7 +28,7 @@ fn read_frame(bytes: Vec<u8>) -> Outcome {
 }
 
 fn open(bytes: Vec<u8>) -> Outcome {
-    asked(Operation::Open, [0; 16], vec![bytes], vec![HEADER_RECORD, AUXILIARY_RECORD, 118])
+    asked(Operation::Open, [0; 16], vec![bytes], vec![OPENED_RECORD, 118])
 }
 
 fn read_command(text: &str) -> Vec<u8> {
@@ -93,6 +93,34 @@ fn ciphertext_with_mic_has_at_least_4_bytes() {
     assert_eq!(open(frame.clone()).refusal(), 16);
     frame.push(0);
     assert_eq!(open(frame).refusal(), 19);
+}
+
+/// Ciphertext of 3: 16; of 4: the MIC alone, and the ciphertext in front of it is empty. There is no upper limit.
+#[test]
+fn the_mic_is_split_off() {
+    let split = |n: usize| asked(Operation::SplitMic, [0; 16], vec![(0..n).map(|i| i as u8).collect()], vec![4]);
+    assert_eq!((split(3).answer, &split(3).outputs[0]), (16 << 32, &vec![FILL; 4]));
+    assert_eq!((split(4).answer, &split(4).outputs[0]), (0, &vec![0, 1, 2, 3]));
+    assert_eq!((split(6).answer, &split(6).outputs[0]), (2, &vec![2, 3, 4, 5]));
+    assert_eq!(split(70_000).answer, 69_996);
+}
+
+/// A record without an auxiliary header has no field: sealing is refused by 14 whatever its other bytes are, and by 13 only
+/// for another length or a presence byte that is neither 0 nor 1. Written alone it is refused by 13.
+#[test]
+fn an_absent_auxiliary_header_has_no_fields() {
+    let mut header = vec![0; HEADER_RECORD];
+    header[4] = 1;
+    let seal =
+        |auxiliary: Vec<u8>| asked(Operation::Seal, [0; 16], vec![header.clone(), auxiliary, vec![1]], vec![118]);
+    let mut absent = vec![0xFF; AUXILIARY_RECORD];
+    absent[0] = 0;
+    assert_eq!(seal(absent.clone()).refusal(), 14);
+    assert_eq!(seal(vec![0; AUXILIARY_RECORD]).refusal(), 14);
+    assert_eq!(asked(Operation::WriteAuxiliary, [0; 16], vec![absent.clone()], vec![14]).refusal(), 13);
+    absent[0] = 2;
+    assert_eq!(seal(absent).refusal(), 13);
+    assert_eq!(seal(vec![0; AUXILIARY_RECORD - 1]).refusal(), 13);
 }
 
 /// 26 bytes of overhead with one IEEE in all: a payload of 92 fits, one of 93 does not. The empty payload opens again.

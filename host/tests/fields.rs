@@ -11,6 +11,11 @@ fn both_ways(bytes: &[u8], expected: NwkCommand) {
     assert_eq!(&out[..n], bytes);
 }
 
+/// A list of these entries.
+fn list<T: Copy + Default, const PLACES: usize>(entries: &[T]) -> List<T, PLACES> {
+    List::try_from(entries).expect("enough places")
+}
+
 const IEEE_1: Eui64 = Eui64([1, 2, 3, 4, 5, 6, 7, 8]);
 const IEEE_2: Eui64 = Eui64([0x11, 0x12, 0x13, 0x14, 0x15, 0x16, 0x17, 0x18]);
 
@@ -53,7 +58,10 @@ fn routes() {
             responder_eui64: Some(IEEE_2),
         },
     );
-    both_ways(&[0x05, 2, 0x21, 0x43, 0x65, 0x87], NwkCommand::RouteRecord { relays: vec![Nwk(0x4321), Nwk(0x8765)] });
+    both_ways(
+        &[0x05, 2, 0x21, 0x43, 0x65, 0x87],
+        NwkCommand::RouteRecord { relays: list(&[Nwk(0x4321), Nwk(0x8765)]) },
+    );
     both_ways(
         &[0x03, 0x0B, 0x21, 0x43],
         NwkCommand::NetworkStatus { status_code: NwkNetworkStatus::SourceRouteFailure, network_address: Nwk(0x4321) },
@@ -99,10 +107,10 @@ fn capability(bit: u8) -> NwkRejoinCapabilityInformation {
 
 #[test]
 fn links_and_networks() {
-    let link_statuses = vec![
+    let link_statuses = list(&[
         NwkLinkStatus { address: Nwk(0x4321), incoming_cost: 1, outgoing_cost: 3 },
         NwkLinkStatus { address: Nwk(0x8765), incoming_cost: 7, outgoing_cost: 0 },
-    ];
+    ]);
     both_ways(
         &[0x08, 0x22, 0x21, 0x43, 0x31, 0x65, 0x87, 0x07],
         NwkCommand::LinkStatus { is_first_frame: true, is_last_frame: false, link_statuses },
@@ -112,7 +120,7 @@ fn links_and_networks() {
         NwkCommand::NetworkReport {
             report_command_identifier: NwkReportCommandIdentifier::PanIdentifierConflict,
             epid: IEEE_1,
-            pan_ids: vec![PanId(0x4321), PanId(0x8765)],
+            pan_ids: list(&[PanId(0x4321), PanId(0x8765)]),
         },
     );
     both_ways(
@@ -126,13 +134,13 @@ fn links_and_networks() {
         },
     );
     both_ways(
-        &[0x0D, 0x02, 2, 0x21, 0x43, 0x05, 0x65, 0x87, 0x06],
+        &[0x0D, 0x02, 2, 0x21, 0x43, 0x05, 0x65, 0x87, 0xF6],
         NwkCommand::LinkPowerDelta {
             command_type: NwkLinkPowerDeltaType::Response,
-            power_list: vec![
+            power_list: list(&[
                 NwkPowerListEntry { device_address: Nwk(0x4321), power_delta: 5 },
-                NwkPowerListEntry { device_address: Nwk(0x8765), power_delta: 6 },
-            ],
+                NwkPowerListEntry { device_address: Nwk(0x8765), power_delta: 0xF6 },
+            ]),
         },
     );
 }
@@ -162,7 +170,7 @@ fn timeouts() {
 #[test]
 fn bytes_that_are_no_command_are_kept() {
     for bytes in [&[][..], &[0x00], &[0x10, 1, 2], &[0x04], &[0x03, 0x15, 0, 0]] {
-        both_ways(bytes, NwkCommand::Unparsed(bytes.to_vec()));
+        both_ways(bytes, NwkCommand::Unparsed(list(bytes)));
     }
 }
 
@@ -194,7 +202,7 @@ fn a_header_with_every_field() {
         destination_ieee: Some(IEEE_1),
         source_ieee: Some(IEEE_2),
         multicast_control: Some(0x5A),
-        source_route: Some(NwkSourceRoute { relay_index: 1, relays: vec![Nwk(0x0B0A), Nwk(0x0D0C)] }),
+        source_route: Some(NwkSourceRoute { relay_index: 1, relays: list(&[Nwk(0x0B0A), Nwk(0x0D0C)]) }),
     };
     assert_eq!((header, n), (expected.clone(), bytes.len()));
     let mut out = [0; 118];
@@ -246,25 +254,65 @@ fn an_auxiliary_header_with_every_field() {
 
 /// What a record's field cannot hold is refused by 13, and nothing is written.
 #[test]
-fn fields_and_lists_that_do_not_fit() {
+fn fields_that_do_not_fit() {
     let mut header = NwkHeader::new(NwkFrameType::Data, Nwk(0), Nwk(0));
-    let mut out = [0xA5; 118];
+    let mut out = [0xA5; MAX_FRAME];
     header.frame_control.protocol_version = 16;
-    assert_eq!(header.write(&mut out).unwrap_err().number(), 13);
+    assert_eq!(header.write(&mut out), Err(Refusal::FIELD));
     header.frame_control.protocol_version = 2;
-    for (relays, number) in [(54, 17), (55, 13), (255, 13), (256, 13), (300, 13)] {
-        header.source_route = Some(NwkSourceRoute { relay_index: 0, relays: vec![Nwk(1); relays] });
-        assert_eq!(write(&header, &[0], &mut out).unwrap_err().number(), number, "{relays} relays");
-    }
+    header.frame_control.reserved1 = 4;
+    assert_eq!(header.write(&mut out), Err(Refusal::FIELD));
+    header.frame_control.reserved1 = 0;
+    header.source_route = Some(NwkSourceRoute { relay_index: 0, relays: list(&[Nwk(1); 54]) });
+    assert_eq!(header.write(&mut out), Ok(8 + 2 + 2 * 54));
+    out.fill(0xA5);
+    assert_eq!(write(&header, &[0], &mut out), Err(Refusal::LENGTH));
     let link = NwkLinkStatus { address: Nwk(1), incoming_cost: 8, outgoing_cost: 0 };
-    for (command, number) in [
-        (NwkCommand::RouteRecord { relays: vec![Nwk(1); 54] }, 13),
-        (NwkCommand::RouteRecord { relays: vec![Nwk(1); 309] }, 13),
-        (NwkCommand::LinkStatus { is_first_frame: true, is_last_frame: true, link_statuses: vec![link] }, 13),
-        (NwkCommand::Unparsed(vec![0; 109]), 17),
-        (NwkCommand::Unparsed(vec![0; 364]), 17),
+    let links = NwkCommand::LinkStatus { is_first_frame: true, is_last_frame: true, link_statuses: list(&[link]) };
+    assert_eq!(links.write(&mut out), Err(Refusal::FIELD));
+    let identifier = NwkUpdateCommandIdentifier::PanIdentifierUpdate;
+    let update = NwkCommand::NetworkUpdate {
+        update_information_count: 32,
+        update_command_identifier: identifier,
+        epid: IEEE_1,
+        update_id: 0,
+        new_pan_id: PanId(0),
+    };
+    assert_eq!(update.write(&mut out), Err(Refusal::FIELD));
+    assert_eq!(out, [0xA5; MAX_FRAME]);
+}
+
+/// A list has as many places as the record: 54 relays in a header, 53 in a route record, 31 neighbours, 31 PAN identifiers,
+/// 35 powers, 108 bytes. A full one is written and read back, and none takes an entry more.
+#[test]
+fn lists_up_to_their_last_place() {
+    let full = Err(Full { places: 54 });
+    assert_eq!(List::<Nwk, 54>::try_from(&[Nwk(1); 55][..]), full);
+    let link = NwkLinkStatus { address: Nwk(0x4321), incoming_cost: 7, outgoing_cost: 7 };
+    let power = NwkPowerListEntry { device_address: Nwk(0x4321), power_delta: 0xF6 };
+    assert_eq!(power.decibels(), -10);
+    for (command, length) in [
+        (NwkCommand::RouteRecord { relays: list(&[Nwk(0x4321); 53]) }, 2 + 2 * 53),
+        (
+            NwkCommand::LinkStatus { is_first_frame: true, is_last_frame: false, link_statuses: list(&[link; 31]) },
+            2 + 3 * 31,
+        ),
+        (
+            NwkCommand::NetworkReport {
+                report_command_identifier: NwkReportCommandIdentifier::PanIdentifierConflict,
+                epid: IEEE_1,
+                pan_ids: list(&[PanId(0x4321); 31]),
+            },
+            10 + 2 * 31,
+        ),
+        (
+            NwkCommand::LinkPowerDelta { command_type: NwkLinkPowerDeltaType::Request, power_list: list(&[power; 35]) },
+            3 + 3 * 35,
+        ),
+        (NwkCommand::Unparsed(list(&[0; 108])), 108),
     ] {
-        assert_eq!(command.write(&mut out).unwrap_err().number(), number, "{command:?}");
+        let mut out = [0; MAX_PAYLOAD];
+        assert_eq!(command.write(&mut out), Ok(length));
+        assert_eq!(NwkCommand::read(&out[..length]), Ok(command));
     }
-    assert_eq!(out, [0xA5; 118]);
 }

@@ -4,13 +4,15 @@
 mod support;
 
 use store_reader::{
-    decrypt_ccm, encrypt_block, encrypt_ccm, open, read, seal, timeout_seconds, write, Key, NwkAuxHeader, NwkCommand,
-    NwkHeader, Refusal,
+    decrypt_ccm, encrypt_block, encrypt_ccm, open, read, seal, split_mic, timeout_seconds, write, Key, NwkAuxHeader,
+    NwkCommand, NwkHeader, Refusal,
 };
 use support::calls::{perform, Call, Outcome};
 use support::generate;
 use support::model::{MAX_FRAME, MAX_PAYLOAD};
-use support::operations::{Operation, AUXILIARY_RECORD, COMMAND_RECORD, HEADER_RECORD, MIC};
+use support::operations::{
+    Operation, AUXILIARY_RECORD, COMMAND_RECORD, HEADER_RECORD, MIC, OPENED_HEADER, OPENED_RECORD,
+};
 use support::random::Random;
 
 const SEED: u64 = 0x5AFE_7E57;
@@ -122,15 +124,15 @@ fn frames_read_and_written() {
 #[test]
 fn frames_opened_and_sealed() {
     let count = accepted(Operation::Open, |call| {
-        let rooms = [HEADER_RECORD, AUXILIARY_RECORD, MAX_PAYLOAD];
+        let rooms = [OPENED_RECORD, MAX_PAYLOAD];
         let outcome = raw(Operation::Open, call.key, &[&call.inputs[0]], &rooms);
         let key = Key::new(call.key);
         let mut out = [FILL; MAX_PAYLOAD];
         let safe = open(&key, &call.inputs[0], &mut out);
         let accepted = agree(&safe, &outcome, call);
         if let Ok(frame) = safe {
-            let [header, auxiliary] = [&outcome.outputs[0], &outcome.outputs[1]];
-            assert_eq!(frame.payload, &outcome.outputs[2][..outcome.length()]);
+            let (header, auxiliary) = outcome.outputs[0][OPENED_HEADER..].split_at(HEADER_RECORD);
+            assert_eq!(frame.payload, &outcome.outputs[1][..outcome.length()]);
             same_written(
                 |out| seal(&key, &frame.header, Some(&frame.auxiliary), frame.payload, out),
                 Operation::Seal,
@@ -139,7 +141,7 @@ fn frames_opened_and_sealed() {
                 MAX_FRAME,
             );
         }
-        assert_eq!(out[..], outcome.outputs[2]);
+        assert_eq!(out[..], outcome.outputs[1]);
         accepted
     });
     assert!(count > ROUNDS / 5, "{count}");
@@ -193,6 +195,14 @@ fn ccm_and_blocks() {
         }
         assert_eq!(out, sealed.outputs[0]);
         let one = raw(Operation::EncryptBlock, key, &[&block], &[16]);
-        assert_eq!(encrypt_block(&Key::new(key), &block).expect("a block")[..], one.outputs[0]);
+        assert_eq!(encrypt_block(&Key::new(key), &block)[..], one.outputs[0]);
+        let split = raw(Operation::SplitMic, key, &[&payload], &[MIC]);
+        match split_mic(&payload) {
+            Ok((ciphertext, mic)) => {
+                assert_eq!((split.refusal(), ciphertext), (0, &payload[..split.length()]));
+                assert_eq!(mic[..], split.outputs[0]);
+            }
+            Err(refusal) => assert_eq!((refusal.number(), n < MIC), (split.refusal(), true)),
+        }
     }
 }

@@ -7,7 +7,7 @@ use support::generate::headers::{auxiliary, header, scatter_header};
 use support::generate::sealed::secured_frame;
 use support::model::auxiliary::record as auxiliary_record;
 use support::model::{frame, MAX_FRAME, MAX_PAYLOAD};
-use support::operations::{Operation, AUXILIARY_RECORD, HEADER_RECORD};
+use support::operations::{Operation, HEADER_RECORD, OPENED_HEADER, OPENED_RECORD};
 use support::random::Random;
 
 const SEED: u64 = 0x5EA1_1A17;
@@ -28,8 +28,13 @@ fn seal(key: [u8; 16], header: &[u8], auxiliary: &[u8], payload: &[u8]) -> Outco
 }
 
 fn open(key: [u8; 16], bytes: &[u8], room: usize) -> Outcome {
-    let rooms = vec![HEADER_RECORD, AUXILIARY_RECORD, room];
+    let rooms = vec![OPENED_RECORD, room];
     made(&Call { operation: Operation::Open, key, inputs: vec![bytes.to_vec()], rooms })
+}
+
+/// The header record and the auxiliary record in an opened record.
+fn records(opened: &Outcome) -> (&[u8], &[u8]) {
+    opened.outputs[0][OPENED_HEADER..].split_at(HEADER_RECORD)
 }
 
 /// The first half: opening what sealing wrote gives the same headers, the level now 0, and the same payload.
@@ -52,9 +57,10 @@ fn sealed_frames_open_to_what_was_sealed() {
         }
         let opened = open(key, &sealed.outputs[0][..sealed.length()], n + random.below(3));
         assert_eq!((opened.refusal(), opened.length()), (0, n));
-        assert_eq!(opened.outputs[0], header.record());
-        assert_eq!(opened.outputs[1], auxiliary_record(&Some(auxiliary.at_level(0))));
-        assert_eq!(opened.outputs[2][..n], payload);
+        let (header_record, auxiliary_given) = records(&opened);
+        assert_eq!(header_record, header.record());
+        assert_eq!(auxiliary_given, auxiliary_record(&Some(auxiliary.at_level(0))));
+        assert_eq!(opened.outputs[1][..n], payload);
         accepted += 1;
     }
     println!("{accepted} frames sealed and opened");
@@ -75,7 +81,8 @@ fn opened_frames_seal_to_their_bytes() {
         if opened.refusal() != 0 {
             continue;
         }
-        let sealed = seal(key, &opened.outputs[0], &opened.outputs[1], &opened.outputs[2][..opened.length()]);
+        let (header, auxiliary) = records(&opened);
+        let sealed = seal(key, header, auxiliary, &opened.outputs[1][..opened.length()]);
         assert_eq!((sealed.refusal(), sealed.length()), (0, bytes.len()));
         let expected = with_plain_control(&bytes);
         assert_eq!(sealed.outputs[0][..sealed.length()], expected);

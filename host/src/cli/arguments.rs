@@ -1,5 +1,6 @@
 //! The command line.
-use store_reader::{Eui64, Key};
+use super::keys::{self, NumberedKey};
+use store_reader::{Eui64, Nwk};
 
 /// How the answers are shown.
 #[derive(Debug, Clone, Copy, PartialEq)]
@@ -7,12 +8,14 @@ pub enum Show {
     Line,
     Full,
     Json,
+    /// The summary alone, as a table of comma-separated values.
+    Csv,
 }
 
 /// What sealing adds to clear frames.
 #[derive(Debug, Clone, PartialEq)]
 pub struct Sealing {
-    pub key: Key,
+    pub key: NumberedKey,
     pub ieee: Option<Eui64>,
     pub counter: u32,
     pub key_sequence: u8,
@@ -20,17 +23,34 @@ pub struct Sealing {
 
 #[derive(Debug, PartialEq)]
 pub enum Task {
-    Open(Key),
+    Open(Vec<NumberedKey>),
     Read,
     Seal(Sealing),
     Command,
     Refusals,
 }
 
+/// A source to show, by its short or its long address.
+#[derive(Debug, Clone, Copy, PartialEq)]
+pub enum SourceAddress {
+    Short(Nwk),
+    Long(Eui64),
+}
+
+/// Which inputs are shown; all are counted.
+#[derive(Debug, Default, PartialEq)]
+pub struct Filter {
+    pub summary_only: bool,
+    pub refused: bool,
+    pub sources: Vec<SourceAddress>,
+}
+
 #[derive(Debug, PartialEq)]
 pub struct Arguments {
     pub task: Task,
     pub show: Show,
+    pub filter: Filter,
+    pub by_sender: bool,
     pub file: Option<String>,
 }
 
@@ -40,118 +60,194 @@ pub enum Parsed {
     Version,
 }
 
-/// The options as given, before they are put together.
+const COMMANDS: [&str; 5] = ["open", "read", "seal", "command", "refusals"];
+
+/// The options: the commands that have them, whether they take a value, and whether they may be given more than once.
+const OPTIONS: [(&str, &[&str], bool, bool); 14] = [
+    ("--key", &["open", "seal"], true, true),
+    ("--key-file", &["open", "seal"], true, true),
+    ("--full", &["open", "read", "command"], false, false),
+    ("--json", &COMMANDS, false, false),
+    ("--csv", &["open", "read", "command", "refusals"], false, false),
+    ("--by-sender", &["open", "read"], false, false),
+    ("--summary-only", &["open", "read", "command"], false, false),
+    ("--refused", &["open", "read", "command"], false, false),
+    ("--source", &["open", "read"], true, true),
+    ("--ieee", &["seal"], true, false),
+    ("--counter", &["seal"], true, false),
+    ("--key-sequence", &["seal"], true, false),
+    ("--help", &COMMANDS, false, true),
+    ("--version", &COMMANDS, false, true),
+];
+
+/// The options as given, in their order, and what is no option.
 #[derive(Default)]
-struct Options {
-    key: Option<String>,
-    key_file: Option<String>,
-    ieee: Option<String>,
-    counter: Option<String>,
-    key_sequence: Option<String>,
-    full: bool,
-    json: bool,
+struct Given {
+    options: Vec<(&'static str, String)>,
     operands: Vec<String>,
 }
 
+impl Given {
+    fn has(&self, name: &str) -> bool {
+        self.options.iter().any(|(option, _)| *option == name)
+    }
+
+    fn values<'a>(&'a self, name: &'a str) -> impl Iterator<Item = &'a str> {
+        self.options.iter().filter(move |(option, _)| *option == name).map(|(_, value)| value.as_str())
+    }
+
+    fn value(&self, name: &str) -> Option<&str> {
+        self.options.iter().find(|(option, _)| *option == name).map(|(_, value)| value.as_str())
+    }
+}
+
 /// Reads the arguments behind the program's name; an error is what to tell the user.
-pub fn parse(arguments: impl Iterator<Item = String>) -> Result<Parsed, String> {
-    let mut arguments = arguments;
+pub fn parse(mut arguments: impl Iterator<Item = String>) -> Result<Parsed, String> {
     let Some(name) = arguments.next() else {
         return Err("a command is missing".to_string());
     };
     match name.as_str() {
         "--help" | "-h" | "help" => return Ok(Parsed::Help),
         "--version" | "-V" => return Ok(Parsed::Version),
-        "open" | "read" | "seal" | "command" | "refusals" => {}
+        name if COMMANDS.contains(&name) => {}
         other => return Err(format!("{other:?} is no command")),
     }
-    match options(&name, arguments)? {
-        Some(options) => arguments_of(&name, options).map(Parsed::Run),
-        None => Ok(Parsed::Help),
+    let given = given(&name, arguments)?;
+    match (given.has("--help"), given.has("--version")) {
+        (true, _) => Ok(Parsed::Help),
+        (_, true) => Ok(Parsed::Version),
+        _ => arguments_of(&name, given).map(Parsed::Run),
     }
 }
 
-/// The options of a command; none if help was asked for.
-fn options(name: &str, mut arguments: impl Iterator<Item = String>) -> Result<Option<Options>, String> {
-    let mut options = Options::default();
+/// Takes the arguments of a command apart; behind `--` there are no options.
+fn given(name: &str, mut arguments: impl Iterator<Item = String>) -> Result<Given, String> {
+    let mut given = Given::default();
     while let Some(argument) = arguments.next() {
-        if argument == "--help" || argument == "-h" {
-            return Ok(None);
+        if argument == "--" {
+            given.operands.extend(arguments);
+            break;
         }
         if !argument.starts_with('-') || argument == "-" {
-            options.operands.push(argument);
+            given.operands.push(argument);
             continue;
         }
         let (option, attached) = match argument.split_once('=') {
-            Some((option, value)) => (option.to_string(), Some(value.to_string())),
-            None => (argument, None),
+            Some((option, value)) => (option, Some(value.to_string())),
+            None => (argument.as_str(), None),
         };
-        let place = match (name, option.as_str()) {
-            ("refusals" | "open" | "read" | "seal" | "command", "--json") => {
-                options.json = true;
-                continue;
-            }
-            ("open" | "read" | "command", "--full") => {
-                options.full = true;
-                continue;
-            }
-            ("open" | "seal", "--key") => &mut options.key,
-            ("open" | "seal", "--key-file") => &mut options.key_file,
-            ("seal", "--ieee") => &mut options.ieee,
-            ("seal", "--counter") => &mut options.counter,
-            ("seal", "--key-sequence") => &mut options.key_sequence,
-            _ => return Err(format!("{name} has no option {option}")),
+        let (option, takes_value, repeats) = known(name, option)?;
+        if !repeats && given.has(option) {
+            return Err(format!("{option} is given twice"));
+        }
+        let value = match (takes_value, attached) {
+            (true, Some(value)) => value,
+            (true, None) => arguments.next().ok_or(format!("{option} needs a value"))?,
+            (false, None) => String::new(),
+            (false, Some(_)) => return Err(format!("{option} takes no value")),
         };
-        let value = attached.or_else(|| arguments.next()).ok_or(format!("{option} needs a value"))?;
-        *place = Some(value);
+        given.options.push((option, value));
     }
-    Ok(Some(options))
+    Ok(given)
 }
 
-fn arguments_of(name: &str, options: Options) -> Result<Arguments, String> {
-    let show = match (options.full, options.json) {
-        (true, true) => return Err("--full and --json exclude each other".to_string()),
-        (true, false) => Show::Full,
-        (false, true) => Show::Json,
-        (false, false) => Show::Line,
+/// An option of a command: its name, whether it takes a value, and whether it may be given more than once.
+fn known(name: &str, option: &str) -> Result<(&'static str, bool, bool), String> {
+    let long = match option {
+        "-h" => "--help",
+        "-V" => "--version",
+        other => other,
     };
+    let found = OPTIONS.iter().find(|(option, commands, _, _)| *option == long && commands.contains(&name));
+    match found {
+        Some((option, _, takes_value, repeats)) => Ok((option, *takes_value, *repeats)),
+        None => Err(format!("{name} has no option {option}")),
+    }
+}
+
+fn arguments_of(name: &str, given: Given) -> Result<Arguments, String> {
     let task = match name {
-        "open" => Task::Open(key(&options)?),
-        "seal" => Task::Seal(Sealing {
-            key: key(&options)?,
-            ieee: options.ieee.as_deref().map(ieee).transpose()?,
-            counter: options.counter.as_deref().map_or(Ok(0), |text| number("--counter", text))?,
-            key_sequence: options.key_sequence.as_deref().map_or(Ok(0), |text| number("--key-sequence", text))?,
-        }),
+        "open" => Task::Open(keys(&given)?),
+        "seal" => Task::Seal(sealing(&given)?),
         "read" => Task::Read,
         "command" => Task::Command,
         _ => Task::Refusals,
     };
+    let filter = Filter {
+        summary_only: given.has("--summary-only"),
+        refused: given.has("--refused"),
+        sources: given.values("--source").map(source).collect::<Result<_, _>>()?,
+    };
+    let (show, by_sender) = (show(&given)?, given.has("--by-sender"));
     let most = if task == Task::Refusals { 0 } else { 1 };
-    let mut operands = options.operands;
+    let mut operands = given.operands;
     if operands.len() > most {
-        return Err(format!(
-            "{name} takes {} here: {:?}",
-            if most == 0 { "no file" } else { "one file" },
-            operands[most]
-        ));
+        let takes = if most == 0 { "no file" } else { "one file" };
+        return Err(format!("{name} takes {takes} here: {:?}", operands[most]));
     }
-    Ok(Arguments { task, show, file: operands.pop() })
+    Ok(Arguments { task, show, filter, by_sender, file: operands.pop() })
 }
 
-/// The key of `--key` or the file of `--key-file`; the key itself is not repeated in a message.
-fn key(options: &Options) -> Result<Key, String> {
-    let (option, text) = match (&options.key, &options.key_file) {
-        (Some(_), Some(_)) => return Err("--key and --key-file exclude each other".to_string()),
-        (Some(text), None) => ("--key".to_string(), text.clone()),
-        (None, Some(path)) => (path.clone(), std::fs::read_to_string(path).map_err(|e| format!("{path}: {e}"))?),
-        (None, None) => return Err("--key HEX or --key-file FILE is missing".to_string()),
-    };
-    text.parse().map_err(|e| format!("{option}: {e}"))
+fn show(given: &Given) -> Result<Show, String> {
+    let shows = [("--full", Show::Full), ("--json", Show::Json), ("--csv", Show::Csv)];
+    let mut chosen = shows.iter().filter(|(option, _)| given.has(option));
+    match (chosen.next(), chosen.next()) {
+        (Some((first, _)), Some((second, _))) => Err(format!("{first} and {second} exclude each other")),
+        (Some((_, show)), None) => Ok(*show),
+        _ => Ok(Show::Line),
+    }
+}
+
+/// The keys of `--key` and `--key-file`, in the order given.
+fn keys(given: &Given) -> Result<Vec<NumberedKey>, String> {
+    let mut keys = Vec::new();
+    for (option, value) in &given.options {
+        match *option {
+            "--key" => keys.push(NumberedKey::parse(value).map_err(|e| format!("--key: {e}"))?),
+            "--key-file" => keys.extend(keys::of_file(value)?),
+            _ => {}
+        }
+    }
+    match keys.is_empty() {
+        true => Err("--key HEX or --key-file FILE is missing".to_string()),
+        false => Ok(keys),
+    }
+}
+
+fn sealing(given: &Given) -> Result<Sealing, String> {
+    let mut keys = keys(given)?;
+    let key = keys.remove(0);
+    if !keys.is_empty() {
+        return Err("seal takes one key".to_string());
+    }
+    let counter = given
+        .value("--counter")
+        .ok_or("--counter N is missing: a counter sealed twice under one key repeats the key stream")?;
+    let sequence = given.value("--key-sequence").map(|text| number("--key-sequence", text)).transpose()?;
+    if let (Some(given), Some(of_key)) = (sequence, key.sequence.filter(|of_key| Some(*of_key) != sequence)) {
+        return Err(format!("--key-sequence {given} for a key of number {of_key}"));
+    }
+    Ok(Sealing {
+        ieee: given.value("--ieee").map(ieee).transpose()?,
+        counter: number("--counter", counter)?,
+        key_sequence: sequence.or(key.sequence).unwrap_or(0),
+        key,
+    })
 }
 
 fn ieee(text: &str) -> Result<Eui64, String> {
     text.parse().map_err(|e| format!("--ieee: {e}"))
+}
+
+/// An address as it is printed: two bytes, perhaps behind `0x`, or the eight of a long one.
+fn source(text: &str) -> Result<SourceAddress, String> {
+    let short = text.strip_prefix("0x").unwrap_or(text);
+    if (1..=4).contains(&short.len()) {
+        if let Ok(address) = u16::from_str_radix(short, 16) {
+            return Ok(SourceAddress::Short(Nwk(address)));
+        }
+    }
+    text.parse().map(SourceAddress::Long).map_err(|e| format!("--source: {e}"))
 }
 
 /// A decimal number, or a hexadecimal one behind `0x`, that fits the type.

@@ -166,7 +166,7 @@ fn typed_fields(command: &NwkCommand) -> Fields {
             (
                 "powers",
                 Value::list(power_list, |entry| {
-                    Value::Object(vec![("of", Value::text(entry.device_address)), ("delta", entry.power_delta.into())])
+                    Value::Object(vec![("of", Value::text(entry.device_address)), ("delta", entry.decibels().into())])
                 }),
             ),
         ],

@@ -1,56 +1,95 @@
-//! The NWK frame inside an IEEE 802.15.4 MAC frame.
+//! IEEE 802.15.4 MAC frames: their addresses, and what they carry.
+use std::fmt;
+use store_reader::{Eui64, Nwk, PanId};
 
-/// What a MAC frame carries.
+/// A MAC address.
+#[derive(Debug, Clone, Copy, PartialEq, Eq)]
+pub enum MacAddress {
+    Short(Nwk),
+    Long(Eui64),
+}
+
+impl fmt::Display for MacAddress {
+    fn fmt(&self, f: &mut fmt::Formatter<'_>) -> fmt::Result {
+        match self {
+            Self::Short(address) => address.fmt(f),
+            Self::Long(address) => address.fmt(f),
+        }
+    }
+}
+
+/// The addresses of a MAC frame, as far as it has them.
+#[derive(Debug, Clone, Copy, Default, PartialEq, Eq)]
+pub struct MacHeader {
+    /// The destination's PAN identifier, or the source's where the frame has that alone.
+    pub pan: Option<PanId>,
+    /// The source's PAN identifier where it is another.
+    pub source_pan: Option<PanId>,
+    pub source: Option<MacAddress>,
+    pub destination: Option<MacAddress>,
+}
+
+/// What a MAC frame carries: a payload, or the kind of frame that has none for the layers above.
 #[derive(Debug, PartialEq)]
-pub enum Mac<'a> {
-    Nwk(&'a [u8]),
-    /// No NWK frame; the kind of frame, or why its header cannot be taken off.
-    Other(&'static str),
+pub enum Carried<'a> {
+    Payload(&'a [u8]),
+    Nothing(&'static str),
 }
 
 const SECURITY_BIT: u16 = 1 << 3;
 const PAN_COMPRESSION_BIT: u16 = 1 << 6;
 
-/// Takes the MAC header off a frame that has no FCS any more.
-pub fn nwk_part(frame: &[u8]) -> Mac<'_> {
+/// Reads the MAC header of a frame that has no FCS any more.
+pub fn mac_frame(frame: &[u8]) -> (MacHeader, Carried<'_>) {
     let &[low, high, _sequence, ref behind @ ..] = frame else {
-        return Mac::Other("MAC frame of fewer than 3 bytes");
+        return (MacHeader::default(), Carried::Nothing("MAC frame of fewer than 3 bytes"));
     };
     let control = u16::from_le_bytes([low, high]);
-    match control & 7 {
-        0 => return Mac::Other("MAC beacon"),
-        1 => {}
-        2 => return Mac::Other("MAC acknowledgement"),
-        3 => return Mac::Other("MAC command"),
-        _ => return Mac::Other("MAC frame of another type"),
-    }
-    if control & SECURITY_BIT != 0 {
-        return Mac::Other("MAC frame with MAC security");
-    }
-    if control >> 12 & 3 > 1 {
-        return Mac::Other("MAC frame of another version");
-    }
-    match addressing_length(control).and_then(|n| behind.get(n..)) {
-        Some(nwk) => Mac::Nwk(nwk),
-        None => Mac::Other("MAC frame whose addresses are not whole"),
+    let addressed = if control >> 12 & 3 > 1 { None } else { addresses(control, behind) };
+    let header = addressed.map_or_else(MacHeader::default, |(header, _)| header);
+    let carried = match (control & 7, addressed) {
+        (0, _) => Carried::Nothing("MAC beacon"),
+        (2, _) => Carried::Nothing("MAC acknowledgement"),
+        (3, _) => Carried::Nothing("MAC command"),
+        (4.., _) => Carried::Nothing("MAC frame of another type"),
+        _ if control & SECURITY_BIT != 0 => Carried::Nothing("MAC frame with MAC security"),
+        _ if control >> 12 & 3 > 1 => Carried::Nothing("MAC frame of another version"),
+        (_, Some((_, []))) => Carried::Nothing("MAC data frame without a payload"),
+        (_, Some((_, payload))) => Carried::Payload(payload),
+        (_, None) => Carried::Nothing("MAC frame whose addresses are not whole"),
+    };
+    (header, carried)
+}
+
+/// The addresses at the front of the bytes, and what is behind them; none where they are not whole or of the reserved kind.
+fn addresses(control: u16, bytes: &[u8]) -> Option<(MacHeader, &[u8])> {
+    let (destination_mode, source_mode) = (control >> 10 & 3, control >> 14 & 3);
+    let compressed = control & PAN_COMPRESSION_BIT != 0 && destination_mode != 0;
+    let (destination_pan, bytes) = pan(destination_mode != 0, bytes)?;
+    let (destination, bytes) = address(destination_mode, bytes)?;
+    let (source_pan, bytes) = pan(source_mode != 0 && !compressed, bytes)?;
+    let (source, bytes) = address(source_mode, bytes)?;
+    let pan = destination_pan.or(source_pan);
+    Some((MacHeader { pan, source_pan: source_pan.filter(|_| source_pan != pan), source, destination }, bytes))
+}
+
+fn pan(present: bool, bytes: &[u8]) -> Option<(Option<PanId>, &[u8])> {
+    match bytes {
+        _ if !present => Some((None, bytes)),
+        [low, high, behind @ ..] => Some((Some(PanId(u16::from_le_bytes([*low, *high]))), behind)),
+        _ => None,
     }
 }
 
-/// The bytes of PAN identifiers and addresses; none for the reserved addressing mode.
-fn addressing_length(control: u16) -> Option<usize> {
-    let destination = address_length(control >> 10 & 3)?;
-    let source = address_length(control >> 14 & 3)?;
-    let compressed = control & PAN_COMPRESSION_BIT != 0;
-    let destination_pan = if destination > 0 { 2 } else { 0 };
-    let source_pan = if source > 0 && !(compressed && destination > 0) { 2 } else { 0 };
-    Some(destination_pan + destination + source_pan + source)
-}
-
-fn address_length(mode: u16) -> Option<usize> {
-    match mode {
-        0 => Some(0),
-        2 => Some(2),
-        3 => Some(8),
+fn address(mode: u16, bytes: &[u8]) -> Option<(Option<MacAddress>, &[u8])> {
+    match (mode, bytes) {
+        (0, _) => Some((None, bytes)),
+        (2, [low, high, behind @ ..]) => {
+            Some((Some(MacAddress::Short(Nwk(u16::from_le_bytes([*low, *high])))), behind))
+        }
+        (3, [a, b, c, d, e, f, g, h, behind @ ..]) => {
+            Some((Some(MacAddress::Long(Eui64([*a, *b, *c, *d, *e, *f, *g, *h]))), behind))
+        }
         _ => None,
     }
 }
@@ -67,6 +106,18 @@ pub fn fcs(bytes: &[u8]) -> u16 {
     crc
 }
 
+/// The longer frame check sequence of IEEE 802.15.4-2015: the CRC-32 that Ethernet has.
+pub fn fcs_of_four(bytes: &[u8]) -> u32 {
+    let mut crc = u32::MAX;
+    for byte in bytes {
+        crc ^= u32::from(*byte);
+        for _ in 0..8 {
+            crc = if crc & 1 == 1 { crc >> 1 ^ 0xEDB8_8320 } else { crc >> 1 };
+        }
+    }
+    !crc
+}
+
 #[cfg(test)]
 mod tests {
     use super::*;
@@ -77,20 +128,41 @@ mod tests {
         assert_eq!(fcs(&[0x02, 0x00, 0x6A]), u16::from_le_bytes([0xE4, 0x79]));
     }
 
+    /// The check value that catalogues of CRCs give for CRC-32, of the digits 1 to 9.
     #[test]
-    fn headers_of_every_addressing() {
-        let short = [0x61, 0x88, 1, 0x34, 0x12, 0, 0, 0xCD, 0xAB, 0x48];
-        assert_eq!(nwk_part(&short), Mac::Nwk(&[0x48]));
-        let both_pans = [0x21, 0x88, 1, 0x34, 0x12, 0, 0, 0x34, 0x12, 0xCD, 0xAB, 0x48];
-        assert_eq!(nwk_part(&both_pans), Mac::Nwk(&[0x48]));
-        let long = [0x61, 0xCC, 1, 0x34, 0x12, 1, 2, 3, 4, 5, 6, 7, 8, 1, 2, 3, 4, 5, 6, 7, 8];
-        assert_eq!(nwk_part(&long), Mac::Nwk(&[]));
-        let no_source = [0x01, 0x08, 1, 0x34, 0x12, 0xFF, 0xFF, 0x48];
-        assert_eq!(nwk_part(&no_source), Mac::Nwk(&[0x48]));
+    fn fcs_of_four_bytes() {
+        assert_eq!(fcs_of_four(b"123456789"), 0xCBF4_3926);
     }
 
     #[test]
-    fn frames_without_a_nwk_frame() {
+    fn headers_of_every_addressing() {
+        let coordinator = Some(MacAddress::Short(Nwk(0)));
+        let probe = Some(MacAddress::Short(Nwk(0xABCD)));
+        let pan = Some(PanId(0x1234));
+        let short = [0x61, 0x88, 1, 0x34, 0x12, 0, 0, 0xCD, 0xAB, 0x48];
+        let header = MacHeader { pan, source_pan: None, source: probe, destination: coordinator };
+        assert_eq!(mac_frame(&short), (header, Carried::Payload(&[0x48])));
+        let same_pans = [0x21, 0x88, 1, 0x34, 0x12, 0, 0, 0x34, 0x12, 0xCD, 0xAB, 0x48];
+        assert_eq!(mac_frame(&same_pans), (header, Carried::Payload(&[0x48])));
+        let other_pans = [0x21, 0x88, 1, 0x34, 0x12, 0, 0, 0x78, 0x56, 0xCD, 0xAB, 0x48];
+        let header = MacHeader { source_pan: Some(PanId(0x5678)), ..header };
+        assert_eq!(mac_frame(&other_pans), (header, Carried::Payload(&[0x48])));
+        let long = [0x61, 0xCC, 1, 0x34, 0x12, 1, 2, 3, 4, 5, 6, 7, 8, 9, 2, 3, 4, 5, 6, 7, 8, 0x48];
+        let header = MacHeader {
+            pan,
+            source_pan: None,
+            source: Some(MacAddress::Long(Eui64([9, 2, 3, 4, 5, 6, 7, 8]))),
+            destination: Some(MacAddress::Long(Eui64([1, 2, 3, 4, 5, 6, 7, 8]))),
+        };
+        assert_eq!(mac_frame(&long), (header, Carried::Payload(&[0x48])));
+        let no_source = [0x01, 0x08, 1, 0x34, 0x12, 0xFF, 0xFF, 0x48];
+        let everyone = Some(MacAddress::Short(Nwk(0xFFFF)));
+        let header = MacHeader { pan, source_pan: None, source: None, destination: everyone };
+        assert_eq!(mac_frame(&no_source), (header, Carried::Payload(&[0x48])));
+    }
+
+    #[test]
+    fn frames_without_a_payload() {
         for (frame, kind) in [
             (&[0x02, 0x00, 0x6A][..], "MAC acknowledgement"),
             (&[0x00, 0x80, 0x01], "MAC beacon"),
@@ -100,9 +172,10 @@ mod tests {
             (&[0x01, 0x20, 0x01], "MAC frame of another version"),
             (&[0x01, 0x04, 0x01], "MAC frame whose addresses are not whole"),
             (&[0x61, 0x88, 0x01, 0x34], "MAC frame whose addresses are not whole"),
+            (&[0x61, 0x88, 1, 0x34, 0x12, 0, 0, 0xCD, 0xAB], "MAC data frame without a payload"),
             (&[0x61, 0x88], "MAC frame of fewer than 3 bytes"),
         ] {
-            assert_eq!(nwk_part(frame), Mac::Other(kind));
+            assert_eq!(mac_frame(frame).1, Carried::Nothing(kind));
         }
     }
 }

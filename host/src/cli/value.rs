@@ -7,6 +7,7 @@ pub type Fields = Vec<(&'static str, Value)>;
 pub enum Value {
     Text(String),
     Number(u64),
+    Signed(i64),
     Flag(bool),
     List(Vec<Value>),
     Object(Fields),
@@ -31,12 +32,13 @@ impl Value {
         match self {
             Self::Text(text) => text.clone(),
             Self::Number(number) => number.to_string(),
+            Self::Signed(number) => number.to_string(),
             Self::Flag(flag) => if *flag { "yes" } else { "no" }.to_string(),
             Self::List(entries) => {
                 let entries: Vec<String> = entries.iter().map(Self::line).collect();
                 format!("[{}]", entries.join(", "))
             }
-            Self::Object(fields) => line(fields),
+            Self::Object(fields) => line(fields, " "),
         }
     }
 
@@ -45,6 +47,7 @@ impl Value {
         match self {
             Self::Text(text) => quoted(text),
             Self::Number(number) => number.to_string(),
+            Self::Signed(number) => number.to_string(),
             Self::Flag(flag) => flag.to_string(),
             Self::List(entries) => {
                 let entries: Vec<String> = entries.iter().map(Self::json).collect();
@@ -71,14 +74,20 @@ impl From<u32> for Value {
     }
 }
 
+impl From<i8> for Value {
+    fn from(number: i8) -> Self {
+        Self::Signed(number.into())
+    }
+}
+
 impl From<bool> for Value {
     fn from(flag: bool) -> Self {
         Self::Flag(flag)
     }
 }
 
-/// Fields on one line.
-pub fn line(fields: &Fields) -> String {
+/// Fields on one line, with this between them.
+pub fn line(fields: &Fields, between: &str) -> String {
     let shown: Vec<String> = fields
         .iter()
         .filter_map(|(name, value)| match value {
@@ -87,7 +96,7 @@ pub fn line(fields: &Fields) -> String {
             _ => Some(format!("{} {}", words(name), value.line())),
         })
         .collect();
-    shown.join(" ")
+    shown.join(between)
 }
 
 /// Fields one below the other, those of an inner object further in.
@@ -144,7 +153,7 @@ mod tests {
             ("links", Value::List(vec![Value::Object(vec![("cost", Value::Number(3))])])),
             ("inner", Value::Object(vec![("name", Value::text("a \"b\"\n"))])),
         ];
-        assert_eq!(line(&fields[..3].to_vec()), "first frame links [cost 3]");
+        assert_eq!(line(&fields[..3].to_vec(), ", "), "first frame, links [cost 3]");
         assert_eq!(full(&fields[..3].to_vec(), 2), "  first frame: yes\n  last frame: no\n  links: [cost 3]\n");
         assert_eq!(
             Value::Object(fields).json(),

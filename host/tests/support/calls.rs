@@ -77,11 +77,27 @@ pub fn check_boundary(call: &Call, outcome: &Outcome, fill: u8) {
     for (extent, output) in shape.outputs.iter().zip(&outcome.outputs) {
         let written = match (refusal, *extent) {
             (0, Extent::Length) => outcome.length(),
-            (0, Extent::Fixed(size)) => size,
+            (0, Extent::Fixed(size) | Extent::Array(size)) => size,
             _ => 0,
         };
         assert!(written <= output.len(), "more written than lent: {}", call.line());
         assert!(output[written..].iter().all(|&byte| byte == fill), "bytes not to be touched: {}", call.line());
+    }
+}
+
+/// Arrays go over without a length: they have exactly their size.
+fn check_arrays(call: &Call) {
+    for (extent, room) in call.operation.shape().outputs.iter().zip(&call.rooms) {
+        assert!(!matches!(extent, Extent::Array(size) if size != room), "{}", call.line());
+    }
+    let sizes = match call.operation {
+        Operation::EncryptCcm => vec![(0, 13)],
+        Operation::DecryptCcm => vec![(0, 13), (3, 4)],
+        Operation::EncryptBlock => vec![(0, 16)],
+        _ => Vec::new(),
+    };
+    for (i, size) in sizes {
+        assert_eq!(call.inputs[i].len(), size, "{}", call.line());
     }
 }
 
@@ -92,6 +108,7 @@ fn through_c(call: &Call, inputs: &[Guarded], outputs: &mut [Guarded]) -> u64 {
     let n = |i: usize| inputs[i].len();
     let out: Vec<*mut u8> = outputs.iter_mut().map(Guarded::pointer_mut).collect();
     let room = |i: usize| call.rooms[i];
+    check_arrays(call);
     // SAFETY: each pointer is that of a live buffer of the length beside it, and no two buffers overlap.
     unsafe {
         match call.operation {
@@ -102,28 +119,18 @@ fn through_c(call: &Call, inputs: &[Guarded], outputs: &mut [Guarded]) -> u64 {
             ReadFrame => sys::nwk_read_frame(p(0), n(0), out[0], room(0), out[1], room(1)),
             WriteFrame => sys::nwk_write_frame(p(0), n(0), p(1), n(1), out[0], room(0)),
             Seal => sys::nwk_seal(first, second, p(0), n(0), p(1), n(1), p(2), n(2), out[0], room(0)),
-            Open => sys::nwk_open(first, second, p(0), n(0), out[0], room(0), out[1], room(1), out[2], room(2)),
+            Open => sys::nwk_open(first, second, p(0), n(0), out[0], room(0), out[1], room(1)),
             ReadCommand => sys::nwk_read_command(p(0), n(0), out[0], room(0)),
             WriteCommand => sys::nwk_write_command(p(0), n(0), out[0], room(0)),
             TimeoutSeconds => sys::nwk_timeout_seconds(inputs[0].content()[0]),
-            EncryptCcm => sys::nwk_encrypt_ccm(
-                first,
-                second,
-                p(0),
-                n(0),
-                p(1),
-                n(1),
-                p(2),
-                n(2),
-                out[0],
-                room(0),
-                out[1],
-                room(1),
-            ),
-            DecryptCcm => {
-                sys::nwk_decrypt_ccm(first, second, p(0), n(0), p(1), n(1), p(2), n(2), p(3), n(3), out[0], room(0))
+            EncryptCcm => {
+                sys::nwk_encrypt_ccm(first, second, p(0).cast(), p(1), n(1), p(2), n(2), out[0], room(0), out[1].cast())
             }
-            EncryptBlock => sys::nwk_encrypt_block(first, second, p(0), n(0), out[0], room(0)),
+            DecryptCcm => {
+                sys::nwk_decrypt_ccm(first, second, p(0).cast(), p(1), n(1), p(2), n(2), p(3).cast(), out[0], room(0))
+            }
+            SplitMic => sys::nwk_split_mic(p(0), n(0), out[0].cast()),
+            EncryptBlock => sys::nwk_encrypt_block(first, second, p(0).cast(), out[0].cast()),
         }
     }
 }

@@ -1,5 +1,6 @@
 //! What the tests share: calls through the C boundary between guard bytes, a model of document 01, and generated calls.
 pub mod calls;
+pub mod command;
 pub mod compare;
 pub mod generate;
 pub mod guarded;

@@ -1,9 +1,13 @@
-//! The fourteen operations of `include/nwk.h`: their buffers, and the refusals each of them can answer.
+//! The fifteen operations of `include/nwk.h`: their buffers, and the refusals each of them can answer.
 
 pub const HEADER_RECORD: usize = 147;
 pub const AUXILIARY_RECORD: usize = 19;
+pub const OPENED_RECORD: usize = 182;
+/// Where an opened record has the header record; the auxiliary record is behind it.
+pub const OPENED_HEADER: usize = 16;
 pub const COMMAND_RECORD: usize = 535;
 pub const MIC: usize = 4;
+pub const BLOCK: usize = 16;
 
 #[derive(Clone, Copy, PartialEq, Eq, Debug)]
 pub enum Operation {
@@ -20,6 +24,7 @@ pub enum Operation {
     TimeoutSeconds,
     EncryptCcm,
     DecryptCcm,
+    SplitMic,
     EncryptBlock,
 }
 
@@ -28,8 +33,10 @@ pub enum Operation {
 pub enum Extent {
     /// As many as the length answered.
     Length,
-    /// A fixed number: a record, a MIC.
+    /// A fixed number: a record.
     Fixed(usize),
+    /// All of an array, which goes over without a length: a MIC, a block.
+    Array(usize),
 }
 
 /// An input: its name, and whether its length is free, so that every length from 0 to 130 is to be tried.
@@ -43,10 +50,10 @@ pub struct Shape {
     pub refusals: &'static [u8],
 }
 
-use Extent::{Fixed, Length};
+use Extent::{Array, Fixed, Length};
 use Operation::*;
 
-pub const OPERATIONS: [Operation; 14] = [
+pub const OPERATIONS: [Operation; 15] = [
     ReadHeader,
     WriteHeader,
     ReadAuxiliary,
@@ -60,6 +67,7 @@ pub const OPERATIONS: [Operation; 14] = [
     TimeoutSeconds,
     EncryptCcm,
     DecryptCcm,
+    SplitMic,
     EncryptBlock,
 ];
 
@@ -84,7 +92,7 @@ const fn shape(
 }
 
 /// In the order of `OPERATIONS`. The refusals are those of the comments in `include/nwk.h`.
-static SHAPES: [Shape; 14] = [
+static SHAPES: [Shape; 15] = [
     shape("nwk_read_header", false, &[("bytes", true)], &[Fixed(HEADER_RECORD)], &[1, 2, 3, 4, 5, 6, 7, 8, 18]),
     shape("nwk_write_header", false, &[("header", false)], &[Length], &[13, 17, 18]),
     shape("nwk_read_auxiliary", false, &[("bytes", true)], &[Fixed(AUXILIARY_RECORD)], &[1, 9, 10, 11, 18]),
@@ -108,7 +116,7 @@ static SHAPES: [Shape; 14] = [
         "nwk_open",
         true,
         &[("bytes", true)],
-        &[Fixed(HEADER_RECORD), Fixed(AUXILIARY_RECORD), Length],
+        &[Fixed(OPENED_RECORD), Length],
         &[1, 2, 3, 4, 5, 6, 7, 8, 9, 10, 11, 12, 14, 15, 16, 18, 19],
     ),
     shape("nwk_read_command", false, &[("bytes", true)], &[Fixed(COMMAND_RECORD)], &[12, 18]),
@@ -118,15 +126,16 @@ static SHAPES: [Shape; 14] = [
         "nwk_encrypt_ccm",
         true,
         &[("nonce", false), ("auth", true), ("payload", true)],
-        &[Length, Fixed(MIC)],
-        &[1, 13, 18],
+        &[Length, Array(MIC)],
+        &[1, 18],
     ),
     shape(
         "nwk_decrypt_ccm",
         true,
         &[("nonce", false), ("auth", true), ("ciphertext", true), ("mic", false)],
         &[Length],
-        &[1, 13, 18, 19],
+        &[1, 18, 19],
     ),
-    shape("nwk_encrypt_block", true, &[("block", true)], &[Length], &[13, 18]),
+    shape("nwk_split_mic", false, &[("bytes", true)], &[Array(MIC)], &[16]),
+    shape("nwk_encrypt_block", true, &[("block", false)], &[Array(BLOCK)], &[]),
 ];

@@ -1,7 +1,7 @@
 //! What was called, so that a test cannot silently stop testing: calls by operation and refusal, kinds of content, input
 //! lengths, rooms.
 use super::calls::{Call, Outcome};
-use super::operations::{Operation, OPERATIONS};
+use super::operations::{Operation, HEADER_RECORD, OPENED_HEADER, OPERATIONS};
 use std::collections::BTreeMap;
 
 /// The longest input whose length is counted.
@@ -122,12 +122,17 @@ fn kind(call: &Call, outcome: &Outcome) -> usize {
         WriteHeader | WriteFrame => header_kind(&inputs[0]),
         ReadAuxiliary => auxiliary_kind(&outputs[0]),
         WriteAuxiliary => auxiliary_kind(&inputs[0]),
-        ReadFrame | Open => 3 * header_kind(&outputs[0]) + auxiliary_kind(&outputs[1]),
+        ReadFrame => 3 * header_kind(&outputs[0]) + auxiliary_kind(&outputs[1]),
+        Open => {
+            let (header, auxiliary) = outputs[0][OPENED_HEADER..].split_at(HEADER_RECORD);
+            3 * header_kind(header) + auxiliary_kind(auxiliary)
+        }
         Seal => 3 * header_kind(&inputs[0]) + auxiliary_kind(&inputs[1]),
         ReadCommand => usize::from(outputs[0][0]),
         WriteCommand => usize::from(inputs[0][0]),
         TimeoutSeconds => usize::from(inputs[0][0]),
         EncryptCcm | DecryptCcm => usize::from(inputs[1].is_empty()) + 2 * usize::from(inputs[2].is_empty()),
+        SplitMic => usize::from(outcome.length() == 0),
         EncryptBlock => 0,
     }
 }
@@ -142,6 +147,7 @@ pub fn all_kinds(operation: Operation) -> usize {
         Seal | Open => 24,
         TimeoutSeconds => 15,
         EncryptCcm | DecryptCcm => 4,
+        SplitMic => 2,
         EncryptBlock => 1,
     }
 }

@@ -13,9 +13,10 @@ const LINK_STATUS_PLACES: usize = 133;
 
 pub fn call(call: &mut Call, random: &mut Random) {
     use Operation::*;
-    if random.below(200) == 0 && call.operation != TimeoutSeconds {
-        let input = random.below(call.inputs.len());
-        return prolong(&mut call.inputs[input], random);
+    if random.below(200) == 0 {
+        if let Some(input) = slice(call.operation, random) {
+            return prolong(&mut call.inputs[input], random);
+        }
     }
     match call.operation {
         ReadHeader | ReadAuxiliary | ReadFrame | Open | ReadCommand => bytes(&mut call.inputs[0], random),
@@ -26,16 +27,23 @@ pub fn call(call: &mut Call, random: &mut Random) {
             record(&mut call.inputs[1], 19, random);
         }
         WriteCommand => command_record(&mut call.inputs[0], random),
-        EncryptCcm => odd_length(&mut call.inputs[0], random),
         DecryptCcm => {
-            odd_length(&mut call.inputs[0], random);
-            odd_length(&mut call.inputs[3], random);
             if random.percent(30) {
                 let at = random.below(4);
                 flip(&mut call.inputs[at], random);
             }
         }
-        TimeoutSeconds | EncryptBlock => {}
+        TimeoutSeconds | EncryptCcm | SplitMic | EncryptBlock => {}
+    }
+}
+
+/// An input that is a slice, and not a number or an array, which have no length.
+fn slice(operation: Operation, random: &mut Random) -> Option<usize> {
+    use Operation::*;
+    match operation {
+        TimeoutSeconds | EncryptBlock => None,
+        EncryptCcm | DecryptCcm => Some(random.between(1, 2)),
+        other => Some(random.below(other.shape().inputs.len())),
     }
 }
 
@@ -101,13 +109,4 @@ fn wrong_length(record: &mut Vec<u8>, random: &mut Random) {
     let size = record.len();
     let other = random.pick(&[0, 1, size - 1, size + 1, size / 2, size + 40]);
     record.resize(other, 1);
-}
-
-/// Sometimes a nonce or a MIC of another length.
-fn odd_length(bytes: &mut Vec<u8>, random: &mut Random) {
-    if random.percent(5) {
-        let size = bytes.len();
-        let other = random.pick(&[0, size - 1, size + 1, size + 16]);
-        bytes.resize(other, 0);
-    }
 }

@@ -139,9 +139,13 @@ pub fn any_auxiliary_record(random: &mut Random) -> Vec<u8> {
         scatter(&mut record[10..18], random);
     }
     if random.percent(6) {
-        // absent, with the rest 0 or left as it was
-        let rest = if random.bit() { 1 } else { record.len() };
-        record[..rest].fill(0);
+        // absent, with the rest 0, left as it was, or anything
+        match random.below(3) {
+            0 => record.fill(0),
+            1 => {}
+            _ => scatter(&mut record, random),
+        }
+        record[0] = 0;
     }
     record
 }

@@ -6,7 +6,7 @@ pub mod sealed;
 
 use super::calls::Call;
 use super::model;
-use super::operations::{Extent, Operation};
+use super::operations::{Extent, Operation, BLOCK};
 use super::random::Random;
 use super::tally::{AROUND, LONGEST};
 
@@ -31,7 +31,7 @@ pub fn call(operation: Operation, number: usize, random: &mut Random) -> Generat
     let before = needed(&call).unwrap_or_else(|| fallback(operation));
     damage::call(&mut call, random);
     let exact = needed(&call).unwrap_or(before);
-    call.rooms = rooms(&exact, random);
+    call.rooms = rooms(operation, &exact, random);
     Generated { call, exact }
 }
 
@@ -53,7 +53,8 @@ fn undamaged(operation: Operation, wanted: Option<usize>, random: &mut Random) -
         TimeoutSeconds => vec![vec![if random.bit() { random.below(16) as u8 } else { random.byte() }]],
         EncryptCcm => sealed::ccm_inputs(wanted, random),
         DecryptCcm => sealed::ccm_sealed_inputs(&key, wanted, random),
-        EncryptBlock => vec![block(wanted, random)],
+        SplitMic => vec![payload(wanted, random)],
+        EncryptBlock => vec![random.bytes(BLOCK)],
     };
     Call { operation, key, inputs, rooms: Vec::new() }
 }
@@ -61,12 +62,6 @@ fn undamaged(operation: Operation, wanted: Option<usize>, random: &mut Random) -
 fn payload(wanted: Option<usize>, random: &mut Random) -> Vec<u8> {
     let n = wanted.unwrap_or_else(|| random.below(60));
     random.bytes(n)
-}
-
-/// Mostly of 16 bytes.
-fn block(wanted: Option<usize>, random: &mut Random) -> Vec<u8> {
-    let odd = random.percent(40);
-    random.bytes(wanted.filter(|_| odd).unwrap_or(16))
 }
 
 /// What each output needs, none where the call is refused however much is lent.
@@ -78,16 +73,22 @@ fn needed(call: &Call) -> Option<Vec<usize>> {
 
 fn fallback(operation: Operation) -> Vec<usize> {
     let size = |extent: &Extent| match *extent {
-        Extent::Fixed(size) => size,
+        Extent::Fixed(size) | Extent::Array(size) => size,
         Extent::Length => ANY_ROOM,
     };
     operation.shape().outputs.iter().map(size).collect()
 }
 
-/// One output takes any room around the exact one, the others mostly enough.
-fn rooms(exact: &[usize], random: &mut Random) -> Vec<usize> {
-    let narrow = random.below(exact.len().max(1));
-    exact.iter().enumerate().map(|(i, &needed)| room(needed, i == narrow, random)).collect()
+/// One slice takes any room around the exact one, the others mostly enough; an array has its size.
+fn rooms(operation: Operation, exact: &[usize], random: &mut Random) -> Vec<usize> {
+    let outputs = operation.shape().outputs;
+    let slices = outputs.iter().filter(|extent| !matches!(extent, Extent::Array(_))).count();
+    let narrow = random.below(slices.max(1));
+    let lent = outputs.iter().zip(exact).enumerate().map(|(i, (extent, &needed))| match *extent {
+        Extent::Array(size) => size,
+        _ => room(needed, i == narrow, random),
+    });
+    lent.collect()
 }
 
 fn room(needed: usize, narrow: bool, random: &mut Random) -> usize {

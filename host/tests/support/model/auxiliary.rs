@@ -70,14 +70,15 @@ pub fn record(auxiliary: &Option<Auxiliary>) -> Vec<u8> {
 }
 
 /// The auxiliary header of a record, none where its presence byte is 0, or refusal 13. Document 01 does not speak of
-/// records; by docs/DECISIONS.md a byte that its field cannot take is refused, and so it is where the presence byte is 0.
+/// records; by docs/DECISIONS.md a byte that its field cannot take is refused. Where the presence byte is 0 there is no
+/// field, and no other byte counts.
 pub fn of_record(record: &[u8]) -> Result<Option<Auxiliary>, u8> {
     refuse(&[(13, record.len() != AUXILIARY_RECORD)])?;
-    let flags = [record[0], record[3], record[4], record[9]].iter().any(|&flag| flag > 1);
-    refuse(&[(13, record[1] > 7 || record[2] > 3 || flags)])?;
     if record[0] == 0 {
         return Ok(None);
     }
+    let flags = [record[0], record[3], record[4], record[9]].iter().any(|&flag| flag > 1);
+    refuse(&[(13, record[1] > 7 || record[2] > 3 || flags)])?;
     Ok(Some(Auxiliary {
         level: record[1],
         key_id: record[2],

@@ -5,7 +5,7 @@ pub const MIC: usize = 4;
 
 /// Bytes filled with zeros up to a whole number of blocks.
 fn padded(mut bytes: Vec<u8>) -> Vec<u8> {
-    bytes.resize((bytes.len() + 15) / 16 * 16, 0);
+    bytes.resize(bytes.len().next_multiple_of(16), 0);
     bytes
 }
 

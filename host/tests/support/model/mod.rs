@@ -9,13 +9,11 @@ pub mod frame;
 pub mod header;
 
 use super::calls::{Call, Outcome};
-use super::operations::{Operation, AUXILIARY_RECORD, COMMAND_RECORD, HEADER_RECORD, MIC};
+use super::operations::{Operation, AUXILIARY_RECORD, COMMAND_RECORD, HEADER_RECORD, MIC, OPENED_RECORD};
 
 pub const MAX_FRAME: usize = 118;
 pub const MAX_PAYLOAD: usize = 108;
 pub const MAX_CCM: usize = 127;
-const NONCE: usize = 13;
-const BLOCK: usize = 16;
 
 /// An accepted call: the length answered, and the first bytes of each output.
 pub struct Done {
@@ -52,7 +50,8 @@ pub fn run(call: &Call) -> Answer {
         Operation::TimeoutSeconds => timeout_seconds(input(0)[0]),
         Operation::EncryptCcm => encrypt_ccm(&call.key, input(0), input(1), input(2), rooms),
         Operation::DecryptCcm => decrypt_ccm(&call.key, input(0), input(1), input(2), input(3), rooms),
-        Operation::EncryptBlock => encrypt_block(&call.key, input(0), rooms),
+        Operation::SplitMic => split_mic(input(0)),
+        Operation::EncryptBlock => encrypt_block(&call.key, input(0)),
     }
 }
 
@@ -132,11 +131,18 @@ fn open(key: &[u8; 16], bytes: &[u8], rooms: &[usize]) -> Answer {
     let behind = &bytes[frame.headers_length..];
     refuse(&[(16, behind.len() < MIC)])?;
     let length = behind.len() - MIC;
-    let short = rooms[0] < HEADER_RECORD || rooms[1] < AUXILIARY_RECORD || rooms[2] < length;
-    refuse(&[(18, short)])?;
+    refuse(&[(18, rooms[0] < OPENED_RECORD || rooms[1] < length)])?;
     let payload = frame::open(key, &frame.header, auxiliary, &ieee, behind).ok_or(19)?;
-    let written = vec![frame.header.record(), auxiliary::record(&frame.auxiliary), payload];
-    Ok(Done { length, written })
+    Ok(Done { length, written: vec![opened_record(&frame, length), payload] })
+}
+
+/// Refusal and mark 0, the length, places that hold nothing yet, and the two records.
+fn opened_record(frame: &frame::Frame, length: usize) -> Vec<u8> {
+    let mut record = vec![0; 16];
+    record[2..4].copy_from_slice(&(length as u16).to_le_bytes());
+    record.extend(frame.header.record());
+    record.extend(auxiliary::record(&frame.auxiliary));
+    record
 }
 
 fn read_command(bytes: &[u8], rooms: &[usize]) -> Answer {
@@ -160,25 +166,23 @@ fn timeout_seconds(code: u8) -> Answer {
 }
 
 fn encrypt_ccm(key: &[u8; 16], nonce: &[u8], auth: &[u8], payload: &[u8], rooms: &[usize]) -> Answer {
-    refuse(&[
-        (1, auth.len() > MAX_CCM || payload.len() > MAX_CCM),
-        (13, nonce.len() != NONCE),
-        (18, rooms[0] < payload.len() || rooms[1] < MIC),
-    ])?;
+    refuse(&[(1, auth.len() > MAX_CCM || payload.len() > MAX_CCM), (18, rooms[0] < payload.len())])?;
     let (ciphertext, mic) = ccm::encrypt(key, nonce, auth, payload);
     Ok(Done { length: payload.len(), written: vec![ciphertext, mic.to_vec()] })
 }
 
 fn decrypt_ccm(key: &[u8; 16], nonce: &[u8], auth: &[u8], ciphertext: &[u8], mic: &[u8], rooms: &[usize]) -> Answer {
-    refuse(&[
-        (1, auth.len() > MAX_CCM || ciphertext.len() > MAX_CCM),
-        (13, nonce.len() != NONCE || mic.len() != MIC),
-        (18, rooms[0] < ciphertext.len()),
-    ])?;
+    refuse(&[(1, auth.len() > MAX_CCM || ciphertext.len() > MAX_CCM), (18, rooms[0] < ciphertext.len())])?;
     given(ccm::decrypt(key, nonce, auth, ciphertext, mic).ok_or(19)?)
 }
 
-fn encrypt_block(key: &[u8; 16], block: &[u8], rooms: &[usize]) -> Answer {
-    refuse(&[(13, block.len() != BLOCK), (18, rooms[0] < BLOCK)])?;
+/// `split_mic` has no upper limit.
+fn split_mic(bytes: &[u8]) -> Answer {
+    refuse(&[(16, bytes.len() < MIC)])?;
+    let (ciphertext, mic) = bytes.split_at(bytes.len() - MIC);
+    Ok(Done { length: ciphertext.len(), written: vec![mic.to_vec()] })
+}
+
+fn encrypt_block(key: &[u8; 16], block: &[u8]) -> Answer {
     given(aes::encrypt(key, &std::array::from_fn(|i| block[i])).to_vec())
 }

@@ -1,0 +1,87 @@
+//! The gateway's loop: each frame that the radio hands over is opened, its counter compared with the sender's last one, and
+//! what does not pass is counted by its reason.
+//!
+//!   cargo run --release --example gateway
+use std::collections::BTreeMap;
+use store_reader::{hex, open, Eui64, Key, NwkCommand, NwkFrameType, OpenedFrame, Refusal, MAX_FRAME, MAX_PAYLOAD};
+
+/// What the radio handed over: records 2, 3, 8, 3 again, 10 and 16 of `samples/store.pcap`, without their MAC headers.
+const HEARD: [&str; 6] = [
+    "0902FCFF00001E1528626001000100A11C004B1200006097DE8F51EB4C425C218EC0",
+    "08020000107A1E072845230100C3B2A11C004B1200004A795E1A8A4667BBD5BA56CF422AFA679EC3DFE1",
+    "08020000107A1E082846230100C3B2A11C004B120000E58EB3C5CEE3F5D7353DBD6B6D9D76DED5ECA18C",
+    "08020000107A1E072845230100C3B2A11C004B1200004A795E1A8A4667BBD5BA56CF422AFA679EC3DFE1",
+    "08000000449C1E02000102040401010218020A000029C607",
+    "08020000107A1E0D284B230100C3B2A11C004B12000089413A1AB7E349F695D6D89B0AC7A3850567311A",
+];
+
+/// Each sender's last counter, and why frames did not pass.
+#[derive(Default)]
+struct Gateway {
+    counters: BTreeMap<Eui64, u32>,
+    refused: BTreeMap<Refusal, u64>,
+    repeated: u64,
+}
+
+impl Gateway {
+    /// Takes a frame from the radio.
+    fn receive(&mut self, key: &Key, frame: &[u8]) -> Result<(), Refusal> {
+        let mut out = [0; MAX_PAYLOAD];
+        match open(key, frame, &mut out) {
+            Ok(opened) if self.is_new(&opened) => deliver(&opened),
+            Ok(_) => {
+                self.repeated += 1;
+                Ok(())
+            }
+            // The archive is not the one of this crate: nothing it says can be used.
+            Err(Refusal::INTERNAL) => Err(Refusal::INTERNAL),
+            Err(refusal) => {
+                *self.refused.entry(refusal).or_default() += 1;
+                match refusal {
+                    Refusal::WRONG_MIC => println!("damaged, or under another network's key"),
+                    Refusal::NO_AUXILIARY => println!("not sealed: a probe that has yet to join?"),
+                    other => println!("{other}"),
+                }
+                Ok(())
+            }
+        }
+    }
+
+    /// Whether the counter is above the sender's last one, whose place it then takes.
+    fn is_new(&mut self, opened: &OpenedFrame<'_>) -> bool {
+        let Some(sender) = opened.auxiliary.extended_source.or(opened.header.source_ieee) else {
+            return false;
+        };
+        let counter = opened.auxiliary.frame_counter;
+        if self.counters.get(&sender).is_some_and(|last| counter <= *last) {
+            return false;
+        }
+        self.counters.insert(sender, counter);
+        true
+    }
+}
+
+/// Hands a payload on: a command is read, the rest goes to the layer above.
+fn deliver(opened: &OpenedFrame<'_>) -> Result<(), Refusal> {
+    let source = opened.header.source;
+    match opened.header.frame_control.frame_type {
+        NwkFrameType::Command => println!("{source}: {:?}", NwkCommand::read(opened.payload)?.command_id()),
+        _ => println!("{source}: {} bytes for the layer above", opened.payload.len()),
+    }
+    Ok(())
+}
+
+fn main() -> Result<(), Box<dyn std::error::Error>> {
+    let key: Key = "C0C1C2C3C4C5C6C7C8C9CACBCCCDCECF".parse()?;
+    let mut gateway = Gateway::default();
+    for text in HEARD {
+        let mut frame = [0; MAX_FRAME];
+        let n = hex(text, &mut frame)?;
+        gateway.receive(&key, &frame[..n])?;
+    }
+    for (refusal, count) in &gateway.refused {
+        println!("{count} {refusal}");
+    }
+    println!("{} heard before", gateway.repeated);
+    Ok(())
+}

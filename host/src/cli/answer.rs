@@ -1,0 +1,149 @@
+//! What is said of an input: the codec's answer, and the headers as far as they can be read.
+use super::describe;
+use super::keys::{open_with, NumberedKey};
+use super::value::{digits, line, Fields, Value};
+use store_reader::{read, NwkAuxHeader, NwkCommand, NwkFrameType, NwkHeader, Refusal, MAX_FRAME};
+
+/// What is said of an input.
+#[derive(Default)]
+pub struct Answer {
+    /// None where the input was accepted.
+    pub refusal: Option<Refusal>,
+    pub header: Option<NwkHeader>,
+    pub auxiliary: Option<NwkAuxHeader>,
+    /// The place of the key that opened the frame.
+    pub key: Option<usize>,
+    /// What is behind the headers, in words and as fields.
+    line: String,
+    fields: Fields,
+}
+
+impl Answer {
+    /// A refusal, and the headers where they read. A frame that is too long has its header all the same.
+    fn refused(bytes: &[u8], refusal: Refusal) -> Self {
+        let mut answer = Self { refusal: Some(refusal), ..Self::default() };
+        let front = bytes.get(..MAX_FRAME).unwrap_or(bytes);
+        if let Ok((header, n)) = NwkHeader::read(front) {
+            if header.frame_control.security {
+                answer.auxiliary = NwkAuxHeader::read(&front[n..]).ok().map(|(auxiliary, _)| auxiliary);
+            }
+            answer.header = Some(header);
+        }
+        answer
+    }
+
+    /// The answer on one line, without the refusal.
+    pub fn line(&self) -> String {
+        let mut parts = Vec::new();
+        if let Some(header) = &self.header {
+            let kind = kind(header);
+            let (source, destination) = (header.source, header.destination);
+            parts.push(format!("{kind:<9} {source} -> {destination}  sequence {}", header.sequence_number));
+        }
+        if let Some(auxiliary) = &self.auxiliary {
+            parts.push(format!("counter {}", auxiliary.frame_counter));
+            if let (Some(address), Some(_)) = (auxiliary.extended_source, self.refusal) {
+                parts.push(format!("ieee {address}"));
+            }
+        }
+        parts.extend(self.key.map(|key| format!("key {key}")));
+        if !self.line.is_empty() {
+            parts.push(self.line.clone());
+        }
+        parts.join("  ")
+    }
+
+    /// Every field.
+    pub fn fields(&self) -> Fields {
+        let mut fields = self.header.as_ref().map_or_else(Fields::new, describe::header);
+        if let Some(auxiliary) = &self.auxiliary {
+            fields.push(("auxiliary", Value::Object(describe::auxiliary(auxiliary))));
+        }
+        fields.extend(self.key.map(|key| ("opened_with_key", Value::Number(key as u64))));
+        fields.extend(self.fields.iter().cloned());
+        fields
+    }
+
+    /// Adds a payload: a decoded command in a command frame, else its bytes.
+    fn add_payload(&mut self, header: &NwkHeader, bytes: &[u8]) {
+        let answer = match header.frame_control.frame_type {
+            NwkFrameType::Command => command(bytes),
+            _ => Self { line: format!("payload {}", counted_digits(bytes)), ..Self::default() },
+        };
+        self.refusal = answer.refusal;
+        self.line = answer.line;
+        if !answer.fields.is_empty() {
+            self.fields.push(("command", Value::Object(answer.fields)));
+        }
+        self.fields.push(("payload", Value::bytes(bytes)));
+    }
+}
+
+fn kind(header: &NwkHeader) -> &'static str {
+    match header.frame_control.frame_type {
+        NwkFrameType::Data => "data",
+        NwkFrameType::Command => "command",
+        NwkFrameType::Interpan => "inter-PAN",
+    }
+}
+
+/// A frame opened with one of the keys.
+pub fn opened(keys: &[NumberedKey], bytes: &[u8]) -> Answer {
+    match open_with(keys, bytes) {
+        Err(refusal) => Answer::refused(bytes, refusal),
+        Ok(frame) => {
+            let key = (keys.len() > 1).then_some(frame.key);
+            let mut answer = Answer { auxiliary: Some(frame.auxiliary), key, ..Answer::default() };
+            answer.add_payload(&frame.header, &frame.payload);
+            answer.header = Some(frame.header);
+            answer
+        }
+    }
+}
+
+/// A frame read without a key.
+pub fn as_read(bytes: &[u8]) -> Answer {
+    match read(bytes) {
+        Err(refusal) => Answer::refused(bytes, refusal),
+        Ok(frame) => {
+            let mut answer = Answer { auxiliary: frame.auxiliary, ..Answer::default() };
+            if frame.auxiliary.is_some() {
+                answer.line = format!("sealed {}", counted_digits(frame.rest));
+                answer.fields.push(("sealed", Value::bytes(frame.rest)));
+            } else {
+                answer.add_payload(&frame.header, frame.rest);
+            }
+            answer.header = Some(frame.header);
+            answer
+        }
+    }
+}
+
+/// A command read from its bytes.
+pub fn command(bytes: &[u8]) -> Answer {
+    match NwkCommand::read(bytes) {
+        Err(refusal) => Answer { refusal: Some(refusal), ..Answer::default() },
+        Ok(command) => {
+            let (name, command_fields) = describe::command(&command);
+            let text = line(&command_fields, ", ");
+            let line = if text.is_empty() { name.clone() } else { format!("{name}: {text}") };
+            let mut fields: Fields = vec![("name", Value::Text(name))];
+            fields.extend(command_fields);
+            Answer { line, fields, ..Answer::default() }
+        }
+    }
+}
+
+fn counted_digits(bytes: &[u8]) -> String {
+    let unit = if bytes.len() == 1 { "byte" } else { "bytes" };
+    let colon = if bytes.is_empty() { "" } else { ": " };
+    format!("{} {unit}{colon}{}", bytes.len(), digits(bytes))
+}
+
+/// A refusal's condition, in fewer words where CCM alone cannot be meant.
+pub fn condition(refusal: Refusal) -> &'static str {
+    match refusal {
+        Refusal::TOO_LONG => "a frame has more than 118 bytes",
+        other => other.condition(),
+    }
+}

@@ -1,0 +1,109 @@
+//! The network keys that frames are tried with.
+use store_reader::{open, read, Key, NwkAuxHeader, NwkHeader, Refusal, MAX_PAYLOAD};
+
+/// A key, and the key sequence number that it goes with if one was given.
+#[derive(Debug, Clone, PartialEq)]
+pub struct NumberedKey {
+    pub key: Key,
+    pub sequence: Option<u8>,
+}
+
+impl NumberedKey {
+    /// A key, or a key sequence number, a colon and a key. The key itself is not repeated in a message.
+    pub fn parse(text: &str) -> Result<Self, String> {
+        let whole = match text.parse() {
+            Ok(key) => return Ok(Self { key, sequence: None }),
+            Err(e) => Err(e.to_string()),
+        };
+        let Some((number, rest)) = text.split_once(':') else {
+            return whole;
+        };
+        match (number.trim().parse(), rest.parse()) {
+            (Ok(number), Ok(key)) => Ok(Self { key, sequence: Some(number) }),
+            (Ok(_), Err(e)) => Err(format!("behind the key sequence number: {e}")),
+            _ => whole,
+        }
+    }
+}
+
+/// The keys of a file: one a line, comments behind `#`.
+pub fn of_file(path: &str) -> Result<Vec<NumberedKey>, String> {
+    let text = std::fs::read_to_string(path).map_err(|e| format!("{path}: {e}"))?;
+    let mut keys = Vec::new();
+    for (number, line) in (1..).zip(text.lines()) {
+        let line = line.split('#').next().unwrap_or("").trim();
+        if !line.is_empty() {
+            keys.push(NumberedKey::parse(line).map_err(|e| format!("{path}, line {number}: {e}"))?);
+        }
+    }
+    match keys.is_empty() {
+        true => Err(format!("{path}: the file has no key")),
+        false => Ok(keys),
+    }
+}
+
+/// A frame as opened, and the place of the key that opened it, counted from 1.
+pub struct Opened {
+    pub header: NwkHeader,
+    pub auxiliary: NwkAuxHeader,
+    pub payload: Vec<u8>,
+    pub key: usize,
+}
+
+/// Opens a frame with the first key that does: those with the frame's key sequence number are tried first, then those
+/// without a number, then the others.
+pub fn open_with(keys: &[NumberedKey], frame: &[u8]) -> Result<Opened, Refusal> {
+    let mut out = [0; MAX_PAYLOAD];
+    let mut refused = Refusal::WRONG_MIC;
+    for place in in_order(keys, frame) {
+        match open(&keys[place].key, frame, &mut out) {
+            Ok(opened) => {
+                let payload = opened.payload.to_vec();
+                return Ok(Opened { header: opened.header, auxiliary: opened.auxiliary, payload, key: place + 1 });
+            }
+            Err(Refusal::WRONG_MIC) => {}
+            Err(refusal) => {
+                // No other refusal depends on the key.
+                refused = refusal;
+                break;
+            }
+        }
+    }
+    Err(refused)
+}
+
+fn in_order(keys: &[NumberedKey], frame: &[u8]) -> Vec<usize> {
+    let mut places: Vec<usize> = (0..keys.len()).collect();
+    if places.len() > 1 {
+        let sequence =
+            read(frame).ok().and_then(|frame| frame.auxiliary).map(|auxiliary| auxiliary.key_sequence_number);
+        places.sort_by_key(|place| match keys[*place].sequence {
+            number if number.is_some() && number == sequence => 0,
+            None => 1,
+            Some(_) => 2,
+        });
+    }
+    places
+}
+
+#[cfg(test)]
+mod tests {
+    use super::*;
+
+    const KEY: &str = "C0C1C2C3C4C5C6C7C8C9CACBCCCDCECF";
+
+    #[test]
+    fn keys_with_and_without_a_number() {
+        let key: Key = KEY.parse().unwrap();
+        let with = |sequence| Ok(NumberedKey { key: key.clone(), sequence });
+        assert_eq!(NumberedKey::parse(KEY), with(None));
+        assert_eq!(NumberedKey::parse(&format!("0:{KEY}")), with(Some(0)));
+        assert_eq!(NumberedKey::parse(&format!("10: {KEY}")), with(Some(10)));
+        let spaced = "C0:C1:C2:C3:C4:C5:C6:C7:C8:C9:CA:CB:CC:CD:CE:CF";
+        assert_eq!(NumberedKey::parse(spaced), with(None));
+        assert_eq!(NumberedKey::parse(&format!("255:{spaced}")), with(Some(255)));
+        assert_eq!(NumberedKey::parse(&format!("256:{KEY}")).unwrap_err(), "an odd number of hexadecimal digits, 35");
+        let short = NumberedKey::parse("1:C0C1").unwrap_err();
+        assert_eq!(short, "behind the key sequence number: 2 bytes where 16 are expected");
+    }
+}

@@ -1,0 +1,146 @@
+//! Frames in hexadecimal digits, one a line or in the lines of a dump.
+use std::io::{self, BufRead};
+use store_reader::hex;
+
+/// A line's number and text.
+type Line = (u64, String);
+
+/// The lines of an input.
+#[derive(Default)]
+pub struct Lines {
+    count: u64,
+    /// A line that was looked at and is still to be taken.
+    next: Option<Line>,
+    /// The first line with an offset in front.
+    pub first_offset: Option<u64>,
+}
+
+/// The bytes of a line, or why they cannot be read.
+pub type Bytes = Result<Vec<u8>, String>;
+
+impl Lines {
+    /// The next frame and the number of its line, none at the input's end.
+    pub fn next(&mut self, input: &mut impl BufRead) -> io::Result<Option<(u64, Bytes)>> {
+        while let Some((number, line)) = self.line(input)? {
+            let text = content(&line);
+            match (text, dump_line(text)) {
+                ("", _) => {}
+                ("-", _) => return Ok(Some((number, Ok(Vec::new())))),
+                (_, Some((0, bytes))) => return self.dump(number, bytes, input).map(Some),
+                _ => return Ok(Some((number, digits(&line)))),
+            }
+        }
+        Ok(None)
+    }
+
+    /// The number of the line that is read next.
+    pub fn number(&self) -> u64 {
+        self.count + 1
+    }
+
+    /// The rest of a dump: the lines whose offset is the number of bytes so far. Some programs end with that offset alone.
+    fn dump(&mut self, number: u64, mut bytes: Vec<u8>, input: &mut impl BufRead) -> io::Result<(u64, Bytes)> {
+        self.first_offset.get_or_insert(number);
+        while let Some((next, line)) = self.line(input)? {
+            if offset(content(&line)) == Some(bytes.len()) {
+                break;
+            }
+            match dump_line(content(&line)) {
+                Some((offset, more)) if offset == bytes.len() && offset > 0 => bytes.extend(more),
+                Some((offset, _)) if offset > 0 => {
+                    let why = format!("offset {offset:04X} where {:04X} is expected", bytes.len());
+                    return Ok((next, Err(why)));
+                }
+                _ => {
+                    self.next = Some((next, line));
+                    break;
+                }
+            }
+        }
+        Ok((number, Ok(bytes)))
+    }
+
+    fn line(&mut self, input: &mut impl BufRead) -> io::Result<Option<Line>> {
+        if let Some(line) = self.next.take() {
+            return Ok(Some(line));
+        }
+        let mut bytes = Vec::new();
+        if input.read_until(b'\n', &mut bytes)? == 0 {
+            return Ok(None);
+        }
+        self.count += 1;
+        Ok(Some((self.count, String::from_utf8_lossy(&bytes).into_owned())))
+    }
+}
+
+/// A line without its comment and the blanks around it.
+fn content(line: &str) -> &str {
+    line.split('#').next().unwrap_or("").trim()
+}
+
+fn digits(line: &str) -> Bytes {
+    let text = line.split('#').next().unwrap_or("").trim_end();
+    let mut bytes = vec![0; text.len() / 2 + 1];
+    let n = hex(text, &mut bytes).map_err(|e| e.to_string())?;
+    bytes.truncate(n);
+    Ok(bytes)
+}
+
+/// A line as tshark, hexdump, od and xxd print it: an offset, up to 16 bytes, and perhaps the same as characters. Those stand
+/// behind three blanks or a bar; for xxd, which has a colon behind the offset and may join two bytes, behind two blanks.
+fn dump_line(text: &str) -> Option<(usize, Vec<u8>)> {
+    let (first, behind) = text.split_once(char::is_whitespace)?;
+    let behind = behind.trim_start();
+    let (number, shown, joined) = match first.strip_suffix(':') {
+        Some(number) => (number, behind.split("  ").next(), true),
+        None => (first, behind.split("   ").next().and_then(|shown| shown.split('|').next()), false),
+    };
+    let offset = offset(number)?;
+    let mut bytes = Vec::new();
+    for word in shown.unwrap_or("").split_whitespace() {
+        match word.len() {
+            2 => bytes.push(u8::from_str_radix(word, 16).ok()?),
+            4 if joined => bytes.extend(u16::from_str_radix(word, 16).ok()?.to_be_bytes()),
+            _ => return None,
+        }
+    }
+    (1..=16).contains(&bytes.len()).then_some((offset, bytes))
+}
+
+/// An offset: four to eight digits and nothing else.
+fn offset(text: &str) -> Option<usize> {
+    let digits = (4..=8).contains(&text.len()) && text.chars().all(|digit| digit.is_ascii_hexdigit());
+    usize::from_str_radix(text, 16).ok().filter(|_| digits)
+}
+
+#[cfg(test)]
+mod tests {
+    use super::*;
+
+    #[test]
+    fn lines_of_a_dump() {
+        assert_eq!(dump_line("0000  08 00 1E"), Some((0, vec![0x08, 0x00, 0x1E])));
+        assert_eq!(dump_line("00000010: 08 00"), Some((16, vec![0x08, 0x00])));
+        assert_eq!(dump_line("00000000: 0800 1e  ..."), Some((0, vec![0x08, 0x00, 0x1E])));
+        assert_eq!(dump_line("0000  61 88 ab   a.."), Some((0, vec![0x61, 0x88, 0xAB])));
+        assert_eq!(dump_line("00000000  61 88  |a.|"), Some((0, vec![0x61, 0x88])));
+        assert_eq!(dump_line("0800 0000 3412 1E07"), None);
+        assert_eq!(dump_line("08 00 00 00"), None);
+        assert_eq!(dump_line("080000003412"), None);
+    }
+
+    #[test]
+    fn frames_and_dumps_one_behind_the_other() {
+        let text = "08 00\n0000  01 02 03\n0003  04\n\n0000  05\n0007  06\n0x09,0x0A\n";
+        let mut input = text.as_bytes();
+        let mut lines = Lines::default();
+        let mut found = Vec::new();
+        while let Some(next) = lines.next(&mut input).unwrap() {
+            found.push(next);
+        }
+        let wrong = Err("offset 0007 where 0001 is expected".to_string());
+        let expected = [(1, Ok(vec![8, 0])), (2, Ok(vec![1, 2, 3, 4])), (6, wrong), (7, Ok(vec![9, 10]))];
+        assert_eq!(found, expected);
+        assert_eq!(lines.first_offset, Some(2));
+    }
+}

@@ -1,0 +1,91 @@
+//! Any bytes at all, into the safe operations and into the command: nothing panics, and what was accepted can be handed on.
+#[allow(dead_code)]
+mod support;
+
+use std::fs;
+use store_reader::{
+    decrypt_ccm, encrypt_ccm, hex, open, read, seal, split_mic, write, Eui64, Key, NwkAuxHeader, NwkCommand, NwkHeader,
+    Refusal, MAX_FRAME, MAX_PAYLOAD,
+};
+use support::command::{root, run, KEY};
+use support::random::Random;
+
+const SEED: u64 = 0xF022;
+const ROUNDS: usize = 60_000;
+
+/// Bytes of a length that is mostly a frame's, sometimes with a first byte that is a frame's or command's.
+fn bytes(random: &mut Random) -> Vec<u8> {
+    let n = if random.percent(95) { random.below(MAX_FRAME + 4) } else { random.below(2000) };
+    let mut bytes = random.bytes(n);
+    if let Some(first) = bytes.first_mut().filter(|_| random.percent(60)) {
+        *first = random.pick(&[0x08, 0x48, 0x09, 0x0B, 0x01, 0x05, 0x08, 0x0D]);
+    }
+    bytes
+}
+
+#[test]
+fn safe_operations_take_any_bytes() {
+    let mut random = Random::new(SEED);
+    let (mut headers, mut commands) = (0, 0);
+    for _ in 0..ROUNDS {
+        let (input, key) = (bytes(&mut random), Key::new(random.array()));
+        let room = random.below(MAX_FRAME + 4);
+        let mut out = vec![0xA5; room];
+        let number = |refusal: Refusal| assert!((1..=19).contains(&refusal.number()), "{refusal}");
+        if let Ok(frame) = read(&input).map_err(number) {
+            headers += 1;
+            let auxiliary = frame.auxiliary.unwrap_or(NwkAuxHeader::new(1, Eui64(random.array())));
+            let _ = write(&frame.header, frame.rest, &mut out).map_err(number);
+            let _ = seal(&key, &frame.header, Some(&auxiliary), frame.rest, &mut out).map_err(number);
+            let _ = seal(&key, &frame.header, None, frame.rest, &mut out).map_err(number);
+        }
+        out.fill(0xA5);
+        if open(&key, &input, &mut out).map(|_| ()).map_err(number).is_err() {
+            assert!(out.iter().all(|byte| *byte == 0xA5));
+        }
+        let _ = NwkHeader::read(&input).map_err(number);
+        let _ = NwkAuxHeader::read(&input).map_err(number);
+        if let Ok(command) = NwkCommand::read(&input).map_err(number) {
+            commands += 1;
+            let mut out = [0; MAX_PAYLOAD];
+            let n = command.write(&mut out).expect("a command that was read is written");
+            assert_eq!(NwkCommand::read(&out[..n]).as_ref(), Ok(&command));
+        }
+        let (nonce, mic) = (random.array(), random.array());
+        let _ = encrypt_ccm(&key, &nonce, &input, &input, &mut out).map_err(number);
+        let _ = decrypt_ccm(&key, &nonce, &input, &input, &mic, &mut out).map_err(number);
+        let _ = split_mic(&input).map_err(number);
+        let _ = hex(&String::from_utf8_lossy(&input), &mut out);
+    }
+    println!("{ROUNDS} inputs, {headers} read as frames, {commands} as commands");
+    assert!(headers > ROUNDS / 20 && commands > ROUNDS / 2);
+}
+
+/// Samples with bytes changed, put in, taken out and cut off: the command ends with a status of its own and its lines.
+#[test]
+fn the_command_takes_any_file() {
+    let mut random = Random::new(SEED + 1);
+    let samples = ["store.pcap", "store.pcapng"].map(|name| fs::read(root().join("samples").join(name)).expect(name));
+    let lines = b"0800000034121E07AA\n0000  08 00 00\n0003  00\n# x\n-\n".to_vec();
+    for round in 0..150 {
+        let mut file = [&samples[0], &samples[1], &lines][round % 3].clone();
+        for _ in 0..random.between(1, 6) {
+            let at = random.below(file.len());
+            match random.below(4) {
+                0 => file[at] = random.byte(),
+                1 => file[at] ^= 1 << random.below(8),
+                2 => drop(file.splice(at..at, random.array::<3>())),
+                _ => drop(file.drain(at..(at + 2).min(file.len()))),
+            }
+        }
+        if random.percent(20) {
+            file.truncate(random.below(file.len()));
+        }
+        for arguments in [&["open", "--key", KEY, "--by-sender"][..], &["read", "--json"], &["read", "--full"]] {
+            let ran = run(arguments, &file);
+            assert!((0..=2).contains(&ran.status), "{arguments:?} ended with {}: {}", ran.status, ran.err);
+            assert!(!ran.err.contains("panicked"), "{}", ran.err);
+            assert_eq!(ran.status == 2, ran.out.is_empty(), "{arguments:?}: {}", ran.err);
+        }
+    }
+}

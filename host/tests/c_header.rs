@@ -1,0 +1,137 @@
+//! What `include/nwk.h` adds to the functions, from C and from C++: names, texts, offsets, numbers of a key, NULL for an
+//! empty slice.
+#[allow(dead_code)]
+mod support;
+
+use std::collections::{BTreeMap, BTreeSet};
+use std::fs;
+use store_reader::Refusal;
+use support::command::{root, scratch, tool};
+
+fn header() -> String {
+    fs::read_to_string(root().join("include/nwk.h")).expect("include/nwk.h")
+}
+
+/// What `tests/header.c` prints, compiled with these flags and without a warning; none where there is no such compiler.
+fn printed(compiler: &str, flags: &[&str], name: &str) -> Option<String> {
+    let program = scratch(name);
+    let program = program.to_str().expect("UTF-8");
+    let strict = ["-Wall", "-Wextra", "-Wpedantic", "-Wconversion", "-Werror", "-Iinclude"];
+    let files = ["tests/header.c", "-x", "none", "target/staticlib/libnwk.a", "-o", program];
+    let compiled = tool(compiler, &[flags, &strict, &files].concat())?;
+    assert!(compiled.status.success(), "{compiler}: {}", String::from_utf8_lossy(&compiled.stderr));
+    let ran = tool(program, &[]).expect("the program");
+    assert!(ran.status.success(), "{compiler}: ended with {}", ran.status);
+    Some(String::from_utf8(ran.stdout).expect("UTF-8"))
+}
+
+/// Optimised and not, in C and in C++.
+fn outputs() -> Vec<String> {
+    let c = ["-std=c11", "-x", "c"];
+    let cpp = ["-std=c++11", "-x", "c++", "-Wold-style-cast", "-Wuseless-cast", "-Wzero-as-null-pointer-constant"];
+    let runs = [
+        ("cc", [&c[..], &["-O0"]].concat(), "header-c-0"),
+        ("cc", [&c[..], &["-O2"]].concat(), "header-c-2"),
+        ("g++", [&cpp[..], &["-O0"]].concat(), "header-cpp-0"),
+        ("g++", [&cpp[..], &["-O2"]].concat(), "header-cpp-2"),
+    ];
+    runs.iter().filter_map(|(compiler, flags, name)| printed(compiler, flags, name)).collect()
+}
+
+#[test]
+fn c_and_cpp_print_the_same() {
+    let outputs = outputs();
+    assert!(outputs.len() >= 2, "cc is needed");
+    for output in &outputs {
+        let mut lines = output.lines();
+        let version = env!("CARGO_PKG_VERSION");
+        let parts: Vec<u32> = version.split('.').map(|part| part.parse().expect("a number")).collect();
+        let number = parts.iter().fold(0, |number, part| number << 8 | part);
+        assert_eq!(lines.next(), Some(format!("version {version} {number:06X}").as_str()));
+        assert_eq!(lines.next(), Some("key C7C6C5C4C3C2C1C0 CFCECDCCCBCAC9C8"));
+        assert_eq!(lines.next(), Some("put D4C3B2A1 get A1B2C3D4 A1B2"));
+        check_empty(&mut lines);
+        check_texts(lines);
+    }
+}
+
+/// The answers to empty slices, by document 01: a header of no bytes 2, an auxiliary header of none 9, no room 18. A record of
+/// no bytes is refused by 13, and one without an auxiliary header by 14. A header of zeros has 8 bytes, no bytes are an unparsed
+/// command, and nothing sealed opens again to nothing.
+fn check_empty<'a>(lines: &mut impl Iterator<Item = &'a str>) {
+    for expected in [
+        "read_header 2 0",
+        "write_header 13 0",
+        "write_header_no_room 18 0",
+        "read_auxiliary 9 0",
+        "write_auxiliary 13 0",
+        "read_frame 2 0",
+        "write_frame 0 8",
+        "seal 14 0",
+        "read_command 0 535",
+        "write_command 0 0",
+        "open 2 0",
+        "encrypt_ccm 0 0",
+        "decrypt_ccm 0 0",
+        "split_mic 16 0",
+    ] {
+        assert_eq!(lines.next(), Some(expected));
+    }
+}
+
+fn check_texts<'a>(mut lines: impl Iterator<Item = &'a str>) {
+    assert_eq!(lines.next(), Some("0 accepted"));
+    for refusal in Refusal::all() {
+        assert_eq!(lines.next(), Some(format!("{} {}", refusal.number(), refusal.condition()).as_str()));
+    }
+    assert_eq!(lines.next(), Some("20 a number that the list does not have"));
+}
+
+/// The enum has the names and numbers of the Rust constants, and no others.
+#[test]
+fn the_enum_has_the_names_of_the_list() {
+    let header = header();
+    let numbers: BTreeMap<&str, u8> = header
+        .lines()
+        .filter_map(|line| line.trim().strip_prefix("NWK_REFUSED_")?.trim_end_matches(',').split_once(" = "))
+        .map(|(name, number)| (name, number.parse().expect("a number")))
+        .collect();
+    let expected = Refusal::all().map(|refusal| (refusal.name(), refusal.number())).collect();
+    assert_eq!(numbers, expected);
+}
+
+/// The values of the macros whose names start so.
+fn offsets(header: &str, front: &str) -> BTreeSet<usize> {
+    let lines = header.lines().filter_map(|line| line.strip_prefix("#define ")?.strip_prefix(front)?.split_once(' '));
+    lines.filter(|(name, _)| *name != "RECORD").map(|(_, value)| value.parse().expect("an offset")).collect()
+}
+
+/// The offsets of a table in the header's comments: lines with an offset and a number of bytes.
+fn table(header: &str, from: &str, to: &str) -> BTreeSet<usize> {
+    let part = header.split_once(from).expect(from).1.split_once(to).expect(to).0;
+    let numbers = part.lines().filter_map(|line| {
+        let mut words = line.strip_prefix(" *")?.split_whitespace();
+        let offset = words.next()?.parse().ok()?;
+        words.next()?.parse::<usize>().ok().map(|_| offset)
+    });
+    numbers.collect()
+}
+
+/// Each field of the tables has a name with its offset.
+#[test]
+fn every_field_has_a_name() {
+    let header = header();
+    assert_eq!(
+        offsets(&header, "NWK_HEADER_"),
+        table(&header, "Header record, 147 bytes", "Auxiliary record, 19 bytes")
+    );
+    let auxiliary = table(&header, "Auxiliary record, 19 bytes", "Opened record, 182 bytes");
+    assert_eq!(offsets(&header, "NWK_AUXILIARY_"), auxiliary);
+    let mut opened = table(&header, "Opened record, 182 bytes", "#define NWK_HEADER_RECORD");
+    assert!(opened.remove(&14), "two bytes that hold nothing");
+    assert_eq!(offsets(&header, "NWK_OPENED_"), opened);
+    // A list stands behind its count, in the same line of the table.
+    let counts = table(&header, "Command record, 535 bytes", "Only the command's own list counts");
+    let lists: BTreeSet<usize> = [25, 132, 257, 320, 426].map(|count| count + 1).into();
+    assert_eq!(offsets(&header, "NWK_COMMAND_"), &counts | &lists);
+}

@@ -1,0 +1,26 @@
+//! The programs of `examples/` print what they are to print.
+use std::process::{Command, Output};
+
+/// Runs an example as its head says.
+fn run(name: &str) -> Output {
+    let mut cargo = Command::new(env!("CARGO"));
+    cargo.args(["run", "--quiet", "--release", "--offline", "--example", name]);
+    cargo.current_dir(env!("CARGO_MANIFEST_DIR")).output().expect("cargo starts")
+}
+
+/// Of the six frames heard one is damaged, one is heard twice and one is not sealed.
+#[test]
+fn the_gateways_loop() {
+    let ran = run("gateway");
+    let expected = "0x0000: Some(LinkStatus)
+0x7A10: 16 bytes for the layer above
+damaged, or under another network's key
+not sealed: a probe that has yet to join?
+0x7A10: 16 bytes for the layer above
+1 refused by 14: sealing or opening has no auxiliary header
+1 refused by 19: the MIC is not the one computed
+1 heard before
+";
+    assert_eq!(String::from_utf8_lossy(&ran.stdout), expected);
+    assert!(ran.status.success(), "{}", String::from_utf8_lossy(&ran.stderr));
+}

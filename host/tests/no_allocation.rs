@@ -1,0 +1,73 @@
+//! The library allocates nothing: an allocator that counts sees no call from any of its operations.
+use std::alloc::{GlobalAlloc, Layout, System};
+use std::cell::Cell;
+use store_reader::{
+    decrypt_ccm, encrypt_block, encrypt_ccm, hex, open, read, seal, split_mic, timeout_seconds, write, Eui64, Key, Nwk,
+    NwkAuxHeader, NwkCommand, NwkFrameType, NwkHeader, NwkSourceRoute, Refusal, MAX_FRAME, MAX_PAYLOAD,
+};
+
+struct Counting;
+
+thread_local! {
+    static ALLOCATIONS: Cell<u64> = const { Cell::new(0) };
+}
+
+// SAFETY: every call is handed to the system's allocator as it came.
+unsafe impl GlobalAlloc for Counting {
+    unsafe fn alloc(&self, layout: Layout) -> *mut u8 {
+        ALLOCATIONS.with(|count| count.set(count.get() + 1));
+        System.alloc(layout)
+    }
+
+    unsafe fn dealloc(&self, pointer: *mut u8, layout: Layout) {
+        System.dealloc(pointer, layout);
+    }
+}
+
+#[global_allocator]
+static ALLOCATOR: Counting = Counting;
+
+fn allocations() -> u64 {
+    ALLOCATIONS.with(Cell::get)
+}
+
+/// Every operation once, with the longest lists.
+fn everything() -> Result<(), Refusal> {
+    let key: Key = "C0C1C2C3C4C5C6C7C8C9CACBCCCDCECF".parse().map_err(|_| Refusal::INTERNAL)?;
+    let probe: Eui64 = "00:12:4B:00:1C:A1:B2:C3".parse().map_err(|_| Refusal::INTERNAL)?;
+    let mut header = NwkHeader::new(NwkFrameType::Command, Nwk(1), Nwk(2));
+    header.frame_control.security = true;
+    header.frame_control.source_route = true;
+    header.source_route =
+        Some(NwkSourceRoute { relay_index: 0, relays: [Nwk(3); 9][..].try_into().unwrap_or_default() });
+    let (mut frame, mut out) = ([0; MAX_FRAME], [0; MAX_PAYLOAD]);
+    let mut record = [0; MAX_PAYLOAD];
+    let relays = [Nwk(4); 20][..].try_into().unwrap_or_default();
+    let length = NwkCommand::RouteRecord { relays }.write(&mut record)?;
+    let n = seal(&key, &header, Some(&NwkAuxHeader::new(1, probe)), &record[..length], &mut frame)?;
+    let opened = open(&key, &frame[..n], &mut out)?;
+    NwkCommand::read(opened.payload)?;
+    read(&frame[..n])?;
+    header.frame_control.security = false;
+    let n = write(&header, &record[..length], &mut frame)?;
+    NwkHeader::read(&frame[..n])?.0.write(&mut frame)?;
+    NwkAuxHeader::read(&[0x28; 14])?.0.write(&mut frame)?;
+    let (n, mic) = encrypt_ccm(&key, &[0; 13], b"auth", b"payload", &mut out)?;
+    decrypt_ccm(&key, &[0; 13], b"auth", &out[..n], &mic, &mut frame)?;
+    let _ = encrypt_block(&key, &[0; 16]);
+    split_mic(&[0; 5])?;
+    timeout_seconds(14)?;
+    hex("08 00", &mut out).map_err(|_| Refusal::INTERNAL)?;
+    assert_eq!(open(&key, &[0; 3], &mut out).map(|_| ()), Err(Refusal::SHORT_HEADER));
+    Ok(())
+}
+
+#[test]
+fn no_operation_allocates() {
+    let before = allocations();
+    drop(Vec::<u8>::with_capacity(1));
+    assert_eq!(allocations(), before + 1, "the allocator does not count");
+    let before = allocations();
+    assert_eq!(everything(), Ok(()));
+    assert_eq!(allocations(), before);
+}

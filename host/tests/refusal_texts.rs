@@ -1,0 +1,95 @@
+//! Each refusal has one name, one number and one text: in the code, in Rust, in C and in the papers.
+#[allow(dead_code)]
+mod support;
+
+use std::fs;
+use store_reader::Refusal;
+use support::command::{root, run};
+
+/// The constants of the code, with document 01's words above each.
+const CODE: &str = "crates/octets/src/refusals.rt";
+
+/// Name, number and text of each refusal.
+type Listed = Vec<(String, u8, String)>;
+
+fn in_rust() -> Listed {
+    Refusal::all().map(|r| (r.name().to_string(), r.number(), r.condition().to_string())).collect()
+}
+
+/// The constants of the code: a comment line `// 14: ..` above `pub const NO_AUXILIARY: u8 = 14;`. A comment may run on.
+fn in_code(text: &str) -> Listed {
+    let mut listed = Listed::new();
+    let mut comment: Vec<&str> = Vec::new();
+    for line in text.lines().map(str::trim) {
+        if let Some(words) = line.strip_prefix("//") {
+            comment.push(words.trim());
+        } else if let Some((name, number)) = line.strip_prefix("pub const ").and_then(|rest| rest.split_once(": u8 = "))
+        {
+            let number: u8 = number.trim_end_matches(';').parse().expect("a number");
+            let words = comment.join(" ");
+            let words = words.strip_prefix(&format!("{number}: ")).unwrap_or_else(|| panic!("{name}: {words}"));
+            listed.push((name.to_string(), number, words.to_string()));
+            comment.clear();
+        } else {
+            comment.clear();
+        }
+    }
+    listed
+}
+
+#[test]
+fn the_code_has_the_same_list() {
+    let modules = fs::read_to_string(root().join("crates/octets/src/lib.rt")).expect("the crate octets");
+    if !modules.contains("mod refusals;") {
+        eprintln!("octets has no module of refusals: skipped");
+        return;
+    }
+    let text = fs::read_to_string(root().join(CODE)).expect(CODE);
+    assert_eq!(in_code(&text), in_rust());
+}
+
+#[test]
+fn constants_are_read_with_the_words_above_them() {
+    let text = "// The refusals.\n\n// 1: too\n// long\npub const TOO_LONG: u8 = 1;\n\n// 2: short\npub const SHORT: u8 = 2;\n";
+    let listed = [("TOO_LONG", 1, "too long"), ("SHORT", 2, "short")];
+    assert_eq!(in_code(text), listed.map(|(name, number, words)| (name.to_string(), number, words.to_string())));
+}
+
+#[test]
+fn the_papers_have_the_same_list() {
+    let printed = run(&["refusals"], b"").out;
+    let lines: String = in_rust().iter().map(|(_, number, text)| format!("{number:>2}  {text}\n")).collect();
+    assert_eq!(printed, lines);
+    let read = |path: &str| fs::read_to_string(root().join(path)).expect(path);
+    let table = read("docs/REFUSALS.md");
+    let command = read("docs/COMMAND.md");
+    assert!(command.contains(&lines), "docs/COMMAND.md does not show the list as it is printed");
+    for (_, number, text) in in_rust() {
+        let row = format!("| {number} | {text}");
+        assert!(table.contains(&row), "docs/REFUSALS.md has no row {row:?}");
+    }
+    let rows =
+        table.lines().filter(|line| line.starts_with("| ") && line[2..].starts_with(|c: char| c.is_ascii_digit()));
+    assert_eq!(rows.count(), in_rust().len());
+}
+
+#[test]
+fn names_are_found_by_number_and_match_in_patterns() {
+    let mut numbers = 1..;
+    for refusal in Refusal::all() {
+        assert_eq!(Some(refusal.number()), numbers.next());
+        assert_eq!(Refusal::from_number(refusal.number()), Some(refusal));
+    }
+    assert_eq!((Refusal::from_number(0), Refusal::from_number(20), Refusal::from_number(255)), (None, None, None));
+    const NUMBER: u8 = Refusal::NO_AUXILIARY.number();
+    assert_eq!(NUMBER, 14);
+    assert!(matches!(Refusal::from_number(19), Some(Refusal::WRONG_MIC)));
+    assert_eq!(format!("{:?}", Refusal::WRONG_MIC), "WRONG_MIC(19)");
+}
+
+/// The internal error is none of the codec's answers, and does not call itself a refusal.
+#[test]
+fn the_internal_error_is_not_in_the_list() {
+    assert!(Refusal::all().all(|refusal| refusal != Refusal::INTERNAL));
+    assert_eq!(Refusal::INTERNAL.to_string(), "internal error: the codec answered what this crate does not know");
+}

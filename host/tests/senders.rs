@@ -1,0 +1,89 @@
+//! Counts by sender. The sample's senders and counters are those that `samples/capture.py` put in.
+#[allow(dead_code)]
+mod support;
+
+use support::command::{run, KEY};
+
+/// The router passed on 6998 and 6999 and sent 7001 and 7002: 7000 was never seen. The probe sent 74565 to 74571: 74566
+/// arrived damaged, 74568 was cut before its counter could be read, and 74569 and 74570 did not arrive.
+#[test]
+fn the_samples_senders() {
+    let ran =
+        run(&["open", "--key-file", "samples/store.keys", "--by-sender", "--summary-only", "samples/store.pcap"], b"");
+    let expected = "\
+sender                   short   opened  refused                    first                        last                         counters        never seen
+00:12:4B:00:1C:A1:00:01  0x0000       2        0                    2026-11-18T11:06:41.000000Z  2026-11-18T11:06:46.000000Z  90210 to 90211           0
+00:12:4B:00:1C:A1:00:02  0x3F21       2        0                    2026-11-18T11:06:52.000000Z  2026-11-18T11:06:53.000000Z  6998 to 7002             1
+00:12:4B:00:1C:A1:B2:C3  0x7A10       3        2  1 by 10, 1 by 19  2026-11-18T11:06:42.000000Z  2026-11-18T11:06:55.000000Z  74565 to 74571           3
+00:12:4B:00:1C:A1:B2:C9  0xD105       2        0                    2026-11-18T11:06:44.000000Z  2026-11-18T11:06:45.000000Z
+00:12:4B:00:AA:AA:00:44  0x9C44       1        1  1 by 14           2026-11-18T11:06:48.000000Z  2026-11-18T11:06:49.000000Z  3 to 3                   0
+header not read                       0        1  1 by 3            2026-11-18T11:06:54.000000Z  2026-11-18T11:06:54.000000Z
+14 frames: 10 opened, 4 refused
+";
+    assert!(ran.out.starts_with(expected), "{}", ran.out);
+    assert_eq!((ran.err.as_str(), ran.status), ("", 0));
+}
+
+#[test]
+fn the_same_as_comma_separated_values() {
+    let ran = run(&["open", "--key-file", "samples/store.keys", "--by-sender", "--csv", "samples/store.pcap"], b"");
+    let mut lines = ran.out.lines();
+    let heads: Vec<&str> = lines.next().expect("heads").split(',').collect();
+    assert_eq!(heads.len(), 4 + 19 + 5);
+    let cell = |line: &str, head: &str| {
+        let at = heads.iter().position(|found| *found == head).unwrap_or_else(|| panic!("no column {head}"));
+        line.split(',').nth(at).expect("a cell").to_string()
+    };
+    let probe = lines.clone().find(|line| line.starts_with("00:12:4B:00:1C:A1:B2:C3,0x7A10,")).expect("the probe");
+    for (head, expected) in [
+        ("opened", "3"),
+        ("refused", "2"),
+        ("refused_by_10", "1"),
+        ("refused_by_14", "0"),
+        ("refused_by_19", "1"),
+        ("first_time", "2026-11-18T11:06:42.000000Z"),
+        ("last_time", "2026-11-18T11:06:55.000000Z"),
+        ("first_counter", "74565"),
+        ("last_counter", "74571"),
+        ("counters_never_seen", "3"),
+    ] {
+        assert_eq!(cell(probe, head), expected, "{head}");
+    }
+    let (mut opened, mut refused) = (0, 0);
+    for line in lines {
+        opened += cell(line, "opened").parse::<u64>().expect("a number");
+        refused += cell(line, "refused").parse::<u64>().expect("a number");
+    }
+    assert_eq!((opened, refused), (10, 4));
+}
+
+#[test]
+fn the_same_as_json() {
+    let arguments = ["open", "--key", KEY, "--by-sender", "--summary-only", "--json", "samples/store.pcap"];
+    let out = run(&arguments, b"").out;
+    let probe = concat!(
+        r#"{"sender":{"ieee":"00:12:4B:00:1C:A1:B2:C3","short":["0x7A10"],"accepted":3,"refused":2,"#,
+        r#""refusals":[{"refusal":10,"count":1},{"refusal":19,"count":1}],"first_time":"2026-11-18T11:06:42.000000Z","#,
+        r#""last_time":"2026-11-18T11:06:55.000000Z","first_counter":74565,"last_counter":74571,"counters_never_seen":3}}"#
+    );
+    assert!(out.lines().any(|line| line == probe), "{out}");
+    // The neighbour's frames are refused under the store's key, so its long address is only claimed.
+    let neighbour = r#"{"sender":{"short":["0x9C44"],"accepted":0,"refused":2,"#;
+    assert!(out.lines().any(|line| line.starts_with(neighbour)), "{out}");
+    assert!(out.lines().last().expect("a line").starts_with(r#"{"summary":"#), "{out}");
+}
+
+/// Without a MAC header the sealing device is taken to be the source; each key has counters of its own.
+#[test]
+fn senders_of_lines() {
+    let clear = b"0800000034121E07AA\n0800000034121E08BB\n";
+    let seal = |key: &str, counter: &str| {
+        let key = format!("{key}:{KEY}");
+        run(&["seal", "--key", &key, "--counter", counter, "--ieee", "0807060504030201"], clear).out
+    };
+    let frames = seal("0", "10") + &seal("0", "20") + &seal("1", "1");
+    let out = run(&["open", "--key", KEY, "--by-sender", "--summary-only"], frames.as_bytes()).out;
+    let row = out.lines().nth(1).expect("a row");
+    let cells: Vec<&str> = row.split("  ").map(str::trim).filter(|cell| !cell.is_empty()).collect();
+    assert_eq!(cells, ["08:07:06:05:04:03:02:01", "0x1234", "6", "0", "10 to 2", "8"], "{out}");
+}

@@ -1,0 +1,70 @@
+/* What nwk.h adds to the functions: names, texts, the key's two numbers, and NULL for an empty slice. It is C and C++, and
+ * host/tests/c_header.rs compares what it prints.
+ *
+ *   cc -std=c11 -Wall -Wextra -Iinclude tests/header.c target/staticlib/libnwk.a -o header && ./header
+ *   g++ -x c++ -Wall -Wextra -Wold-style-cast -Iinclude tests/header.c -x none target/staticlib/libnwk.a -o header && ./header
+ */
+#include "nwk.h"
+
+#include <inttypes.h>
+#include <stdio.h>
+#include <string.h>
+
+static void print_texts(void) {
+  for (unsigned number = 0; number <= 21; number++) {
+    printf("%u %s\n", number, nwk_refusal_text(NWK_CAST(uint8_t, number)));
+  }
+}
+
+static void print_key(void) {
+  uint8_t bytes[16];
+  for (unsigned i = 0; i < sizeof bytes; i++) {
+    bytes[i] = NWK_CAST(uint8_t, 0xC0 + i);
+  }
+  const struct nwk_key key = nwk_key_of(bytes);
+  printf("key %016" PRIX64 " %016" PRIX64 "\n", key.first, key.second);
+}
+
+static void print_numbers(void) {
+  uint8_t bytes[4];
+  nwk_put32(bytes, 0xA1B2C3D4u);
+  printf("put %02X%02X%02X%02X get %" PRIX32 " %X\n", bytes[0], bytes[1], bytes[2], bytes[3], nwk_get32(bytes),
+         nwk_get16(bytes + 2));
+}
+
+static void print_answer(const char *name, uint64_t answer) {
+  printf("%s %u %u\n", name, NWK_REFUSAL(answer), NWK_LENGTH(answer));
+}
+
+/* Every slice that may be empty is NULL. */
+static void print_empty(void) {
+  uint8_t header[NWK_HEADER_RECORD] = {0};
+  uint8_t auxiliary[NWK_AUXILIARY_RECORD] = {0};
+  uint8_t command[NWK_COMMAND_RECORD] = {0};
+  uint8_t out[NWK_MAX_FRAME] = {0};
+  print_answer("read_header", nwk_read_header(NULL, 0, NULL, 0));
+  print_answer("write_header", nwk_write_header(NULL, 0, NULL, 0));
+  print_answer("write_header_no_room", nwk_write_header(header, sizeof header, NULL, 0));
+  print_answer("read_auxiliary", nwk_read_auxiliary(NULL, 0, auxiliary, sizeof auxiliary));
+  print_answer("write_auxiliary", nwk_write_auxiliary(NULL, 0, NULL, 0));
+  print_answer("read_frame", nwk_read_frame(NULL, 0, NULL, 0, NULL, 0));
+  print_answer("write_frame", nwk_write_frame(header, sizeof header, NULL, 0, out, sizeof out));
+  print_answer("seal", nwk_seal(0, 0, header, sizeof header, auxiliary, sizeof auxiliary, NULL, 0, NULL, 0));
+  print_answer("read_command", nwk_read_command(NULL, 0, command, sizeof command));
+  print_answer("write_command", nwk_write_command(command, sizeof command, NULL, 0));
+  print_answer("open", nwk_open(0, 0, NULL, 0, NULL, 0, NULL, 0));
+  uint8_t nonce[13] = {0};
+  uint8_t mic[4] = {0};
+  print_answer("encrypt_ccm", nwk_encrypt_ccm(0, 0, nonce, NULL, 0, NULL, 0, NULL, 0, mic));
+  print_answer("decrypt_ccm", nwk_decrypt_ccm(0, 0, nonce, NULL, 0, NULL, 0, mic, NULL, 0));
+  print_answer("split_mic", nwk_split_mic(NULL, 0, mic));
+}
+
+int main(void) {
+  printf("version %s %06X\n", NWK_VERSION, NWK_VERSION_NUMBER);
+  print_key();
+  print_numbers();
+  print_empty();
+  print_texts();
+  return 0;
+}
