@@ -3,14 +3,7 @@
 mod calls;
 
 use casefile::file;
-use casefile::lines::Line;
 use casefile::lines::Run;
-use casefile::lines::shown;
-
-// What one line shows, without its newline.
-fn check_line(line: &[u8]) -> Line {
-    shown(true, calls::case(line))
-}
 
 // Runs every line of a text.
 fn run_text(name: &[u8], text: &[u8]) -> Run {
@@ -18,7 +11,7 @@ fn run_text(name: &[u8], text: &[u8]) -> Run {
     while run.at < text.len() {
         let from = run.at;
         let to = run.end;
-        let shown = check_line(&text[from..to]);
+        let shown = calls::case(&text[from..to]);
         let next = run.counted(text, name, shown);
         run = next;
     }

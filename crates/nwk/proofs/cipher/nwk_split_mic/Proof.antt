@@ -14,9 +14,9 @@ returns c =
     let e = c .before .before .before .split-mic .ensures in (
       c .answer .ensures ∙ (λ i. answer (e i .refusal) (e i .length)),
       ⊎-elim
-      (λ w. w .2 ∙ (λ i. e i .mic) ∙ sym (accepted _ _ (a .mic .now) (ap (λ (r : Split). r .refusal) (sym e) ∙ w .0 .taken)))
-      (λ w. w .1 ∙ sym (refused _ _ (a .mic .now) (λ z. w .0 .left (ap (λ (r : Split). r .refusal) e ∙ z))))
-      (c .before .if1 .came),
+          (λ w. w .2 ∙ (λ i. e i .mic) ∙ sym (accepted _ _ (a .mic .now) (ap (λ (r : Split). r .refusal) (sym e) ∙ w .0 .taken)))
+          (λ w. w .1 ∙ sym (refused _ _ (a .mic .now) (λ z. w .0 .left (ap (λ (r : Split). r .refusal) e ∙ z))))
+          (c .before .if1 .came),
     )
 
 pub nwk-split-mic-spec : {M : Type 1} → statement M

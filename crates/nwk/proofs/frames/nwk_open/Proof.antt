@@ -16,9 +16,10 @@ returns : tie.Need-returns
 returns c =
     let a = c .before .before .before .before .before .before .args in
     let n = c .before .short-refusal in
-    let s = open-short (keyBytes (a .key-first) (a .key-second)) (a .bytes .now) (length (a .opened .now)) (length (a .out .now)) (n .result) (n .ensures) (c .before .before .if1 .taken) in
-    (refused-answer _ _ _ _ (s .0) (s .1) (c .answer .ensures),
-    (refused-buffer _ _ _ (a .opened .now) (s .0) (s .1), refused-buffer _ _ _ (a .out .now) (s .0) (s .1)))
+    let s = open-short (keyBytes (a .key-first) (a .key-second)) (a .bytes .now) (length (a .opened .now)) (length (a .out .now)) (n .result) (n .ensures) (c .before .before .if1 .taken) in (
+      refused-answer _ _ _ _ (s .0) (s .1) (c .answer .ensures),
+      (refused-buffer _ _ _ (a .opened .now) (s .0) (s .1), refused-buffer _ _ _ (a .out .now) (s .0) (s .1)),
+    )
 
 returns-2 : tie.Need-returns-2
 returns-2 c =
@@ -30,9 +31,10 @@ returns-2 c =
     let key = keyBytes (a .key-first) (a .key-second) in
     let t = opened-number key (a .bytes .now) (a .out .now) (o .result) (o .ensures .0 ∙ (λ i. openFrame (k i) (a .bytes .now) (a .out .now) .answer)) in
     let e = t ∙ sym (open-number key (a .bytes .now) (a .out .now) (length (a .opened .now)) (if1 .left)) in
-    let same = o .ensures .1 ∙ (λ i. openFrame (k i) (a .bytes .now) (a .out .now) .out) ∙ open-leaves key (a .bytes .now) (a .out .now) (λ z. refused (t ∙ z)) in
-    (refused-answer _ _ _ _ e refused (c .answer2 .ensures),
-    (refused-buffer _ _ _ (a .opened .now) e refused, same ∙ refused-buffer _ _ _ (a .out .now) e refused))
+    let same = o .ensures .1 ∙ (λ i. openFrame (k i) (a .bytes .now) (a .out .now) .out) ∙ open-leaves key (a .bytes .now) (a .out .now) (λ z. refused (t ∙ z)) in (
+      refused-answer _ _ _ _ e refused (c .answer2 .ensures),
+      (refused-buffer _ _ _ (a .opened .now) e refused, same ∙ refused-buffer _ _ _ (a .out .now) e refused),
+    )
 
 returns-3 : tie.Need-returns-3
 returns-3 c =
@@ -46,10 +48,13 @@ returns-3 c =
     let d = o .ensures .0 ∙ (λ i. openFrame (k i) (a .bytes .now) (a .out .now) .answer) in
     let z = sym (opened-number key (a .bytes .now) (a .out .now) (o .result) d) ∙ if2 .left in
     let e = open-number key (a .bytes .now) (a .out .now) (length (a .opened .now)) (if1 .left) ∙ z in
-    let g = open-gives key (a .bytes .now) (a .out .now) z in
-    (passed-answer _ _ _ e (c .answer3 .ensures ∙ (λ i. answer 0 (d i .length)) ∙ (λ i. answer 0 (g i .answer .length))),
-    (given-passed _ _ (a .opened .now) _ e (put .ensures ∙ (λ i. over (a .opened .now) 0 (openedRecord (d i)))),
-    given-passed _ _ (a .out .now) _ e (o .ensures .1 ∙ (λ i. openFrame (k i) (a .bytes .now) (a .out .now) .out) ∙ (λ i. g i .out))))
+    let g = open-gives key (a .bytes .now) (a .out .now) z in (
+      passed-answer _ _ _ e (c .answer3 .ensures ∙ (λ i. answer 0 (d i .length)) ∙ (λ i. answer 0 (g i .answer .length))),
+      (
+        given-passed _ _ (a .opened .now) _ e (put .ensures ∙ (λ i. over (a .opened .now) 0 (openedRecord (d i)))),
+        given-passed _ _ (a .out .now) _ e (o .ensures .1 ∙ (λ i. openFrame (k i) (a .bytes .now) (a .out .now) .out) ∙ (λ i. g i .out)),
+      ),
+    )
 
 pub nwk-open-spec : {M : Type 1} → statement M
 nwk-open-spec =
