@@ -3,7 +3,10 @@
 use casefile::fields::field;
 use casefile::fields::whole;
 use casefile::file;
+use casefile::lines::Line;
+use casefile::lines::shown;
 use casefile::outputs;
+use casefile::words;
 use command_records::COMMAND_RECORD_SIZE;
 use commands::NwkCommandIdCode;
 use commands::NwkCommandRead;
@@ -115,20 +118,18 @@ fn read_case(line: &[u8]) -> bool {
 }
 
 // `W name input place value room written`: the record of the input, with one byte changed, is written so.
-fn write_case(line: &[u8]) -> bool {
+fn write_case(line: &[u8]) -> Line {
     let mut place = [0u8; 2];
     let mut value = [0u8; 1];
     let mut room = [0u8; 1];
-    if !whole(field(line, 3, &mut place), 2) {
-        return false;
-    }
-    if !whole(field(line, 4, &mut value), 1) {
-        return false;
-    }
-    if !whole(field(line, 5, &mut room), 1) {
-        return false;
-    }
-    is_changed(line, place[0], place[1], value[0], room[0])
+    let p = field(line, 3, &mut place);
+    let v = field(line, 4, &mut value);
+    let r = field(line, 5, &mut room);
+    let good = is_whole(line, 6) && whole(p, 2) && whole(v, 1) && whole(r, 1);
+    shown(
+        good,
+        is_changed(line, place[0], place[1], value[0], room[0]),
+    )
 }
 
 // The record of the input, with the byte at a place changed, is written as word 6 says.
@@ -146,15 +147,14 @@ fn is_changed(line: &[u8], high: u8, low: u8, value: u8, room: u8) -> bool {
 }
 
 // `S name code seconds`: the refusal number and the seconds of a timeout code.
-fn seconds_case(line: &[u8]) -> bool {
+fn seconds_case(line: &[u8]) -> Line {
     let mut code = [0u8; 1];
-    if !whole(field(line, 2, &mut code), 1) {
-        return false;
-    }
+    let c = field(line, 2, &mut code);
     let answer = commands::codes::timeout_seconds(code[0]);
     let mut seconds = [0u8; 4];
     octets::put_u32(&mut seconds, 0, answer.seconds);
-    is_answer(line, 3, answer.refusal, &seconds)
+    let good = is_whole(line, 3) && whole(c, 1);
+    shown(good, is_answer(line, 3, answer.refusal, &seconds))
 }
 
 // `I name input id`: the command identifier, 00 where it is unknown.
@@ -167,23 +167,33 @@ fn id_case(line: &[u8]) -> bool {
     is_answer(line, 3, id.code(), b"")
 }
 
-// Whether word 2 of the line is well formed.
-fn has_input(line: &[u8]) -> bool {
-    let mut input = [0u8; 160];
-    let f = field(line, 2, &mut input);
+// Word k of the line is well formed, or lies behind the last.
+fn is_word(line: &[u8], k: usize, last: usize) -> bool {
+    if k > last {
+        return true;
+    }
+    let mut bytes = [0u8; 160];
+    let f = field(line, k, &mut bytes);
     f.good
 }
 
-// Whether the case of a line is well formed and agrees.
-pub fn case(line: &[u8]) -> bool {
-    if !has_input(line) {
-        return false;
-    }
-    match octets::byte_at(line, 0) {
-        b'R' => read_case(line),
+// Each word from 2 to the last is well formed, and there is none behind it.
+fn is_whole(line: &[u8], last: usize) -> bool {
+    words::is_last(line, last)
+        && is_word(line, 2, last)
+        && is_word(line, 3, last)
+        && is_word(line, 4, last)
+        && is_word(line, 5, last)
+        && is_word(line, 6, last)
+}
+
+// What the case of a line shows.
+pub fn case(line: &[u8]) -> Line {
+    match words::letter(line) {
+        b'R' => shown(is_whole(line, 5), read_case(line)),
         b'W' => write_case(line),
         b'S' => seconds_case(line),
-        b'I' => id_case(line),
-        _ => false,
+        b'I' => shown(is_whole(line, 3), id_case(line)),
+        _ => Line::Damaged,
     }
 }

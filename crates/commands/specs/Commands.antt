@@ -235,7 +235,7 @@ linkStatusFormat =
       entry = number 2 ∷ bits (keep 3 ∷ skip 1 ∷ keep 3 ∷ skip 1 ∷ []) ∷ [];
     }
 
--- the values: entry count, is first withLists, is last withLists; an entry is an address, an incoming and an outgoing cost
+-- the values: entry count, is first frame, is last frame; an entry is an address, an incoming and an outgoing cost
 unfoldable pub linkStatusOf : Values → TypedBody
 linkStatusOf v =
     TypedBody.Typed (NwkCommand.LinkStatus (record { «is_first_frame» = isSet (at v 1); «is_last_frame» = isSet (at v 2) }))
