@@ -4,5 +4,5 @@ pub mod Accepted
 pub mod FirstHalf
 pub mod SecondHalf
 pub mod SealingLaw
-pub mod Returns
+pub mod Answers
 pub mod ClearFrames

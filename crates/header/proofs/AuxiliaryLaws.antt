@@ -24,7 +24,7 @@ use Rattle.header.specs.AuxiliaryControl.{securityByte}
 use Rattle.header.specs.Auxiliary.{security, keySequenceAt, auxRefusal, auxBy, auxGiven, readAux, auxBytes}
 use Rattle.header.specs.Same.{AuxAgrees, AuxFits}
 use Rattle.header.proofs.ControlFields.{security-back, securityByte-lt, byte-back}
-use Rattle.header.proofs.Pieces.{le-byte, byte-read, take-join, ieee-length, ieee-back, ieee-read, ieee-has}
+use Rattle.header.proofs.OptionalFields.{le-byte, byte-read, take-join, ieee-length, ieee-back, ieee-read, ieee-has}
 use Rattle.header.proofs.ReadBack.{leAt-at, getD-at₀}
 
 pub aux-length : (a : NwkAuxHeader) → length (auxBytes a) ≡ 6 + 8 * bit (hasIeee (a .«extended_source»))

@@ -1,7 +1,7 @@
 -- The laws of the two headers: reading undoes writing and writing undoes reading.
 pub mod Codes
 pub mod ControlFields
-pub mod Pieces
+pub mod OptionalFields
 pub mod ReadBack
 pub mod WriteBack
 pub mod AuxiliaryLaws

@@ -27,7 +27,7 @@ use Rattle.header.specs.Reading.{control, sourceAt, multicastAt, routeAt
 use Rattle.header.specs.Writing.{fixedBytes, optionalBytes, headerBytes, badControl, badHeader}
 use Rattle.header.specs.Same.{Agrees, SameHeader, cleared, HeaderFits}
 use Rattle.header.proofs.ControlFields.{or-false, control-back, controlWord-lt, word-type, word-discovery}
-use Rattle.header.proofs.Pieces.{le-byte, ieee-length, ieee-back, multicast-length, multicast-back, route-same, route-length, route-back, route-relays, route-count}
+use Rattle.header.proofs.OptionalFields.{le-byte, ieee-length, ieee-back, multicast-length, multicast-back, route-same, route-length, route-back, route-relays, route-count}
 
 -- ---- a field behind the bytes before it
 

@@ -21,7 +21,7 @@ use Rattle.header.specs.Auxiliary.{security, keySequenceAt, auxRefusal, 
 use Rattle.header.specs.AuxiliaryControl.{levelOf, securityOf}
 use Rattle.header.specs.Same.{Agrees, AuxAgrees, HeaderFits, AuxFits}
 use Rattle.header.proofs.Codes.{bit-lt}
-use Rattle.header.proofs.Pieces.{ieee-has}
+use Rattle.header.proofs.OptionalFields.{ieee-has}
 use Rattle.header.proofs.ReadFits.{read-fits, aux-read-fits}
 use Rattle.header.proofs.ReadBack.{places}
 use Rattle.header.proofs.WriteBack.{header-read, write-back, read-good, read-agrees}

@@ -24,7 +24,7 @@ use Rattle.header.specs.Reading.{control, sourceAt, multicastAt, routeAt
 use Rattle.header.specs.Writing.{fixedBytes, optionalBytes, headerBytes, badHeader}
 use Rattle.header.specs.Same.{Agrees}
 use Rattle.header.proofs.ControlFields.{word-back, control-good}
-use Rattle.header.proofs.Pieces.{byte-read, take-join, ieee-read, ieee-has, multicast-read, multicast-has, route-read, route-has, route-count}
+use Rattle.header.proofs.OptionalFields.{byte-read, take-join, ieee-read, ieee-has, multicast-read, multicast-has, route-read, route-has, route-count}
 use Rattle.header.proofs.ReadBack.{places}
 
 -- what it means that no condition of reading holds

@@ -3,6 +3,6 @@ pub mod Strings
 pub mod Xor
 pub mod Numbers
 pub mod Fields
-mod Parts
+mod Halves
 pub mod Conditions
 pub mod Writing

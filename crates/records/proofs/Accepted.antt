@@ -26,7 +26,7 @@ use Rattle.records.specs.Optional.{ieeeRecord, multicastRecord, routeRec
 use Rattle.records.specs.HeaderRecord.{addressRecord, optionalRecord, headerRecord, headerLimits, badHeaderRecord}
 use Rattle.records.specs.AuxiliaryRecord.{counterRecord, auxRecord, auxLimits, badAuxRecord}
 use Rattle.records.proofs.Sizes.{length-header, length-aux}
-use Rattle.records.proofs.Within.{Within, within-append, within-limits}
+use Rattle.records.proofs.WithinLimits.{Within, within-append, within-limits}
 
 discovery-lt : (d : NwkRouteDiscovery) → discoveryCode d < 3
 discovery-lt NwkRouteDiscovery.Suppress = omega arith

@@ -1,11 +1,11 @@
 -- Laws of the records, and the proofs of the functions that read and write them.
-pub mod Tests
+pub mod AnyPlace
 pub mod Writes
 pub mod Sizes
 pub mod Refused
-pub mod Within
+pub mod WithinLimits
 pub mod Accepted
-pub mod RecordPieces
+pub mod FieldsBack
 pub mod RecordBack
 pub mod Plain
 pub mod RoundTrip

@@ -29,9 +29,9 @@ use Rattle.records.specs.Optional.{ieeeRecord, multicastRecord, routeRec
 use Rattle.records.specs.HeaderRecord.{addressRecord, optionalRecord, headerRecord}
 use Rattle.records.specs.AuxiliaryRecord.{securityRecord, counterRecord, auxRecord, auxLimits}
 use Rattle.records.proofs.Sizes.{length-aux}
-use Rattle.records.proofs.Within.{within-limits}
+use Rattle.records.proofs.WithinLimits.{within-limits}
 use Rattle.records.proofs.Accepted.{header-taken, aux-within}
-use Rattle.records.proofs.RecordPieces.{Blank}
+use Rattle.records.proofs.FieldsBack.{Blank}
 use Rattle.records.proofs.RecordBack.{HeaderPlain, AuxPlain}
 
 -- ---- bytes

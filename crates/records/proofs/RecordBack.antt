@@ -19,11 +19,11 @@ use Rattle.header.specs.Optional.{relayBytes}
 use Rattle.header.specs.Control.{controlValues, controlFrom}
 use Rattle.header.proofs.Codes.{bit-of, type-of, discovery-of, level-of, keyId-of}
 use Rattle.header.proofs.ControlFields.{or-false}
-use Rattle.header.proofs.Pieces.{byte-read, relay-read}
+use Rattle.header.proofs.OptionalFields.{byte-read, relay-read}
 use Rattle.records.specs.Limits.{exceeds}
 use Rattle.records.specs.HeaderRecord.{addressRecord, optionalRecord, headerRecord, relaysFrom, headerOf, headerLimits, badHeaderRecord}
 use Rattle.records.specs.AuxiliaryRecord.{securityRecord, counterRecord, auxRecord, securityAt, auxOf, auxPresent, auxLimits, badAuxRecord}
-use Rattle.records.proofs.RecordPieces.{Piece, join, keeps, Blank, ieee-piece, multicast-piece, route-piece}
+use Rattle.records.proofs.FieldsBack.{Piece, join, keeps, Blank, ieee-piece, multicast-piece, route-piece}
 
 -- ---- the header record
 

@@ -22,7 +22,7 @@ use Rattle.header.specs.Control.{controlValues, controlFrom}
 use Rattle.header.specs.Optional.{relayBytes}
 use Rattle.header.specs.Same.{IeeeFits, MulticastFits, RouteFits, HeaderFits, AuxFits}
 use Rattle.header.proofs.Codes.{bit-back, type-back, discovery-back, level-back, keyId-back}
-use Rattle.header.proofs.Pieces.{relay-at}
+use Rattle.header.proofs.OptionalFields.{relay-at}
 use Rattle.records.specs.Optional.{ieeeRecord, ieeeIn, multicastRecord, multicastIn, routeRecord, routeIn}
 use Rattle.records.specs.HeaderRecord.{addressRecord, optionalRecord, headerRecord, relaysFrom, headerOf}
 use Rattle.records.specs.AuxiliaryRecord.{counterRecord, auxRecord, securityAt, auxOf, auxPresent}

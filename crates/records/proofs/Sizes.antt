@@ -11,7 +11,7 @@ use Rattle.header.specs.declared.optional.OptionMulticast.{OptionMulticast}
 use Rattle.header.specs.declared.optional.NwkSourceRoute.{NwkSourceRoute}
 use Rattle.header.specs.declared.nwk.NwkHeader.{NwkHeader}
 use Rattle.header.specs.declared.auxiliary.NwkAuxHeader.{NwkAuxHeader}
-use Rattle.header.proofs.Pieces.{relay-length}
+use Rattle.header.proofs.OptionalFields.{relay-length}
 use Rattle.records.specs.Optional.{ieeeRecord, multicastRecord, routeRecord}
 use Rattle.records.specs.HeaderRecord.{addressRecord, optionalRecord, headerRecord}
 use Rattle.records.specs.AuxiliaryRecord.{counterRecord, auxRecord}

@@ -4,7 +4,7 @@ use Rattle.octets.proofs.Conditions.{stop-by}
 use Rattle.frame.specs.Reading.{frameRefusal}
 use Rattle.frame.proofs.frame_refusal.Statement.{statement}
 use Rattle.frame.proofs.frame_refusal.Tie as tie
-use Rattle.frame.proofs.Returns.{aux-number, payload-number, no-refusal}
+use Rattle.frame.proofs.Answers.{aux-number, payload-number, no-refusal}
 
 returns : tie.Need-returns
 unfolding frameRefusal

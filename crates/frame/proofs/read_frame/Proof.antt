@@ -10,7 +10,7 @@ use Rattle.header.proofs.ReadFacts.{header-short, aux-short}
 use Rattle.header.specs.declared.nwk.HeaderRead.{HeaderRead}
 use Rattle.header.specs.declared.auxiliary.AuxRead.{AuxRead}
 use Rattle.frame.specs.Reading.{frameRefused, frameGiven, frameNumber, frameBy}
-use Rattle.frame.proofs.Returns.{frame-done}
+use Rattle.frame.proofs.Answers.{frame-done}
 
 returns : tie.Need-returns
 unfolding frameBy

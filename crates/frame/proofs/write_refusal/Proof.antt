@@ -9,7 +9,7 @@ use Rattle.frame.proofs.write_refusal.Tie as tie
 use Rattle.octets.proofs.Conditions.{stop, skip, stop-by, skip-by, empty}
 use Rattle.header.specs.Writing.{headerBytes}
 use Rattle.frame.specs.Writing.{frameBytes, frameWriteRefusal}
-use Rattle.frame.proofs.Returns.{long-payload, long-whole, not-long}
+use Rattle.frame.proofs.Answers.{long-payload, long-whole, not-long}
 
 returns : tie.Need-returns
 unfolding frameWriteRefusal frameBytes

@@ -12,7 +12,7 @@ use Rattle.header.specs.Auxiliary.{auxBytes}
 use Rattle.ccm.specs.Verification.{Verified}
 use Rattle.ccm.specs.Operations.{givenIf}
 use Rattle.frame.specs.Opening as opening
-use Rattle.frame.proofs.Returns.{open-stopped, open-invalid, open-valid, ready, ready-facts, verified-is, payload-size, given-valid, given-invalid}
+use Rattle.frame.proofs.Answers.{open-stopped, open-invalid, open-valid, ready, ready-facts, verified-is, payload-size, given-valid, given-invalid}
 
 returns : tie.Need-returns
 returns c =

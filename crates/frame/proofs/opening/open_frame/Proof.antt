@@ -12,7 +12,7 @@ use Rattle.frame.proofs.Levels.{level-length}
 use Rattle.ccm.specs.Operations.{openedBy, givenIf}
 use Rattle.frame.specs.Security.{networkLevel}
 use Rattle.frame.specs.Opening.{ciphertextOf, micOf}
-use Rattle.frame.proofs.Returns.{auth-length, auth-taken}
+use Rattle.frame.proofs.Answers.{auth-length, auth-taken}
 
 both-headers-requires : tie.Need-both-headers-requires
 both-headers-requires c κs =

@@ -10,7 +10,7 @@ use Rattle.frame.proofs.opening.open_part.Statement.{statement}
 use Rattle.frame.proofs.opening.open_part.Tie as tie
 use Rattle.ccm.specs.Operations.{openedBy, givenIf}
 use Rattle.frame.specs.Opening.{ciphertextOf}
-use Rattle.frame.proofs.Returns.{mic-split}
+use Rattle.frame.proofs.Answers.{mic-split}
 
 slice-aggregate-open : tie.Need-slice-aggregate-open
 slice-aggregate-open c =

@@ -8,7 +8,7 @@ use Rattle.frame.proofs.sealing.length_refusal.Statement.{statement}
 use Rattle.frame.proofs.sealing.length_refusal.Tie as tie
 use Rattle.octets.proofs.Conditions.{stop, skip, empty}
 use Rattle.frame.specs.Sealing.{sealedLength, lengthRefusals}
-use Rattle.frame.proofs.Returns.{long-payload, long-whole, not-long}
+use Rattle.frame.proofs.Answers.{long-payload, long-whole, not-long}
 
 returns : tie.Need-returns
 unfolding lengthRefusals

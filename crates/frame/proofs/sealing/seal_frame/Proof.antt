@@ -12,7 +12,7 @@ use Rattle.header.specs.declared.auxiliary.NwkAuxHeader.{NwkAuxHeader}
 use Rattle.frame.proofs.Levels.{level-length}
 use Rattle.frame.specs.Security.{networkLevel, sentLevel}
 use Rattle.frame.specs.Sealing.{sealedLength}
-use Rattle.frame.proofs.Returns.{auth-length, auth-taken, sealed-done}
+use Rattle.frame.proofs.Answers.{auth-length, auth-taken, sealed-done}
 
 both-headers-requires : tie.Need-both-headers-requires
 unfolding sealedLength

@@ -9,7 +9,7 @@ use Rattle.header.proofs.optional.put_relays.Tie as tie
 use Rattle.octets.specs.Strings.{over}
 use Rattle.octets.proofs.Strings.{over-nil}
 use Rattle.header.specs.Optional.{relayBytes}
-use Rattle.header.proofs.Pieces.{relay-length, relays-more}
+use Rattle.header.proofs.OptionalFields.{relay-length, relays-more}
 
 abbrev Inv-loop : tie.InvT-loop
 Inv-loop out₀ i n relays j₀ out j = (j ≤ n) × (length out ≡ length out₀) × (out ≡ over out₀ i (relayBytes j relays))

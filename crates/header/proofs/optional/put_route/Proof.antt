@@ -11,7 +11,7 @@ use Rattle.octets.proofs.Strings.{over-three}
 use Rattle.octets.proofs.Numbers.{length-le}
 use Rattle.header.specs.declared.optional.NwkSourceRoute.{NwkSourceRoute}
 use Rattle.header.specs.Optional.{relayBytes}
-use Rattle.header.proofs.Pieces.{relay-length, route-length}
+use Rattle.header.proofs.OptionalFields.{relay-length, route-length}
 
 put-u8-requires : tie.Need-put-u8-requires
 put-u8-requires c κs =

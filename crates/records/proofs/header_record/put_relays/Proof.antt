@@ -9,7 +9,7 @@ use Rattle.records.proofs.header_record.put_relays.Tie as tie
 use Rattle.octets.specs.Strings.{over}
 use Rattle.octets.proofs.Strings.{over-nil}
 use Rattle.header.specs.Optional.{relayBytes}
-use Rattle.header.proofs.Pieces.{relays-more}
+use Rattle.header.proofs.OptionalFields.{relays-more}
 
 abbrev Inv-loop : tie.InvT-loop
 Inv-loop out₀ relays j₀ out j = (j ≤ 54) × (length out ≡ length out₀) × (out ≡ over out₀ 39 (relayBytes j relays))

@@ -10,7 +10,7 @@ use borrow.Author.Tests.{lt-ltb, le-ltb}
 use Rattle.records.proofs.limits.exceeds.Statement.{statement}
 use Rattle.records.proofs.limits.exceeds.Tie as tie
 use Rattle.records.specs.Limits.{anyBelow, exceeds}
-use Rattle.records.proofs.Tests.{any-found, any-more, any-none}
+use Rattle.records.proofs.AnyPlace.{any-found, any-more, any-none}
 
 abbrev Inv-loop : tie.InvT-loop
 Inv-loop limits bytes i₀ i =

@@ -14,7 +14,7 @@ use Rattle.octets.proofs.Numbers.{length-le}
 use Rattle.types.specs.Optional.{ieeeBytes}
 use Rattle.header.specs.AuxiliaryControl.{securityByte}
 use Rattle.header.specs.Auxiliary.{auxBytes}
-use Rattle.header.proofs.Pieces.{ieee-length}
+use Rattle.header.proofs.OptionalFields.{ieee-length}
 use Rattle.header.proofs.AuxiliaryLaws.{aux-length}
 
 put-u8-requires : tie.Need-put-u8-requires

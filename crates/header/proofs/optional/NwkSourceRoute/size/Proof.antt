@@ -7,7 +7,7 @@ use Rattle.header.proofs.optional.NwkSourceRoute.size.Statement.{statem
 use Rattle.header.proofs.optional.NwkSourceRoute.size.Tie as tie
 use Rattle.header.specs.declared.optional.NwkSourceRoute.{NwkSourceRoute}
 use Rattle.header.specs.Optional.{routeBytes}
-use Rattle.header.proofs.Pieces.{route-length}
+use Rattle.header.proofs.OptionalFields.{route-length}
 
 returns-2 : tie.Need-returns-2
 returns-2 c =

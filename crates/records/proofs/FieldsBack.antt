@@ -18,10 +18,10 @@ use Rattle.header.specs.Optional.{hasMulticast, multicastIf, hasRoute, routeIf,
 use Rattle.types.specs.Optional.{hasIeee, ieeeIf}
 use Rattle.octets.specs.Fields.{bit}
 use Rattle.header.proofs.Codes.{bit-of}
-use Rattle.header.proofs.Pieces.{byte-read, ieee-has, multicast-has, route-has}
+use Rattle.header.proofs.OptionalFields.{byte-read, ieee-has, multicast-has, route-has}
 use Rattle.records.specs.Limits.{exceeds}
 use Rattle.records.specs.Optional.{ieeeValue, ieeeRecord, ieeeIn, multicastValue, multicastRecord, multicastIn, relayIndex, routeRecord, routeIn}
-use Rattle.records.proofs.Tests.{any-found}
+use Rattle.records.proofs.AnyPlace.{any-found}
 
 -- ---- pieces of a record
 
