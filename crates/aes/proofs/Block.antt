@@ -29,7 +29,3 @@ cipher-aes128 key b p q = rw (← p) q
 pub length-cipher : (w : List (List (List ℕ))) (b : List ℕ) → length (cipher w b) ≡ 16
 unfolding cipher blockOf four
 length-cipher w b = refl
-
-pub length-aes128 : (key b : List ℕ) → length (aes128 key b) ≡ 16
-unfolding aes128
-length-aes128 key b = length-cipher (keyExpansion key) b

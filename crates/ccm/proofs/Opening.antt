@@ -45,9 +45,6 @@ same-means (suc n) u v h i l =
     let r = both (getD u n 0) (getD v n 0) (sameBytes n u v) h in
     ⊎-elim (λ k. same-means n u v (r .1) i k) (λ e. rw e (r .0)) (below-or-last i n l)
 
-pub same-equal : (n : ℕ) (u v : List ℕ) → length u ≡ n → length v ≡ n → sameBytes n u v ≡ true → u ≡ v
-same-equal n u v eu ev h = ext-getD 0 u v (eu ∙ sym ev) (λ i l. same-means n u v h i (rw (← eu) l))
-
 -- ---- a mask twice
 
 masked-at : (n : ℕ) (u s : List ℕ) (i : ℕ) → i < n → getD (xored n u s) i 0 ≡ bitXor (getD u i 0) (getD s i 0)

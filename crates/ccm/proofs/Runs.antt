@@ -12,9 +12,8 @@ use Rattle.octets.proofs.Conditions.{accepted, refused-by, stop, skip, stop-by,
 use Rattle.octets.proofs.Writing.{write-accepted, write-refused}
 use Rattle.aes.specs.Cipher.{aes128}
 use Rattle.ccm.specs.Generation.{generationEncryption}
-use Rattle.ccm.specs.Verification.{Verified, decryptionVerification}
+use Rattle.ccm.specs.Verification.{decryptionVerification}
 use Rattle.ccm.specs.Operations.{micLength, sealRefusal, SealRun, sealRefused, sealPassed, encryptCcm, openRefusal, givenIf, decryptCcm}
-use Rattle.ccm.specs.declared.Sealed.{Sealed}
 use Rattle.ccm.proofs.Opening.{length-ciphertext, length-payload}
 
 -- ---- encrypt_ccm

@@ -2,16 +2,16 @@
 -- Assumes nothing.
 use mathlib.Core.Path.{_≡_, refl, sym, ap, _∙_}
 use mathlib.Core.Bool.{Bool, true, false, cond, not, _||_}
-use mathlib.Core.List.{List, [], _++_, append-nil}
+use mathlib.Core.List.{List, _++_}
 use Prim.Native.Nat.{ℕ, _+_, _-_, _≤_, _<_}
-use lib.ListN.{length, drop, take, length-append, length-drop, drop-of-length-le}
-use lib.Seq.{take-all, drop-length, length-take-le}
+use lib.ListN.{length, drop, take, length-append, length-drop}
+use lib.Seq.{length-take-le}
 use lib.Dec.{ltb}
-use native.Mathlib.Nat.{add-zero, zero-add}
+use native.Mathlib.Nat.{zero-add}
 use native.Mathlib.Omega.{arith}
 use borrow.Author.Tests.{lt-ltb, le-ltb, ltb-false}
 use Rattle.octets.specs.Strings.{over, Below}
-use Rattle.octets.proofs.Strings.{over-part, over-then}
+use Rattle.octets.proofs.Strings.{over-then}
 use Rattle.octets.specs.Refusals.{firstOf, unless}
 use Rattle.octets.proofs.Conditions.{accepted-by, refused-by, unless-number, none, stop, skip, stop-by, skip-by, empty}
 use Rattle.header.specs.declared.auxiliary.AuxRead.{AuxRead}

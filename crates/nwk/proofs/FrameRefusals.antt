@@ -1,7 +1,6 @@
 -- The refusals of the C functions over frames in their order, at each return of the code, and what opening gives past them.
 -- Assumes nothing.
 use mathlib.Core.Path.{_≡_, sym, ap, _∙_}
-use mathlib.Core.Bool.{not}
 use mathlib.Core.List.{List, [], _∷_}
 use Prim.Native.Nat.{ℕ, _≤_, _<_}
 use native.Mathlib.Decide.{ℕ-discrete}
@@ -9,7 +8,7 @@ use native.Mathlib.Omega.{arith}
 use borrow.Author.Tests.{lt-ltb, le-ltb}
 use lib.Dec.{ltb}
 use lib.ListN.{length}
-use Rattle.octets.specs.Refusals.{on, by, firstOf}
+use Rattle.octets.specs.Refusals.{by, firstOf}
 use Rattle.octets.proofs.Conditions.{accepted, refused, stop, skip, stop-by, skip-by, empty}
 use Rattle.ccm.specs.Operations.{micLength}
 use Rattle.frame.specs.declared.FrameOpened.{FrameOpened}

@@ -7,8 +7,8 @@ use Prim.Native.Nat.{ℕ, zero, suc, _+_, _*_, _/_, _%_, _^_, _≤_, _<_}
 use native.Mathlib.Nat.{mod-lt, mod-add-div', pow-suc, pow-zero, suc-add, zero-add, add-zero, add-assoc, add-mul, mul-assoc, mul-comm, div-div-eq-div-mul, div-lt-iff-lt-mul, div-one, mul-one}
 use native.Mathlib.Numerals.{add-one, one-add}
 use native.Mathlib.Omega.{arith}
-use lib.ListN.{length, getD, take, drop, List·getD-append, List·getD-eq-default}
-use lib.Seq.{getD-append-add, getD-drop, drop-cons}
+use lib.ListN.{length, getD, take, drop, List·getD-eq-default}
+use lib.Seq.{getD-append-add, drop-cons}
 use lib.Arith.{digits-lt, mod-mul}
 use Rattle.octets.specs.Strings.{Below}
 use Rattle.octets.specs.Numbers.{le, leAt}
@@ -54,13 +54,6 @@ leAt-same (suc n) s t i j h =
 -- behind a front of known length
 pub leAt-behind : (n : ℕ) (p s : List ℕ) (i : ℕ) → leAt n (p ++ s) (length p + i) ≡ leAt n s i
 leAt-behind n p s i = leAt-same n (p ++ s) s (length p + i) i (λ k l. rw (add-assoc (length p) i k) (getD-append-add p s (i + k) 0))
-
--- within the front
-pub leAt-front : (n : ℕ) (p s : List ℕ) (i : ℕ) → i + n ≤ length p → leAt n (p ++ s) i ≡ leAt n p i
-leAt-front n p s i h = leAt-same n (p ++ s) p i i (λ k l. List·getD-append p s 0 (i + k) (omega arith))
-
-pub leAt-drop : (n : ℕ) (s : List ℕ) (j i : ℕ) → leAt n (drop j s) i ≡ leAt n s (j + i)
-leAt-drop n s j i = leAt-same n (drop j s) s i (j + i) (λ k l. rw (add-assoc j i k) (getD-drop j s (i + k) 0))
 
 -- reading undoes writing
 pub leAt-le : (n x : ℕ) (r : List ℕ) → x < 256 ^ n → leAt n (le n x ++ r) 0 ≡ x

@@ -62,9 +62,6 @@ fill-turn f n b l x h e p = (λ i. set (p i) n (e i)) ∙ fill-more f n b h
 pub filled : {A : Type 0} (f : ℕ → A) (n : ℕ) (b l : List A) → length b ≤ n → l ≡ tab f n ++ drop n b → l ≡ tab f n
 filled f n b l h p = p ∙ ap (λ (r : List _). tab f n ++ r) (drop-of-length-le b h) ∙ append-nil (tab f n)
 
-pub length-fill : {A : Type 0} (f : ℕ → A) (n : ℕ) (b : List A) → n ≤ length b → length (tab f n ++ drop n b) ≡ length b
-length-fill f n b h = simp (length-append, length-tab, length-drop) (omega arith)
-
 -- ---- a part overwritten
 
 pub length-over : {A : Type 0} (o : List A) (i : ℕ) (bs : List A) → i + length bs ≤ length o → length (over o i bs) ≡ length o

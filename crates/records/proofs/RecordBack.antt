@@ -22,7 +22,7 @@ use Rattle.header.proofs.ControlFields.{or-false}
 use Rattle.header.proofs.OptionalFields.{byte-read, relay-read}
 use Rattle.records.specs.Limits.{exceeds}
 use Rattle.records.specs.HeaderRecord.{addressRecord, optionalRecord, headerRecord, relaysFrom, headerOf, headerLimits, badHeaderRecord}
-use Rattle.records.specs.AuxiliaryRecord.{securityRecord, counterRecord, auxRecord, securityAt, auxOf, auxPresent, auxLimits, badAuxRecord}
+use Rattle.records.specs.AuxiliaryRecord.{securityRecord, counterRecord, auxRecord, securityAt, auxOf, auxPresent, auxLimits}
 use Rattle.records.proofs.FieldsBack.{Piece, join, keeps, Blank, ieee-piece, multicast-piece, route-piece}
 
 -- ---- the header record

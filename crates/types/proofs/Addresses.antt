@@ -1,15 +1,15 @@
--- Addresses: reading undoes writing and writing undoes reading, display order twice is wire order, and the same for an
--- IEEE address as a number. Each is a law of byte strings at its length.
+-- Addresses: reading undoes writing and writing undoes reading, and display order twice is wire order.
+-- Each is a law of byte strings at its length.
 -- Assumes nothing.
-use mathlib.Core.Path.{_≡_, refl, sym, ap, _∙_}
-use mathlib.Core.List.{List, [], _++_, append-nil}
+use mathlib.Core.Path.{_≡_, refl, ap, _∙_}
+use mathlib.Core.List.{List, _++_}
 use Prim.Native.Nat.{ℕ, _-_, _^_, _≤_, _<_}
 use native.Mathlib.Omega.{arith}
 use borrow.Author.Tests.{le-ltb}
 use lib.ListN.{length, getD, take, length-append}
 use lib.Seq.{take-all}
 use Rattle.octets.specs.Strings.{Below}
-use Rattle.octets.specs.Numbers.{le, leAt}
+use Rattle.octets.specs.Numbers.{le}
 use Rattle.octets.proofs.Strings.{getD-tab, tab-ext, tab-getD}
 use Rattle.octets.proofs.Numbers.{length-le, leAt-le, le-leAt}
 use Rattle.types.specs.Addresses.{nwk, panId, eui64, readNwk, readPanId, readEui64, reversed}
@@ -52,10 +52,3 @@ reversed-twice s e =
     tab-ext _ (λ (i : ℕ). getD s i 0) 8
     (λ i l. getD-tab (λ (k : ℕ). getD s (7 - k) 0) 8 (7 - i) 0 (omega arith) ∙ ap (λ (k : ℕ). getD s k 0) (omega arith))
     ∙ tab-getD s 0 8 (omega arith) ∙ take-all 8 s (omega arith)
-
--- an IEEE address as a number, and back
-pub eui64-number : (x : ℕ) → x < 256 ^ 8 → leAt 8 (le 8 x) 0 ≡ x
-eui64-number x h = ap (λ (s : List ℕ). leAt 8 s 0) (sym (append-nil (le 8 x))) ∙ leAt-le 8 x [] h
-
-pub number-eui64 : (s : List ℕ) → Below 256 s → length s ≡ 8 → le 8 (leAt 8 s 0) ≡ s
-number-eui64 s b e = le-leAt 8 s 0 b (omega arith) ∙ take-all 8 s (omega arith)

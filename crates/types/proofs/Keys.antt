@@ -6,7 +6,7 @@ use Prim.Native.Nat.{ℕ, _+_, _^_, _<_}
 use native.Mathlib.Omega.{arith}
 use native.Mathlib.Nat.{add-zero}
 use borrow.Author.Tests.{eq-eqb}
-use lib.ListN.{length, take, drop, take-append-drop, length-append, length-drop}
+use lib.ListN.{length, take, drop, take-append-drop, length-drop}
 use lib.Seq.{take-all}
 use Rattle.octets.specs.Strings.{Below}
 use Rattle.octets.specs.Numbers.{le, leAt}
@@ -17,10 +17,6 @@ use Rattle.types.specs.Keys.{key, readKey, keyBytes}
 pub readKey-written : (s : List ℕ) → length s ≡ 16 → readKey s ≡ record { key = key s; used = 16 }
 unfolding readKey
 readKey-written s e = rw (eq-eqb _ _ e) refl
-
-pub length-keyBytes : (first second : ℕ) → length (keyBytes first second) ≡ 16
-unfolding keyBytes
-length-keyBytes first second = simp (length-append, length-le)
 
 -- the two numbers of a key made of two numbers
 pub key-first : (first second : ℕ) → first < 256 ^ 8 → leAt 8 (keyBytes first second) 0 ≡ first
