@@ -15,9 +15,8 @@ use Rattle.nwk.proofs.frames.nwk_open.Tie as tie
 returns : tie.Need-returns
 returns c =
     let a = c .before .before .before .before .before .before .args in
-    let if1′ = c .before .before .if1 in
     let n = c .before .short-refusal in
-    let s = open-short (keyBytes (a .key-first) (a .key-second)) (a .bytes .now) (length (a .opened .now)) (length (a .out .now)) (n .result) (n .ensures) (if1′ .taken) in (
+    let s = open-short (keyBytes (a .key-first) (a .key-second)) (a .bytes .now) (length (a .opened .now)) (length (a .out .now)) (n .result) (n .ensures) (c .before .before .if1 .taken) in (
       refused-answer _ _ _ _ (s .0) (s .1) (c .answer .ensures),
       (refused-buffer _ _ _ (a .opened .now) (s .0) (s .1), refused-buffer _ _ _ (a .out .now) (s .0) (s .1)),
     )
@@ -25,12 +24,9 @@ returns c =
 returns-2 : tie.Need-returns-2
 returns-2 c =
     let a = c .before .before .before .before .before .before .before .before .before .before .before .before .args in
-    let if1′ = c .before .before .before .before .before .before .before .before .if1 in
-    let from-halves = c .before .before .before .before .before .before .before .from-halves in
-    let opened = c .before .before .before .before .before .«open» in
-    let if1 = if1′ in
-    let k = from-halves .ensures in
-    let o = open in
+    let if1 = c .before .before .before .before .before .before .before .before .if1 in
+    let k = c .before .before .before .before .before .before .before .from-halves .ensures in
+    let o = c .before .before .before .before .before .«open» in
     let refused = c .before .if2 .taken in
     let key = keyBytes (a .key-first) (a .key-second) in
     let t = opened-number key (a .bytes .now) (a .out .now) (o .result) (o .ensures .0 ∙ (λ i. openFrame (k i) (a .bytes .now) (a .out .now) .answer)) in
