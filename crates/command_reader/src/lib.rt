@@ -8,13 +8,13 @@ ghost use Prim.Native.Nat.{_≤_};
 ghost use lib.ListN.{length};
 ghost use Rattle.commands.specs.Reading.{listed, listOf, typed, readCommand};
 ghost use Rattle.commands.specs.declared.TypedBody.{TypedBody};
-use commands::MAX_NSDU_SIZE;
 use commands::NwkCommand;
 use commands::NwkCommandList;
 use commands::NwkCommandRead;
 use commands::NwkCommandWithLists;
 use commands::TypedBody;
 use octets::refusals;
+use types::MAX_NSDU_SIZE;
 
 // A typed command with the list that the bytes hold.
 fn with_list(command: NwkCommand, s: &[u8]) -> NwkCommandWithLists

@@ -10,7 +10,6 @@ ghost use Rattle.commands.specs.Format.{heldFields, heldEntries};
 ghost use Rattle.commands.specs.Commands.{has, linkStatusFormat, linkEntry, noLink};
 ghost use Rattle.commands.specs.Reading.{listOf};
 ghost use Rattle.commands.specs.Writing.{wire, misfits, updateCount, commandBytes, fieldRefusal, writeRefusal};
-use commands::MAX_NSDU_SIZE;
 use commands::NwkCommand;
 use commands::NwkCommandList;
 use commands::NwkCommandWithLists;
@@ -19,6 +18,7 @@ use commands::NwkRouteReplyCommand;
 use commands::NwkRouteRequestCommand;
 use commands::has_address;
 use octets::refusals;
+use types::MAX_NSDU_SIZE;
 
 // The length of a route request.
 fn route_request_length(c: NwkRouteRequestCommand) -> usize

@@ -1,4 +1,5 @@
--- A timeout code's seconds at the row that the old gateway has wrong, and past the last code. By computation.
+-- A timeout code's seconds at code 6, where the old gateway's table held 32 minutes and Zigbee has 64, and past the last code.
+-- By computation.
 -- Assumes nothing.
 use mathlib.Core.Path.{_≡_, refl}
 use Rattle.commands.specs.Writing.{seconds, timeoutSeconds}

@@ -12,9 +12,6 @@ ghost use Rattle.commands.specs.Reading.{listOf, withLists};
 ghost use Rattle.commands.specs.Writing.{typedId, commandId};
 use types::OptionEui64;
 
-// The most bytes that a command has.
-pub const MAX_NSDU_SIZE: usize = 108;
-
 // Zigbee 3.4: the command identifier, the first byte of a command.
 pub enum NwkCommandId {
     RouteRequest = 0x01,

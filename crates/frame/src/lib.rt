@@ -6,6 +6,7 @@ use header::nwk::MAX_MAC_PAYLOAD_SIZE;
 use header::nwk::NwkHeader;
 use octets::Written;
 use octets::refusals;
+use types::MAX_NSDU_SIZE;
 ghost use mathlib.Core.Path.{_≡_};
 ghost use mathlib.Core.Bool.{cond};
 ghost use Prim.Native.Nat.{_+_, _≤_};
@@ -19,9 +20,6 @@ pub mod opening;
 pub mod ranges;
 pub mod sealing;
 mod security;
-
-// The largest NWK payload: 127 bytes less the smallest MAC and NWK headers.
-pub const MAX_NSDU_SIZE: usize = 108;
 
 // An optional auxiliary header.
 pub enum OptionAuxHeader {

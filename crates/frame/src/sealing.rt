@@ -49,7 +49,7 @@ fn seal_refusal(h: NwkHeader, aux: OptionAuxHeader, payload: &[u8], room: usize)
 fn length_refusal(h: NwkHeader, aux: NwkAuxHeader, payload: &[u8], room: usize) -> u8
     ensures { λ r. ⌜ r ≡ firstOf (lengthRefusals micLength h aux (now (payload .entry)) room) ⌝ }
 {
-    if crate::MAX_NSDU_SIZE < payload.len() {
+    if types::MAX_NSDU_SIZE < payload.len() {
         return refusals::LENGTH;
     }
     let whole = sealed_length(h, aux, payload);

@@ -13,6 +13,9 @@ ghost use Rattle.types.specs.Optional.{ieeeIf, ieeeBytes};
 
 pub mod ranges;
 
+// The largest NWK payload, or command: 127 bytes less the smallest MAC and NWK headers.
+pub const MAX_NSDU_SIZE: usize = 108;
+
 // A 16-bit network address.
 pub struct Nwk(pub u16);
 
