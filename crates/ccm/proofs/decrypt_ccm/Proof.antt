@@ -43,4 +43,5 @@ returns-3 c =
 pub decrypt-ccm-spec : {M : Type 1} → statement M
 decrypt-ccm-spec =
     tie.close
-    (tie.spec (λ c κs. search needs) returns open-requires (λ c. search needs) returns-2 (λ c. search needs) returns-3)
+    (tie.spec (λ c κs. search needs) returns open-requires (λ c. search needs) returns-2 (λ c. search needs)
+    returns-3)

@@ -31,5 +31,4 @@ returns-2 c =
     (λ i. e i .answer, λ i. e i .out)
 
 pub encrypt-ccm-spec : {M : Type 1} → statement M
-encrypt-ccm-spec =
-    tie.close (tie.spec (λ c κs. search needs) returns seal-requires (λ c. search needs) returns-2)
+encrypt-ccm-spec = tie.close (tie.spec (λ c κs. search needs) returns seal-requires (λ c. search needs) returns-2)

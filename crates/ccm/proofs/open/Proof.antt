@@ -58,15 +58,6 @@ returns-2 c =
 pub open-spec : {M : Type 1} → statement M
 open-spec =
     tie.close
-    (tie.spec
-    (λ c κs. search needs)
-    (λ c κs. search needs)
-    array-share-prefix-payload
-    slice-aggregate-tag-valid
-    tag-valid-requires
-    array-share-prefix-payload-2
-    slice-aggregate-copy-at
-    copy-at-requires
-    (λ c. search needs)
-    returns
-    returns-2)
+    (tie.spec (λ c κs. search needs) (λ c κs. search needs) array-share-prefix-payload slice-aggregate-tag-valid
+    tag-valid-requires array-share-prefix-payload-2 slice-aggregate-copy-at copy-at-requires (λ c. search needs)
+    returns returns-2)

@@ -37,12 +37,5 @@ returns c =
 pub seal-spec : {M : Type 1} → statement M
 seal-spec =
     tie.close
-    (tie.spec
-    (λ c κs. search needs)
-    (λ c κs. search needs)
-    array-share-prefix-ciphertext
-    slice-aggregate-copy-at
-    copy-at-requires
-    encrypted-tag-requires
-    (λ c. search needs)
-    returns)
+    (tie.spec (λ c κs. search needs) (λ c κs. search needs) array-share-prefix-ciphertext slice-aggregate-copy-at
+    copy-at-requires encrypted-tag-requires (λ c. search needs) returns)

@@ -8,5 +8,4 @@ returns : tie.Need-returns
 returns c = cc
 
 pub last-round-spec : {M : Type 1} → statement M
-last-round-spec =
-    tie.close (tie.spec (λ c κs. search needs) (λ c κs. search needs) (λ c κs. search needs) returns)
+last-round-spec = tie.close (tie.spec (λ c κs. search needs) (λ c κs. search needs) (λ c κs. search needs) returns)

@@ -43,13 +43,4 @@ returns-2 c = (omega arith, sym (c .before .loop .inv .2 ∙ before-end _ _ _ (c
 pub next-spec : {M : Type 1} → statement M
 next-spec =
     tie.close
-    (tie.spec
-    Inv-loop
-    μ-loop
-    loop-holds
-    shared-slice-read-if1
-    returns
-    add-end
-    loop-less
-    loop-again
-    returns-2)
+    (tie.spec Inv-loop μ-loop loop-holds shared-slice-read-if1 returns add-end loop-less loop-again returns-2)

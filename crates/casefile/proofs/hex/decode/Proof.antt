@@ -102,29 +102,7 @@ returns-6 c =
 pub decode-spec : {M : Type 1} → statement M
 decode-spec =
     tie.close
-    (tie.spec
-    Inv-loop
-    μ-loop
-    returns
-    returns-2
-    returns-3
-    (λ c. (search needs, refl, refl, refl))
-    mul-digit
-    shared-slice-read-digit
-    (λ c κs. search needs)
-    mul-digit-2
-    add-digit
-    shared-slice-read-digit-2
-    (λ c κs. search needs)
-    (λ c. search needs)
-    returns-4
-    (λ c. search needs)
-    returns-5
-    mul-out
-    add-out
-    slice-write-out
-    add-i
-    loop-less
-    loop-again
-    (λ c. search needs)
-    returns-6)
+    (tie.spec Inv-loop μ-loop returns returns-2 returns-3 (λ c. (search needs, refl, refl, refl)) mul-digit
+    shared-slice-read-digit (λ c κs. search needs) mul-digit-2 add-digit shared-slice-read-digit-2
+    (λ c κs. search needs) (λ c. search needs) returns-4 (λ c. search needs) returns-5 mul-out add-out slice-write-out
+    add-i loop-less loop-again (λ c. search needs) returns-6)

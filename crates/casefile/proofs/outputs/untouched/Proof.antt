@@ -27,13 +27,5 @@ returns-2 c = sym (c .before .loop .inv .1 ∙ filler-end _ _ (c .loop-test .lef
 pub untouched-spec : {M : Type 1} → statement M
 untouched-spec =
     tie.close
-    (tie.spec
-    Inv-loop
-    μ-loop
-    (λ c. (search needs, refl))
-    (λ c. search needs)
-    returns
-    (λ c. search needs)
-    (λ c. search needs)
-    loop-again
-    returns-2)
+    (tie.spec Inv-loop μ-loop (λ c. (search needs, refl)) (λ c. search needs) returns (λ c. search needs)
+    (λ c. search needs) loop-again returns-2)

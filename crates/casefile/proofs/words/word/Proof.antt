@@ -10,4 +10,7 @@ returns c =
     the-word _ _ _ _ s (the-end _ _ _ _ s (c .before .next .ensures .1))
 
 pub word-spec : {M : Type 1} → statement M
-word-spec = tie.close (tie.spec (λ c κs. search needs) (λ c κs. search needs) (λ c. search needs) (λ c. search needs) (λ c. search needs) returns)
+word-spec =
+    tie.close
+    (tie.spec (λ c κs. search needs) (λ c κs. search needs) (λ c. search needs) (λ c. search needs)
+    (λ c. search needs) returns)

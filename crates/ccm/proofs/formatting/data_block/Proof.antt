@@ -41,15 +41,5 @@ returns c =
 pub data-block-spec : {M : Type 1} → statement M
 data-block-spec =
     tie.close
-    (tie.spec
-    Inv-loop
-    μ-loop
-    loop-holds
-    (λ c. search needs)
-    (λ c. search needs)
-    (λ c κs. search needs)
-    array-write-b
-    (λ c. search needs)
-    (λ c. search needs)
-    loop-again
-    returns)
+    (tie.spec Inv-loop μ-loop loop-holds (λ c. search needs) (λ c. search needs) (λ c κs. search needs) array-write-b
+    (λ c. search needs) (λ c. search needs) loop-again returns)

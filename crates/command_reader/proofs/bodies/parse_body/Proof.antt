@@ -9,13 +9,13 @@ use Rattle.commands.specs.declared.NwkCommandId.{NwkCommandId}
 pub parse-body-spec : {M : Type 1} → statement M
 parse-body-spec =
     tie.close
-    (tie.spec
+    (tie.spec (λ c. search needs) (λ c κs. search needs) (λ c. search needs) (λ c κs. search needs)
     (λ c. search needs) (λ c κs. search needs) (λ c. search needs) (λ c κs. search needs) (λ c. search needs)
     (λ c κs. search needs) (λ c. search needs) (λ c κs. search needs) (λ c. search needs) (λ c κs. search needs)
     (λ c. search needs) (λ c κs. search needs) (λ c. search needs) (λ c κs. search needs) (λ c. search needs)
     (λ c κs. search needs) (λ c. search needs) (λ c κs. search needs) (λ c. search needs) (λ c κs. search needs)
     (λ c. search needs) (λ c κs. search needs) (λ c. search needs) (λ c κs. search needs) (λ c. search needs)
-    (λ c κs. search needs) (λ c. search needs) (λ c κs. search needs) (λ c. search needs) (λ c κs. search needs)
+    (λ c κs. search needs)
     (λ c. c .read-route-request .ensures ∙ ap (λ (k : NwkCommandId). bodyOf k (c .before .before .before .before .args .s .now)) (sym (c .before .enum-told .given .1)))
     (λ c. c .read-route-reply .ensures ∙ ap (λ (k : NwkCommandId). bodyOf k (c .before .before .before .before .args .s .now)) (sym (c .before .enum-told2 .given .1)))
     (λ c. c .read-network-status .ensures ∙ ap (λ (k : NwkCommandId). bodyOf k (c .before .before .before .before .args .s .now)) (sym (c .before .enum-told3 .given .1)))

@@ -18,4 +18,5 @@ returns c =
     (c .before .before .put-capability .ensures)
 
 pub put-rejoin-request-spec : {M : Type 1} → statement M
-put-rejoin-request-spec = tie.close (tie.spec (λ c κs. search needs) (λ c κs. search needs) (λ c. search needs) returns)
+put-rejoin-request-spec =
+    tie.close (tie.spec (λ c κs. search needs) (λ c κs. search needs) (λ c. search needs) returns)

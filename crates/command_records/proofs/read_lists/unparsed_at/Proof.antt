@@ -40,6 +40,5 @@ returns c =
 pub unparsed-at-spec : {M : Type 1} → statement M
 unparsed-at-spec =
     tie.close
-    (tie.spec
-    Inv-loop μ-loop loop-holds (λ c. omega arith) (λ c κs. tt) (λ c. omega arith) (λ c. omega arith)
+    (tie.spec Inv-loop μ-loop loop-holds (λ c. omega arith) (λ c κs. tt) (λ c. omega arith) (λ c. omega arith)
     (λ c. omega arith) loop-again returns)

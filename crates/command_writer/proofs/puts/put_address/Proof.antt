@@ -32,4 +32,5 @@ returns-2 c =
 
 pub put-address-spec : {M : Type 1} → statement M
 put-address-spec =
-    tie.close (tie.spec (λ c. search needs) (λ c. search needs) put-u64-requires returns (λ c. search needs) returns-2)
+    tie.close
+    (tie.spec (λ c. search needs) (λ c. search needs) put-u64-requires returns (λ c. search needs) returns-2)

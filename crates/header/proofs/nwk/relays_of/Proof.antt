@@ -71,17 +71,5 @@ returns c =
 pub relays-of-spec : {M : Type 1} → statement M
 relays-of-spec =
     tie.close
-    (tie.spec
-    Inv-loop
-    μ-loop
-    relays-announced-requires
-    route-at-requires
-    add-first
-    loop-holds
-    relay-at-requires
-    mul-relays
-    array-write-relays
-    add-i
-    loop-less
-    loop-again
-    returns)
+    (tie.spec Inv-loop μ-loop relays-announced-requires route-at-requires add-first loop-holds relay-at-requires
+    mul-relays array-write-relays add-i loop-less loop-again returns)

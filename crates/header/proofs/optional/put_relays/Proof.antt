@@ -72,17 +72,5 @@ returns c =
 pub put-relays-spec : {M : Type 1} → statement M
 put-relays-spec =
     tie.close
-    (tie.spec
-    Inv-loop
-    μ-loop
-    loop-holds
-    mul-put-u16
-    add-put-u16
-    mul-put-u16-2
-    array-read-put-u16
-    put-u16-requires
-    add-j
-    loop-less
-    loop-again
-    same-length
-    returns)
+    (tie.spec Inv-loop μ-loop loop-holds mul-put-u16 add-put-u16 mul-put-u16-2 array-read-put-u16 put-u16-requires
+    add-j loop-less loop-again same-length returns)

@@ -9,4 +9,5 @@ returns : tie.Need-returns
 returns c = let s = c .before .before .timeout-seconds .ensures in c .answer .ensures ∙ (λ i. answer (s i .refusal) (s i .seconds))
 
 pub nwk-timeout-seconds-spec : {M : Type 1} → statement M
-nwk-timeout-seconds-spec = tie.close (tie.spec (λ c κs. search needs) (λ c. search needs) (λ c κs. search needs) returns)
+nwk-timeout-seconds-spec =
+    tie.close (tie.spec (λ c κs. search needs) (λ c. search needs) (λ c κs. search needs) returns)

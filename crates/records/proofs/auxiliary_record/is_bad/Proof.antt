@@ -19,4 +19,5 @@ returns-3 c =
     ∙ aux-rest (c .before .before .before .before .before .before .args .bytes .now) (c .before .before .before .before .if1 .left) (λ z. c .before .before .if2 .left (byte-at .ensures ∙ z))
 
 pub is-bad-spec : {M : Type 1} → statement M
-is-bad-spec = tie.close (tie.spec returns (λ c κs. search needs) returns-2 (λ c. search needs) (λ c κs. search needs) returns-3)
+is-bad-spec =
+    tie.close (tie.spec returns (λ c κs. search needs) returns-2 (λ c. search needs) (λ c κs. search needs) returns-3)

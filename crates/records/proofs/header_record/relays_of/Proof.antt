@@ -63,16 +63,5 @@ returns c =
 pub relays-of-spec : {M : Type 1} → statement M
 relays-of-spec =
     tie.close
-    (tie.spec
-    Inv-loop
-    μ-loop
-    loop-holds
-    mul-read-u16
-    add-read-u16
-    read-u16-requires
-    mul-relays
-    array-write-relays
-    add-i
-    loop-less
-    loop-again
-    returns)
+    (tie.spec Inv-loop μ-loop loop-holds mul-read-u16 add-read-u16 read-u16-requires mul-relays array-write-relays
+    add-i loop-less loop-again returns)

@@ -62,14 +62,5 @@ returns-2 c =
 pub exceeds-spec : {M : Type 1} → statement M
 exceeds-spec =
     tie.close
-    (tie.spec
-    Inv-loop
-    μ-loop
-    loop-holds
-    shared-slice-read-if1
-    byte-at-requires
-    returns
-    add-i
-    loop-less
-    loop-again
+    (tie.spec Inv-loop μ-loop loop-holds shared-slice-read-if1 byte-at-requires returns add-i loop-less loop-again
     returns-2)

@@ -32,5 +32,4 @@ returns-2 c =
 
 pub deserialize-spec : {M : Type 1} → statement M
 deserialize-spec =
-    tie.close
-    (tie.spec returns (λ c. search needs) slice-aggregate-copy-at-2 copy-at-requires returns-2)
+    tie.close (tie.spec returns (λ c. search needs) slice-aggregate-copy-at-2 copy-at-requires returns-2)
