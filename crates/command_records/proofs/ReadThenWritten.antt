@@ -2,7 +2,7 @@
 -- within the ranges of its types, so its record says it again, and of what was read only the room can be missing.
 -- Assumes nothing.
 use mathlib.Core.Path.{_≡_, refl, ap, _∙_}
-use mathlib.Core.Bool.{Bool, true, false, _||_}
+use mathlib.Core.Bool.{false}
 use mathlib.Core.List.{List, [], _∷_}
 use Prim.Native.Nat.{ℕ, _+_, _-_, _≤_, _<_}
 use native.Mathlib.Decide.{decLt}
@@ -15,7 +15,7 @@ use Rattle.octets.specs.Strings.{Below}
 use Rattle.octets.specs.Fields.{fields}
 use Rattle.octets.specs.Refusals.{on, by, firstOf}
 use Rattle.octets.proofs.Numbers.{leAt-lt}
-use Rattle.octets.proofs.Conditions.{unless-number, skip-by}
+use Rattle.octets.proofs.Conditions.{unless-number, skip-by, or-false}
 use Rattle.commands.specs.Format.{partSizes, kept, readField, readFields, values, announced}
 use Rattle.commands.specs.Commands.{noLink, noPower, linkStatusFormat, linkOf}
 use Rattle.commands.specs.Reading.{places, withLists, listOf, listed, typed, unparsed, parsed, readCommand}
@@ -90,10 +90,6 @@ link-read : (s : List ℕ) (k : ℕ) → Below 256 s → LinkFits (linkOf (entry
 unfolding linkOf linkStatusFormat readFields readField kept partSizes fields
 link-read s k b = (leAt-lt 2 s _ b, omega arith, omega arith)
 
-or-left : (a b : Bool) → (a || b) ≡ false → a ≡ false
-or-left true b e = e
-or-left false b e = refl
-
 listed-fits : (k : NwkCommandList) (c : NwkCommand) (s : List ℕ) → Below 256 s → Ranged c → RangedList k (listed k c s)
     → tooBig k c (listed k c s) ≡ false → CommandFits (listed k c s)
 unfolding listed withLists tooBig values
@@ -101,7 +97,7 @@ listed-fits NwkCommandList.NoList c s b h r t = with-fits c h (none _ _ _) (none
 listed-fits NwkCommandList.Relays c s b h r t =
     with-fits c h (record { few = ltb-false 53 _ t; each = r }) (none _ _ _) (none _ _ _) (none _ _ _) (none _ _ _)
 listed-fits NwkCommandList.LinkStatuses c s b h r t =
-    with-fits c h (none _ _ _) (record { few = ltb-false 31 _ (or-left _ _ t); each = λ k l. rw (entry-read linkOf (entryAt linkStatusFormat s) (announced linkStatusFormat s) noLink 31 k l) (link-read s k b) })
+    with-fits c h (none _ _ _) (record { few = ltb-false 31 _ (or-false _ _ t .0); each = λ k l. rw (entry-read linkOf (entryAt linkStatusFormat s) (announced linkStatusFormat s) noLink 31 k l) (link-read s k b) })
     (none _ _ _) (none _ _ _) (none _ _ _)
 listed-fits NwkCommandList.PanIds c s b h r t =
     with-fits c h (none _ _ _) (none _ _ _) (record { few = ltb-false 31 _ t; each = r }) (none _ _ _) (none _ _ _)

@@ -2,7 +2,7 @@
 -- three bits.
 -- Assumes nothing.
 use mathlib.Core.Path.{_≡_, refl, sym, ap, subst, _∙_}
-use mathlib.Core.Bool.{Bool, true, false, _&&_, _||_, true≢false}
+use mathlib.Core.Bool.{Bool, true, false, _&&_, true≢false}
 use mathlib.Core.List.{List, _++_}
 use Prim.Native.Nat.{ℕ, suc, _+_, _*_, _≤_}
 use native.Mathlib.Omega.{arith}
@@ -11,13 +11,14 @@ use lib.Dec.{ltb}
 use lib.ListN.{length, getD}
 use Rattle.octets.specs.Strings.{tab}
 use Rattle.octets.proofs.Strings.{length-tab}
+use Rattle.octets.proofs.Conditions.{or-false}
 use Rattle.commands.specs.Format.{size, sizes, width, keptCount, heldParts, heldField, heldFields, heldEntries}
 use Rattle.commands.specs.Commands.{routeRequestFormat, routeRequestValues, routeReplyFormat, routeReplyValues, networkStatusFormat, networkStatusValues, leaveFormat, leaveValues, routeRecordFormat, routeRecordValues, rejoinRequestFormat, rejoinRequestValues, rejoinResponseFormat, rejoinResponseValues, linkStatusFormat, linkStatusValues, networkReportFormat, networkReportValues, networkUpdateFormat, networkUpdateValues, timeoutRequestFormat, timeoutRequestValues, timeoutResponseFormat, timeoutResponseValues, linkPowerDeltaFormat, linkPowerDeltaValues, commissioningRequestFormat, commissioningRequestValues, commissioningResponseFormat, commissioningResponseValues, capabilityField, has, addressEntry, firsts, relayEntry, linkEntry, noLink, powerEntry, noPower}
 use Rattle.commands.specs.Reading.{formatOf, listOf}
 use Rattle.commands.specs.Writing.{wireOf, wire, wireBytes, commandBytes, writeRefusal}
 use Rattle.commands.proofs.Format.{first, second, held-not}
 use Rattle.commands.proofs.Ranges.{tooBig}
-use Rattle.commands.proofs.Lengths.{length-wire, or-right}
+use Rattle.commands.proofs.Lengths.{length-wire}
 use Rattle.commands.proofs.InRange.{InRange, misfits-test}
 use Rattle.commands.proofs.RoundTrip.{Accepted, accepts}
 use Rattle.command_writer.specs.Options.{LowCosts}
@@ -111,10 +112,6 @@ Ready (NwkCommand.NetworkCommissioningRequest c) f room = 3 ≤ room
 Ready (NwkCommand.NetworkCommissioningResponse c) f room = 4 ≤ room
 Ready NwkCommand.Unparsed f room = (f .«unparsed_len» ≤ 108) × (f .«unparsed_len» ≤ room)
 
-or-left : (a b : Bool) → (a || b) ≡ false → a ≡ false
-or-left true b e = e
-or-left false b e = refl
-
 ready : (c : NwkCommand) (f : NwkCommandWithLists) (room : ℕ) → tooBig (listOf c) c f ≡ false → lengthBy c f ≤ 108 → lengthBy c f ≤ room → Ready c f room
 unfolding tooBig
 ready (NwkCommand.RouteRequest c) f room e l h = h
@@ -124,7 +121,7 @@ ready (NwkCommand.Leave c) f room e l h = h
 ready NwkCommand.RouteRecord f room e l h = (ltb-false 53 (f .«relay_count») e, h)
 ready (NwkCommand.RejoinRequest c) f room e l h = h
 ready (NwkCommand.RejoinResponse c) f room e l h = h
-ready (NwkCommand.LinkStatus c) f room e l h = (ltb-false 31 (f .«link_statuses_len») (or-left _ _ e), h, all-low (f .«link_statuses») (f .«link_statuses_len») (not-false _ (or-right (ltb 31 (f .«link_statuses_len»)) _ e)))
+ready (NwkCommand.LinkStatus c) f room e l h = (ltb-false 31 (f .«link_statuses_len») (or-false _ _ e .0), h, all-low (f .«link_statuses») (f .«link_statuses_len») (not-false _ (or-false (ltb 31 (f .«link_statuses_len»)) _ e .1)))
 ready (NwkCommand.NetworkReport c) f room e l h = (ltb-false 31 (f .«report_information_count») e, h)
 ready (NwkCommand.NetworkUpdate c) f room e l h = (ltb-false 31 (c .«update_information_count») e, h)
 ready (NwkCommand.EndDeviceTimeoutRequest c) f room e l h = h

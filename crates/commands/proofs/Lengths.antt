@@ -1,14 +1,15 @@
 -- How long a command is: a typed one that fits its fields never passes 108 bytes, so number 17 is met by unparsed bytes
 -- alone. Each length is the format's by computation.
 -- Assumes nothing.
-use mathlib.Core.Path.{_≡_, refl, sym}
-use mathlib.Core.Bool.{Bool, true, false, _||_, true≢false}
+use mathlib.Core.Path.{_≡_, sym}
+use mathlib.Core.Bool.{Bool, false, _||_}
 use mathlib.Core.List.{_++_}
 use Prim.Native.Nat.{ℕ, _+_, _*_, _≤_}
 use native.Mathlib.Omega.{arith}
 use borrow.Author.Tests.{ltb-false}
 use lib.Dec.{ltb}
 use lib.ListN.{length, getD, length-append}
+use Rattle.octets.proofs.Conditions.{or-false}
 use Rattle.octets.specs.Strings.{tab}
 use Rattle.commands.specs.Format.{Values, size, sizes}
 use Rattle.commands.specs.Commands.{routeRequestFormat, routeRequestValues, routeReplyFormat, routeReplyValues, networkStatusFormat, networkStatusValues, leaveFormat, leaveValues, routeRecordFormat, routeRecordValues, rejoinRequestFormat, rejoinRequestValues, rejoinResponseFormat, rejoinResponseValues, linkStatusFormat, linkStatusValues, networkReportFormat, networkReportValues, networkUpdateFormat, networkUpdateValues, timeoutRequestFormat, timeoutRequestValues, timeoutResponseFormat, timeoutResponseValues, linkPowerDeltaFormat, linkPowerDeltaValues, commissioningRequestFormat, commissioningRequestValues, commissioningResponseFormat, commissioningResponseValues, capabilityField, addressEntry, relayEntry, linkEntry, noLink, powerEntry, noPower}
@@ -38,16 +39,8 @@ addresses-few : (a b : OptionEui64) → length (addressEntry a ++ addressEntry b
 addresses-few a b = rw (length-append (addressEntry a) (addressEntry b)) (let p = address-few a in let q = address-few b in omega arith)
 
 -- a list with its places not exceeded
-or-left : (a b : Bool) → (a || b) ≡ false → a ≡ false
-or-left true b e = e
-or-left false b e = refl
-
-pub or-right : (a b : Bool) → (a || b) ≡ false → b ≡ false
-or-right true b e = absurd (true≢false e)
-or-right false b e = e
-
 within : (m n : ℕ) (b : Bool) → (ltb m n || b) ≡ false → n ≤ m
-within m n b e = ltb-false m n (or-left (ltb m n) b e)
+within m n b e = ltb-false m n (or-false (ltb m n) b e .0)
 
 -- typed commands
 abbrev pub Typed : NwkCommandList → Type 0

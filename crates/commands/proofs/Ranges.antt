@@ -3,7 +3,7 @@
 -- types give, and `misfits-is` what is left.
 -- Assumes nothing.
 use mathlib.Core.Path.{_≡_, refl, sym, ap, _∙_}
-use mathlib.Core.Bool.{Bool, true, false, not, _&&_, _||_}
+use mathlib.Core.Bool.{Bool, true, false, not, _&&_, _||_, or-false}
 use mathlib.Core.List.{List, _++_}
 use Prim.Native.Nat.{ℕ, _^_, _≤_, _<_}
 use native.Mathlib.Decide.{decLt}
@@ -170,10 +170,6 @@ over-bound m n b h e = elim (decLt m n) [ yes l ↦ over l | no l ↦ ap (λ (x 
   where
     over : m < n → (ltb m n || not b) ≡ (ltb m n || not h)
     over l = rw (lt-ltb m n l) refl
-
-or-false : (b : Bool) → (b || false) ≡ b
-or-false true = refl
-or-false false = refl
 
 -- a list with so many places: a field misfits exactly if there are more entries
 over-places : (m n : ℕ) (b : Bool) → (n ≤ m → b ≡ true) → (ltb m n || not b) ≡ ltb m n

@@ -12,7 +12,7 @@ use lib.Dec.{ltb, leb}
 use lib.ListN.{length, getD, take}
 use Rattle.octets.specs.Strings.{Below}
 use Rattle.octets.specs.Refusals.{on, firstOf, unless}
-use Rattle.octets.proofs.Conditions.{accepted, none, none-refuse, stop, skip, skip-by}
+use Rattle.octets.proofs.Conditions.{accepted, none, none-refuse, stop, skip, skip-by, or-false}
 use Rattle.octets.proofs.Writing.{write-accepted}
 use Rattle.octets.proofs.Strings.{take-over}
 use Rattle.commands.specs.Codes.{commandIdCode, commandIdOf}
@@ -24,7 +24,7 @@ use Rattle.commands.proofs.Format.{Fit, values-back, end-back}
 use Rattle.commands.proofs.CodeLaws.{commandId-back}
 use Rattle.commands.proofs.Commands.{WireBack, back}
 use Rattle.commands.proofs.Ranges.{misfits-is}
-use Rattle.commands.proofs.Lengths.{Typed, or-right, typed-short}
+use Rattle.commands.proofs.Lengths.{Typed, typed-short}
 use Rattle.commands.proofs.Reread.{firsts-places, cleared-read, Writable, writable}
 use Rattle.commands.specs.declared.NwkCommandId.{NwkCommandId}
 use Rattle.commands.specs.declared.NwkCommandIdCode.{NwkCommandIdCode}
@@ -49,7 +49,7 @@ typed-back id v rest fit ok =
 -- no field misfits: every value fits its field
 fits : (k : NwkCommandList) (id : NwkCommandId) (v : Values) → misfits k (body id v) ≡ false → heldValues (formatOf id) v ≡ true
 unfolding misfits
-fits k id v e = not-false _ (or-right (overPlaces k (length (v .entries))) (not (heldValues (formatOf id) v)) e)
+fits k id v e = not-false _ (or-false (overPlaces k (length (v .entries))) (not (heldValues (formatOf id) v)) e .1)
 
 wire-back : (c : NwkCommand) (f : NwkCommandWithLists) (w : Wire) (rest : List ℕ) → WireBack c f w → Typed (listOf c) → misfits (listOf c) w ≡ false
     → parsed (typed (wireBytes w ++ rest)) (wireBytes w ++ rest) ≡ clearedBy (listOf c) c f

@@ -11,7 +11,7 @@ use native.Mathlib.Nat.{zero-add}
 use native.Mathlib.Omega.{arith}
 use borrow.Author.Tests.{lt-ltb, le-ltb, ltb-false}
 use Rattle.octets.specs.Strings.{over, Below}
-use Rattle.octets.proofs.Strings.{over-then}
+use Rattle.octets.proofs.Strings.{over-then, drop-below}
 use Rattle.octets.specs.Refusals.{firstOf, unless}
 use Rattle.octets.proofs.Conditions.{accepted-by, refused-by, unless-number, none, stop, skip, stop-by, skip-by, empty}
 use Rattle.header.specs.declared.auxiliary.AuxRead.{AuxRead}
@@ -31,7 +31,7 @@ use Rattle.frame.specs.Security.{networkLevel, sentLevel, atLevel, isAbs
 use Rattle.frame.specs.Sealing.{generated, sealedBytes}
 use Rattle.frame.specs.Opening.{behind, ciphertextOf, micOf, verified, openRefusals, openRefusal, openGiven, openNothing, openBy, openFrame}
 use Rattle.frame.proofs.Levels.{level-length}
-use Rattle.frame.proofs.SecondHalf.{drop-below, secured-facts, payload-length}
+use Rattle.frame.proofs.SecondHalf.{secured-facts, payload-length}
 use Rattle.frame.specs.declared.FrameRead.{FrameRead}
 use Rattle.frame.specs.Reading.{secured, auxBehind, frameRefusal, frameNumber, frameBy, readFrame}
 

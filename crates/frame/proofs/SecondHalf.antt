@@ -9,6 +9,7 @@ use native.Mathlib.Nat.{add-zero}
 use native.Mathlib.Omega.{arith}
 use lib.ListN.{length, getD, take, drop, length-drop, take-append-drop}
 use lib.Seq.{take-add, getD-drop, length-take-le}
+use Rattle.octets.proofs.Strings.{drop-below}
 use Rattle.octets.specs.Strings.{Below}
 use Rattle.octets.proofs.Conditions.{accepted, none}
 use Rattle.header.specs.declared.auxiliary.NwkSecurityLevel.{NwkSecurityLevel}
@@ -32,10 +33,6 @@ use Rattle.frame.proofs.Accepted.{Sealable, Openable, frame-refusal}
 use Rattle.frame.proofs.FirstHalf.{secured-frame}
 
 -- ---- a frame that was read and has an auxiliary header
-
--- the parts behind the header of a byte string are byte strings
-pub drop-below : (f : List ℕ) (n m : ℕ) → Below m f → Below m (drop n f)
-drop-below f n m b i = rw (getD-drop n f i 0) (b (n + i))
 
 -- what reading a secured frame gives, by its parts
 abbrev pub wholeRead : List ℕ → FrameRead

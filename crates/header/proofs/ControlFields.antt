@@ -2,7 +2,7 @@
 -- of bit fields and the codes' inverses.
 -- Assumes nothing.
 use mathlib.Core.Path.{_≡_, refl, sym, ap, _∙_}
-use mathlib.Core.Bool.{Bool, true, false, _||_}
+use mathlib.Core.Bool.{false}
 use mathlib.Core.List.{List, [], _∷_}
 use Prim.Native.Nat.{ℕ, _+_, _*_, _/_, _%_, _^_, _≤_, _<_}
 use native.Mathlib.Nat.{mod-lt}
@@ -10,6 +10,7 @@ use native.Mathlib.Omega.{arith}
 use borrow.Author.Tests.{ltb-false}
 use lib.ListN.{getD}
 use lib.Dec.{eqb, ltb}
+use Rattle.octets.proofs.Conditions.{or-false}
 use Rattle.octets.specs.Fields.{fields, packed, bitsOf, Held}
 use Rattle.octets.proofs.Fields.{fields-packed, packed-fields, packed-lt}
 use Rattle.header.specs.declared.control.NwkFrameControl.{NwkFrameControl}
@@ -19,11 +20,6 @@ use Rattle.header.specs.Control.{controlSizes, controlValues, controlFro
 use Rattle.header.specs.AuxiliaryControl.{securitySizes, securityValues, securityFrom, securityByte, securityOf}
 use Rattle.header.specs.Writing.{badControl}
 use Rattle.header.proofs.Codes.{bit-back, bit-lt, bit-of, type-back, type-lt, type-of, type-declared, discovery-back, discovery-lt, discovery-of, discovery-declared, level-back, level-lt, level-of, keyId-back, keyId-lt, keyId-of}
-
--- a disjunction that fails fails in both parts
-pub or-false : (a b : Bool) → (a || b) ≡ false → (a ≡ false) × (b ≡ false)
-or-false true b e = absurd (mathlib.Core.Bool.true≢false e)
-or-false false b e = (refl, e)
 
 -- ---- frame control
 

@@ -13,7 +13,7 @@ use lib.Dec.{ltb, eqb}
 use borrow.Author.Tests.{le-ltb, lt-ltb, ltb-false, ltb-true}
 use Rattle.octets.specs.Numbers.{le, leAt}
 use Rattle.octets.specs.Refusals.{firstOf}
-use Rattle.octets.proofs.Conditions.{accepted}
+use Rattle.octets.proofs.Conditions.{accepted, or-false}
 use Rattle.octets.proofs.Strings.{tab-ext, getD-tab}
 use Rattle.octets.proofs.Numbers.{length-le, leAt-le, leAt-behind}
 use Rattle.header.specs.declared.control.NwkFrameControl.{NwkFrameControl}
@@ -26,7 +26,7 @@ use Rattle.header.specs.Control.{controlWord, controlOf}
 use Rattle.header.specs.Reading.{control, sourceAt, multicastAt, routeAt, relaysAnnounced, headerEnd, headerRefusal, optionalRefusals, relaysOf, headerBy, headerGiven, readHeader}
 use Rattle.header.specs.Writing.{fixedBytes, optionalBytes, headerBytes, badControl, badHeader}
 use Rattle.header.specs.Same.{Agrees, SameHeader, cleared, HeaderFits}
-use Rattle.header.proofs.ControlFields.{or-false, control-back, controlWord-lt, word-type, word-discovery}
+use Rattle.header.proofs.ControlFields.{control-back, controlWord-lt, word-type, word-discovery}
 use Rattle.header.proofs.OptionalFields.{le-byte, ieee-length, ieee-back, multicast-length, multicast-back, route-same, route-length, route-back, route-relays, route-count}
 
 -- ---- a field behind the bytes before it

@@ -7,11 +7,10 @@ use native.Mathlib.Omega.{arith}
 use lib.ListN.{length}
 use lib.Dec.{ltb}
 use borrow.Author.Tests.{ltb-false}
-use Rattle.octets.proofs.Conditions.{none}
+use Rattle.octets.proofs.Conditions.{none, or-false}
 use Rattle.header.specs.declared.nwk.NwkHeader.{NwkHeader}
 use Rattle.header.specs.Optional.{relayCount}
 use Rattle.header.specs.Writing.{headerBytes, badControl, badHeader, fieldRefusal, headerWriteRefusal}
-use Rattle.header.proofs.ControlFields.{or-false}
 
 pub record Writable (h : NwkHeader) (room : ℕ) : Type 0 where
   pub good : badHeader h ≡ false

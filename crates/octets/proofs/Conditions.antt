@@ -1,7 +1,7 @@
 -- Laws of an ordered list of refusals: there is none exactly where no condition holds.
 -- Assumes nothing.
 use mathlib.Core.Path.{_≡_, refl, sym, ap, _∙_}
-use mathlib.Core.Bool.{Bool, true, false, true≢false}
+use mathlib.Core.Bool.{Bool, true, false, true≢false, _||_}
 use mathlib.Core.List.{List, [], _∷_}
 use Prim.Native.Nat.{ℕ, zero, suc}
 use native.Mathlib.Omega.{arith}
@@ -91,3 +91,9 @@ skip-by n cs e = accepted n (firstOf cs) n e
 pub empty : firstOf [] ≡ 0
 unfolding firstOf
 empty = refl
+
+-- ---- two conditions under one number
+
+pub or-false : (a b : Bool) → (a || b) ≡ false → (a ≡ false) × (b ≡ false)
+or-false true b e = absurd (true≢false e)
+or-false false b e = (refl, e)

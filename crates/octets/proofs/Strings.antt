@@ -10,8 +10,8 @@ use native.Mathlib.Numerals.{add-one}
 use native.Mathlib.Decide.{decLt}
 use native.Mathlib.Omega.{arith}
 use lib.ListN.{length, getD, take, drop, set, length-append, length-drop, take-append-drop, List·getD-append, drop-of-length-le}
-use lib.Seq.{length-take-le, take-all, drop-length, take-suc, take-at, set-at, getD-at, drop-cons, set-split, drop-append-add, drop-drop, take-add}
-use Rattle.octets.specs.Strings.{tab, over}
+use lib.Seq.{length-take-le, take-all, drop-length, take-suc, take-at, set-at, getD-at, drop-cons, set-split, drop-append-add, drop-drop, take-add, getD-drop}
+use Rattle.octets.specs.Strings.{tab, over, Below}
 
 -- ---- a list given by its entries
 
@@ -150,3 +150,9 @@ copy-more o i j s d ho hs =
     set-over (over o i (take j s)) (i + j) (getD s j d) (rw (length-over o i (take j s) (rw l (omega arith))) ho)
     ∙ over-over o i (i + j) (take j s) (getD s j d ∷ []) (omega arith) (rw l refl)
     ∙ ap (over o i) (rw (add-one) (sym (take-suc s j d hs)))
+
+-- ---- bytes
+
+-- what is behind the first n entries has no larger ones
+pub drop-below : (f : List ℕ) (n m : ℕ) → Below m f → Below m (drop n f)
+drop-below f n m b i = rw (getD-drop n f i 0) (b (n + i))

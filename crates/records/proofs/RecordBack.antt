@@ -18,7 +18,7 @@ use Rattle.octets.proofs.Numbers.{le-leAt}
 use Rattle.header.specs.Optional.{relayBytes}
 use Rattle.header.specs.Control.{controlValues, controlFrom}
 use Rattle.header.proofs.Codes.{bit-of, type-of, discovery-of, level-of, keyId-of}
-use Rattle.header.proofs.ControlFields.{or-false}
+use Rattle.octets.proofs.Conditions.{or-false}
 use Rattle.header.proofs.OptionalFields.{byte-read, relay-read}
 use Rattle.records.specs.Limits.{exceeds}
 use Rattle.records.specs.HeaderRecord.{addressRecord, optionalRecord, headerRecord, relaysFrom, headerOf, headerLimits, badHeaderRecord}

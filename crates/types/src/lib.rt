@@ -6,7 +6,7 @@ ghost use mathlib.Core.Path.{_≡_};
 ghost use Prim.Native.Nat.{_+_, _≤_};
 ghost use lib.ListN.{length};
 ghost use Rattle.octets.specs.Strings.{over};
-ghost use Rattle.octets.specs.Numbers.{le, leAt};
+ghost use Rattle.octets.specs.Numbers.{le};
 ghost use Rattle.types.specs.Addresses.{readNwk, readPanId, readEui64, reversed};
 ghost use Rattle.types.specs.Keys.{readKey, keyBytes};
 ghost use Rattle.types.specs.Optional.{ieeeIf, ieeeBytes};
