@@ -177,9 +177,10 @@ fn is_word(line: &[u8], k: usize, last: usize) -> bool {
     f.good
 }
 
-// Each word from 2 to the last is well formed, and there is none behind it.
+// The case has a name, each word from 2 to the last is well formed, and there is none behind it.
 fn is_whole(line: &[u8], last: usize) -> bool {
     words::is_last(line, last)
+        && !words::is(line, 1, b"")
         && is_word(line, 2, last)
         && is_word(line, 3, last)
         && is_word(line, 4, last)
