@@ -34,47 +34,95 @@ read-list of f s n e = ap (tab (λ (k : ℕ). of (entryAt f s k))) e ∙ sym (ma
 read-count : {A : Type 0} (of : List ℕ → A) (f : Format) (s : List ℕ) (n : ℕ) → n ≡ announced f s → n ≡ length (map of (values f s .entries))
 read-count of f s n e = e ∙ sym (length-read of f s)
 
+-- ---- a command with the count and the places of one list set
+
+unfoldable pub setRelays : NwkCommandWithLists → ℕ → List ℕ → NwkCommandWithLists
+setRelays b n xs = record {
+    command = b .command;
+    «relay_count» = n; relays = xs;
+    «link_statuses_len» = b .«link_statuses_len»; «link_statuses» = b .«link_statuses»;
+    «report_information_count» = b .«report_information_count»; «pan_ids» = b .«pan_ids»;
+    «list_count» = b .«list_count»; «power_list» = b .«power_list»;
+    «unparsed_len» = b .«unparsed_len»; unparsed = b .unparsed;
+  }
+
+unfoldable pub setLinks : NwkCommandWithLists → ℕ → List NwkLinkStatus → NwkCommandWithLists
+setLinks b n xs = record {
+    command = b .command;
+    «relay_count» = b .«relay_count»; relays = b .relays;
+    «link_statuses_len» = n; «link_statuses» = xs;
+    «report_information_count» = b .«report_information_count»; «pan_ids» = b .«pan_ids»;
+    «list_count» = b .«list_count»; «power_list» = b .«power_list»;
+    «unparsed_len» = b .«unparsed_len»; unparsed = b .unparsed;
+  }
+
+unfoldable pub setPanIds : NwkCommandWithLists → ℕ → List ℕ → NwkCommandWithLists
+setPanIds b n xs = record {
+    command = b .command;
+    «relay_count» = b .«relay_count»; relays = b .relays;
+    «link_statuses_len» = b .«link_statuses_len»; «link_statuses» = b .«link_statuses»;
+    «report_information_count» = n; «pan_ids» = xs;
+    «list_count» = b .«list_count»; «power_list» = b .«power_list»;
+    «unparsed_len» = b .«unparsed_len»; unparsed = b .unparsed;
+  }
+
+unfoldable pub setPowers : NwkCommandWithLists → ℕ → List NwkPowerListEntry → NwkCommandWithLists
+setPowers b n xs = record {
+    command = b .command;
+    «relay_count» = b .«relay_count»; relays = b .relays;
+    «link_statuses_len» = b .«link_statuses_len»; «link_statuses» = b .«link_statuses»;
+    «report_information_count» = b .«report_information_count»; «pan_ids» = b .«pan_ids»;
+    «list_count» = n; «power_list» = xs;
+    «unparsed_len» = b .«unparsed_len»; unparsed = b .unparsed;
+  }
+
+unfoldable pub setBytes : NwkCommandWithLists → ℕ → List ℕ → NwkCommandWithLists
+setBytes b n xs = record {
+    command = b .command;
+    «relay_count» = b .«relay_count»; relays = b .relays;
+    «link_statuses_len» = b .«link_statuses_len»; «link_statuses» = b .«link_statuses»;
+    «report_information_count» = b .«report_information_count»; «pan_ids» = b .«pan_ids»;
+    «list_count» = b .«list_count»; «power_list» = b .«power_list»;
+    «unparsed_len» = n; unparsed = xs;
+  }
+
 module _ (c : NwkCommand) (s : List ℕ) (b : NwkCommandWithLists) (blank : b ≡ withLists c [] [] [] [] []) where
   pub relays-listed : (n : ℕ) (xs : List ℕ) → n ≡ getD s 1 0 → xs ≡ places 0 53 (tab (λ (k : ℕ). leAt 2 s (2 + k * 2)) n)
-      → record { command = b .command; «relay_count» = n; relays = xs; «link_statuses_len» = b .«link_statuses_len»; «link_statuses» = b .«link_statuses»; «report_information_count» = b .«report_information_count»; «pan_ids» = b .«pan_ids»; «list_count» = b .«list_count»; «power_list» = b .«power_list»; «unparsed_len» = b .«unparsed_len»; unparsed = b .unparsed }
-      ≡ listed NwkCommandList.Relays c s
-  unfolding listed withLists relayOf routeRecordFormat announced summed plus readFields readField size sizes headEnd
+      → setRelays b n xs ≡ listed NwkCommandList.Relays c s
+  unfolding setRelays listed withLists relayOf routeRecordFormat announced summed plus readFields readField size sizes headEnd
   relays-listed n xs e q =
       let es : xs ≡ places 0 53 (map relayOf (values routeRecordFormat s .entries)) = q ∙ ap (places 0 53) (read-list relayOf routeRecordFormat s n e) in
       let count : n ≡ length (map relayOf (values routeRecordFormat s .entries)) = read-count relayOf routeRecordFormat s n e in
-      λ i. record { command = blank i .command; «relay_count» = count i; relays = es i; «link_statuses_len» = blank i .«link_statuses_len»; «link_statuses» = blank i .«link_statuses»; «report_information_count» = blank i .«report_information_count»; «pan_ids» = blank i .«pan_ids»; «list_count» = blank i .«list_count»; «power_list» = blank i .«power_list»; «unparsed_len» = blank i .«unparsed_len»; unparsed = blank i .unparsed }
+      λ i. setRelays (blank i) (count i) (es i)
 
   pub links-listed : (n : ℕ) (xs : List NwkLinkStatus) → n ≡ getD s 1 0 % 32 → xs ≡ places noLink 31 (tab (λ (k : ℕ). linkAt s (2 + k * 3)) n)
-      → record { command = b .command; «relay_count» = b .«relay_count»; relays = b .relays; «link_statuses_len» = n; «link_statuses» = xs; «report_information_count» = b .«report_information_count»; «pan_ids» = b .«pan_ids»; «list_count» = b .«list_count»; «power_list» = b .«power_list»; «unparsed_len» = b .«unparsed_len»; unparsed = b .unparsed }
-      ≡ listed NwkCommandList.LinkStatuses c s
-  unfolding listed withLists linkAt linkStatusFormat kept partSizes fields announced summed plus readFields readField size sizes headEnd
+      → setLinks b n xs ≡ listed NwkCommandList.LinkStatuses c s
+  unfolding setLinks listed withLists linkAt linkStatusFormat kept partSizes fields announced summed plus readFields readField size sizes headEnd
   links-listed n xs e q =
       let es : xs ≡ places noLink 31 (map linkOf (values linkStatusFormat s .entries)) = q ∙ ap (places noLink 31) (read-list linkOf linkStatusFormat s n e) in
       let count : n ≡ length (map linkOf (values linkStatusFormat s .entries)) = read-count linkOf linkStatusFormat s n e in
-      λ i. record { command = blank i .command; «relay_count» = blank i .«relay_count»; relays = blank i .relays; «link_statuses_len» = count i; «link_statuses» = es i; «report_information_count» = blank i .«report_information_count»; «pan_ids» = blank i .«pan_ids»; «list_count» = blank i .«list_count»; «power_list» = blank i .«power_list»; «unparsed_len» = blank i .«unparsed_len»; unparsed = blank i .unparsed }
+      λ i. setLinks (blank i) (count i) (es i)
 
   pub panIds-listed : (n : ℕ) (xs : List ℕ) → n ≡ getD s 1 0 % 32 → xs ≡ places 0 31 (tab (λ (k : ℕ). leAt 2 s (10 + k * 2)) n)
-      → record { command = b .command; «relay_count» = b .«relay_count»; relays = b .relays; «link_statuses_len» = b .«link_statuses_len»; «link_statuses» = b .«link_statuses»; «report_information_count» = n; «pan_ids» = xs; «list_count» = b .«list_count»; «power_list» = b .«power_list»; «unparsed_len» = b .«unparsed_len»; unparsed = b .unparsed }
-      ≡ listed NwkCommandList.PanIds c s
-  unfolding listed withLists relayOf networkReportFormat kept partSizes fields announced summed plus readFields readField size sizes headEnd
+      → setPanIds b n xs ≡ listed NwkCommandList.PanIds c s
+  unfolding setPanIds listed withLists relayOf networkReportFormat kept partSizes fields announced summed plus readFields readField size sizes headEnd
   panIds-listed n xs e q =
       let es : xs ≡ places 0 31 (map relayOf (values networkReportFormat s .entries)) = q ∙ ap (places 0 31) (read-list relayOf networkReportFormat s n e) in
       let count : n ≡ length (map relayOf (values networkReportFormat s .entries)) = read-count relayOf networkReportFormat s n e in
-      λ i. record { command = blank i .command; «relay_count» = blank i .«relay_count»; relays = blank i .relays; «link_statuses_len» = blank i .«link_statuses_len»; «link_statuses» = blank i .«link_statuses»; «report_information_count» = count i; «pan_ids» = es i; «list_count» = blank i .«list_count»; «power_list» = blank i .«power_list»; «unparsed_len» = blank i .«unparsed_len»; unparsed = blank i .unparsed }
+      λ i. setPanIds (blank i) (count i) (es i)
 
   pub powers-listed : (n : ℕ) (xs : List NwkPowerListEntry) → n ≡ getD s 2 0 → xs ≡ places noPower 35 (tab (λ (k : ℕ). powerAt s (3 + k * 3)) n)
-      → record { command = b .command; «relay_count» = b .«relay_count»; relays = b .relays; «link_statuses_len» = b .«link_statuses_len»; «link_statuses» = b .«link_statuses»; «report_information_count» = b .«report_information_count»; «pan_ids» = b .«pan_ids»; «list_count» = n; «power_list» = xs; «unparsed_len» = b .«unparsed_len»; unparsed = b .unparsed }
-      ≡ listed NwkCommandList.PowerList c s
-  unfolding listed withLists powerAt linkPowerDeltaFormat kept partSizes fields announced summed plus readFields readField size sizes headEnd
+      → setPowers b n xs ≡ listed NwkCommandList.PowerList c s
+  unfolding setPowers listed withLists powerAt linkPowerDeltaFormat kept partSizes fields announced summed plus readFields readField size sizes headEnd
   powers-listed n xs e q =
       let es : xs ≡ places noPower 35 (map powerOf (values linkPowerDeltaFormat s .entries)) = q ∙ ap (places noPower 35) (read-list powerOf linkPowerDeltaFormat s n e) in
       let count : n ≡ length (map powerOf (values linkPowerDeltaFormat s .entries)) = read-count powerOf linkPowerDeltaFormat s n e in
-      λ i. record { command = blank i .command; «relay_count» = blank i .«relay_count»; relays = blank i .relays; «link_statuses_len» = blank i .«link_statuses_len»; «link_statuses» = blank i .«link_statuses»; «report_information_count» = blank i .«report_information_count»; «pan_ids» = blank i .«pan_ids»; «list_count» = count i; «power_list» = es i; «unparsed_len» = blank i .«unparsed_len»; unparsed = blank i .unparsed }
+      λ i. setPowers (blank i) (count i) (es i)
 
 pub unparsed-kept : (s : List ℕ) (b : NwkCommandWithLists) → b ≡ withLists NwkCommand.Unparsed [] [] [] [] [] → (n : ℕ) (xs : List ℕ) → n ≡ length s → xs ≡ places 0 108 s
-    → record { command = b .command; «relay_count» = b .«relay_count»; relays = b .relays; «link_statuses_len» = b .«link_statuses_len»; «link_statuses» = b .«link_statuses»; «report_information_count» = b .«report_information_count»; «pan_ids» = b .«pan_ids»; «list_count» = b .«list_count»; «power_list» = b .«power_list»; «unparsed_len» = n; unparsed = xs } ≡ unparsed s
-unfolding unparsed withLists
-unparsed-kept s b blank n xs e q = λ i. record { command = blank i .command; «relay_count» = blank i .«relay_count»; relays = blank i .relays; «link_statuses_len» = blank i .«link_statuses_len»; «link_statuses» = blank i .«link_statuses»; «report_information_count» = blank i .«report_information_count»; «pan_ids» = blank i .«pan_ids»; «list_count» = blank i .«list_count»; «power_list» = blank i .«power_list»; «unparsed_len» = e i; unparsed = q i }
+    → setBytes b n xs ≡ unparsed s
+unfolding setBytes unparsed withLists
+unparsed-kept s b blank n xs e q = λ i. setBytes (blank i) (e i) (q i)
 
 -- ---- a typed list is within its places
 

@@ -24,15 +24,22 @@ returns-2 : tie.Need-returns-2
 unfolding values bodyEnd headEnd announced summed plus readFields readField kept partSizes size sizes fields formatOf commandOf commissioningRequestFormat commissioningRequestOf commissioningRequestBy capabilityOfByte capabilityField
 returns-2 c =
     let s = c .before .before .before .before .before .before .args .s .now in
-    ap (λ k. commissioningRequestBy k (values commissioningRequestFormat s)) (sym (c .enum-told .given .1) ∙ c .before .before .try-from .ensures ∙ ap (λ (x : ℕ). commissioningTypeOf (x)) (c .before .before .before .byte-at .ensures))
+    ap (λ k. commissioningRequestBy k (values commissioningRequestFormat s))
+        (sym (c .enum-told .given .1) ∙ c .before .before .try-from .ensures
+        ∙ ap (λ (x : ℕ). commissioningTypeOf (x)) (c .before .before .before .byte-at .ensures))
     ∙ whole NwkCommandId.NetworkCommissioningRequest s (c .before .before .before .before .if1 .left)
 
 returns-3 : tie.Need-returns-3
 unfolding values bodyEnd headEnd announced summed plus readFields readField kept partSizes size sizes fields formatOf commandOf commissioningRequestFormat commissioningRequestOf commissioningRequestBy capabilityOfByte capabilityField
 returns-3 c =
     let s = c .before .before .before .before .before .before .before .before .before .args .s .now in
-    (λ i. TypedBody.Typed (NwkCommand.NetworkCommissioningRequest (record { «commissioning_type» = c .before .before .before .commissioning-type .given .0 .0; «capability_information» = (c .capability-of .ensures ∙ ap capabilityOfByte (c .before .byte-at2 .ensures)) i })))
-    ∙ ap (λ k. commissioningRequestBy k (values commissioningRequestFormat s)) (sym (c .before .before .before .commissioning-type .given .1) ∙ c .before .before .before .before .before .try-from .ensures ∙ ap (λ (x : ℕ). commissioningTypeOf (x)) (c .before .before .before .before .before .before .byte-at .ensures))
+    (λ i. TypedBody.Typed (NwkCommand.NetworkCommissioningRequest (record {
+        «commissioning_type» = c .before .before .before .commissioning-type .given .0 .0;
+        «capability_information» = (c .capability-of .ensures ∙ ap capabilityOfByte (c .before .byte-at2 .ensures)) i;
+      })))
+    ∙ ap (λ k. commissioningRequestBy k (values commissioningRequestFormat s))
+        (sym (c .before .before .before .commissioning-type .given .1) ∙ c .before .before .before .before .before .try-from .ensures
+        ∙ ap (λ (x : ℕ). commissioningTypeOf (x)) (c .before .before .before .before .before .before .byte-at .ensures))
     ∙ whole NwkCommandId.NetworkCommissioningRequest s (c .before .before .before .before .before .before .before .if1 .left)
 
 pub read-commissioning-request-spec : {M : Type 1} → statement M

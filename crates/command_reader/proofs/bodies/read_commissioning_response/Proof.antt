@@ -23,7 +23,9 @@ returns-2 : tie.Need-returns-2
 unfolding values bodyEnd headEnd announced summed plus readFields readField kept partSizes size sizes fields formatOf commandOf commissioningResponseFormat commissioningResponseOf commissioningResponseBy
 returns-2 c =
     let s = c .before .before .before .before .before .before .args .s .now in
-    ap (λ k. commissioningResponseBy k (values commissioningResponseFormat s)) (sym (c .enum-told .given .1) ∙ c .before .before .try-from .ensures ∙ ap (λ (x : ℕ). associationStatusOf (x)) (c .before .before .before .byte-at .ensures))
+    ap (λ k. commissioningResponseBy k (values commissioningResponseFormat s))
+        (sym (c .enum-told .given .1) ∙ c .before .before .try-from .ensures
+        ∙ ap (λ (x : ℕ). associationStatusOf (x)) (c .before .before .before .byte-at .ensures))
     ∙ whole NwkCommandId.NetworkCommissioningResponse s (c .before .before .before .before .if1 .left)
 
 returns-3 : tie.Need-returns-3
@@ -31,7 +33,9 @@ unfolding values bodyEnd headEnd announced summed plus readFields readField kept
 returns-3 c =
     let s = c .before .before .before .before .before .before .before .before .args .s .now in
     (λ i. TypedBody.Typed (NwkCommand.NetworkCommissioningResponse (record { «network_address» = c .read-u16 .ensures i; status = c .before .before .status .given .0 .0 })))
-    ∙ ap (λ k. commissioningResponseBy k (values commissioningResponseFormat s)) (sym (c .before .before .status .given .1) ∙ c .before .before .before .before .try-from .ensures ∙ ap (λ (x : ℕ). associationStatusOf (x)) (c .before .before .before .before .before .byte-at .ensures))
+    ∙ ap (λ k. commissioningResponseBy k (values commissioningResponseFormat s))
+        (sym (c .before .before .status .given .1) ∙ c .before .before .before .before .try-from .ensures
+        ∙ ap (λ (x : ℕ). associationStatusOf (x)) (c .before .before .before .before .before .byte-at .ensures))
     ∙ whole NwkCommandId.NetworkCommissioningResponse s (c .before .before .before .before .before .before .if1 .left)
 
 pub read-commissioning-response-spec : {M : Type 1} → statement M

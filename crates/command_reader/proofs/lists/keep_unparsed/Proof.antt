@@ -4,9 +4,10 @@ use mathlib.Core.Path.{refl}
 use lib.ListN.{length}
 use Rattle.command_reader.proofs.lists.keep_unparsed.Statement.{statement}
 use Rattle.command_reader.proofs.lists.keep_unparsed.Tie as tie
-use Rattle.command_reader.proofs.Listed.{unparsed-kept}
+use Rattle.command_reader.proofs.Listed.{setBytes, unparsed-kept}
 
 returns : tie.Need-returns
+unfolding setBytes
 returns c =
     let s = c .before .before .before .args .s .now in
     unparsed-kept s (c .before .blank .result) (c .before .blank .ensures) (length s) (c .read-bytes .result) refl (c .read-bytes .ensures)

@@ -5,9 +5,10 @@ use mathlib.Core.Path.{ap}
 use Prim.Native.Nat.{ℕ, _%_}
 use Rattle.command_reader.proofs.lists.with_link_statuses.Statement.{statement}
 use Rattle.command_reader.proofs.lists.with_link_statuses.Tie as tie
-use Rattle.command_reader.proofs.Listed.{links-listed}
+use Rattle.command_reader.proofs.Listed.{setLinks, links-listed}
 
 returns : tie.Need-returns
+unfolding setLinks
 returns c =
     let a = c .before .before .before .before .args in
     links-listed (a .command) (a .s .now) (c .before .before .blank .result) (c .before .before .blank .ensures) (c .before .byte-at .result % 32) (c .read-link-statuses .result)

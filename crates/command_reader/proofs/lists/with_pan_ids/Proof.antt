@@ -5,9 +5,10 @@ use mathlib.Core.Path.{ap}
 use Prim.Native.Nat.{ℕ, _%_}
 use Rattle.command_reader.proofs.lists.with_pan_ids.Statement.{statement}
 use Rattle.command_reader.proofs.lists.with_pan_ids.Tie as tie
-use Rattle.command_reader.proofs.Listed.{panIds-listed}
+use Rattle.command_reader.proofs.Listed.{setPanIds, panIds-listed}
 
 returns : tie.Need-returns
+unfolding setPanIds
 returns c =
     let a = c .before .before .before .before .args in
     panIds-listed (a .command) (a .s .now) (c .before .before .blank .result) (c .before .before .blank .ensures) (c .before .byte-at .result % 32) (c .read-pan-ids .result)

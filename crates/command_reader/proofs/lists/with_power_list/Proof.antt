@@ -3,9 +3,10 @@
 use borrow.Author.Needs.{needs}
 use Rattle.command_reader.proofs.lists.with_power_list.Statement.{statement}
 use Rattle.command_reader.proofs.lists.with_power_list.Tie as tie
-use Rattle.command_reader.proofs.Listed.{powers-listed}
+use Rattle.command_reader.proofs.Listed.{setPowers, powers-listed}
 
 returns : tie.Need-returns
+unfolding setPowers
 returns c =
     let a = c .before .before .before .before .args in
     powers-listed (a .command) (a .s .now) (c .before .before .blank .result) (c .before .before .blank .ensures) (c .before .byte-at .result) (c .read-power-list .result)

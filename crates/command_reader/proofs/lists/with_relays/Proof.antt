@@ -3,9 +3,10 @@
 use borrow.Author.Needs.{needs}
 use Rattle.command_reader.proofs.lists.with_relays.Statement.{statement}
 use Rattle.command_reader.proofs.lists.with_relays.Tie as tie
-use Rattle.command_reader.proofs.Listed.{relays-listed}
+use Rattle.command_reader.proofs.Listed.{setRelays, relays-listed}
 
 returns : tie.Need-returns
+unfolding setRelays
 returns c =
     let a = c .before .before .before .before .args in
     relays-listed (a .command) (a .s .now) (c .before .before .blank .result) (c .before .before .blank .ensures) (c .before .byte-at .result) (c .read-relays .result)
