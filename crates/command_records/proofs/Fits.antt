@@ -60,8 +60,16 @@ command-fits f vs s =
     record {
       command = r .command;
       relays = record { count-lt = omega arith; length-is = search needs; entries = r .relays };
-      links = record { count-lt = omega arith; length-is = sym (length-map (f .«link_statuses») (nwk-link-status.the-field .into)) ∙ s .1 .1 .1 .1 .1 .1 .0 .1 .0 .1; entries = links-fit (f .«link_statuses») _ (s .1 .1 .1 .1 .1 .1 .0 .1 .1) };
+      links = record {
+        count-lt = omega arith;
+        length-is = sym (length-map (f .«link_statuses») (nwk-link-status.the-field .into)) ∙ s .1 .1 .1 .1 .1 .1 .0 .1 .0 .1;
+        entries = links-fit (f .«link_statuses») _ (s .1 .1 .1 .1 .1 .1 .0 .1 .1);
+      };
       panIds = record { count-lt = omega arith; length-is = search needs; entries = r .panIds };
-      powers = record { count-lt = omega arith; length-is = sym (length-map (f .«power_list») (nwk-power-list-entry.the-field .into)) ∙ s .1 .1 .1 .1 .1 .1 .1 .1 .1 .1 .0 .1 .0 .1; entries = r .powers };
+      powers = record {
+        count-lt = omega arith;
+        length-is = sym (length-map (f .«power_list») (nwk-power-list-entry.the-field .into)) ∙ s .1 .1 .1 .1 .1 .1 .1 .1 .1 .1 .0 .1 .0 .1;
+        entries = r .powers;
+      };
       bytes = record { count-lt = omega arith; length-is = search needs; entries = λ k. let h : Fits w8 (getD (f .unparsed) k 0) = search needs in h .fits };
     }
