@@ -6,18 +6,10 @@ use mathlib.Core.Bool.{true, false}
 use mathlib.Core.List.{List, [], _∷_, _++_}
 use Prim.Native.Nat.{ℕ}
 use lib.ListN.{length, drop, take, replicate}
-use Rattle.header.specs.declared.control.NwkFrameControl.{NwkFrameControl}
-use Rattle.header.specs.declared.control.NwkFrameType.{NwkFrameType}
-use Rattle.header.specs.declared.control.NwkRouteDiscovery.{NwkRouteDiscovery}
+use Rattle.header.specs.declared.{control.NwkFrameControl.NwkFrameControl, control.NwkFrameType.NwkFrameType, control.NwkRouteDiscovery.NwkRouteDiscovery, optional.OptionMulticast.OptionMulticast, optional.NwkSourceRoute.NwkSourceRoute, nwk.NwkHeader.NwkHeader}
 use Rattle.types.specs.declared.OptionEui64.{OptionEui64}
-use Rattle.header.specs.declared.optional.OptionMulticast.{OptionMulticast}
-use Rattle.header.specs.declared.optional.NwkSourceRoute.{NwkSourceRoute}
-use Rattle.header.specs.declared.nwk.NwkHeader.{NwkHeader}
 use Rattle.header.specs.Reading.{readHeader, blankHeader}
-use Rattle.commands.specs.declared.NwkCommand.{NwkCommand}
-use Rattle.commands.specs.declared.NwkCommandWithLists.{NwkCommandWithLists}
-use Rattle.commands.specs.declared.NwkEndDeviceTimeoutRequestCommand.{NwkEndDeviceTimeoutRequestCommand}
-use Rattle.commands.specs.declared.EndDeviceTimeout.{EndDeviceTimeout}
+use Rattle.commands.specs.declared.{NwkCommand.NwkCommand, NwkCommandWithLists.NwkCommandWithLists, NwkEndDeviceTimeoutRequestCommand.NwkEndDeviceTimeoutRequestCommand, EndDeviceTimeout.EndDeviceTimeout}
 use Rattle.commands.specs.Codes.{timeoutCode}
 use Rattle.commands.specs.Reading.{withLists, unparsed, readCommand}
 use Rattle.commands.specs.Writing.{writeCommand, timeoutSeconds}

@@ -6,8 +6,7 @@ use Prim.Native.Nat.{ℕ, _+_, _≤_, min}
 use lib.Dec.{eqb}
 use lib.ListN.{length, getD, drop}
 use Rattle.casefile.specs.Texts.{before}
-use Rattle.casefile.specs.declared.lines.Run.{Run}
-use Rattle.casefile.specs.declared.lines.Line.{Line}
+use Rattle.casefile.specs.declared.{lines.Run.Run, lines.Line.Line}
 use Rattle.casefile.specs.declared.lines.Line.the-variants.{Comment, Agrees, Differs, Damaged}
 
 -- what a line counts as: damaged where no newline ends it, a comment where it starts with '#' (0x23), and else what was shown

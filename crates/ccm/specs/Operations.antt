@@ -12,8 +12,7 @@ use Rattle.octets.specs.Writing.{Run, written}
 use Rattle.aes.specs.Cipher.{aes128}
 use Rattle.ccm.specs.Generation.{Generated, generationEncryption}
 use Rattle.ccm.specs.Verification.{Verified, decryptionVerification}
-use Rattle.ccm.specs.declared.Sealed.{Sealed}
-use Rattle.ccm.specs.declared.Split.{Split}
+use Rattle.ccm.specs.declared.{Sealed.Sealed, Split.Split}
 
 -- the length of the MIC
 abbrev pub micLength : ℕ

@@ -16,12 +16,7 @@ use Rattle.commands.proofs.Commands.{map-tab}
 use Rattle.commands.proofs.Ranges.{tooBig}
 use Rattle.commands.proofs.Reread.{entryAt, length-read, Good, Writable}
 use Rattle.commands.proofs.RoundTrip.{typed-writable}
-use Rattle.commands.specs.declared.NwkCommand.{NwkCommand}
-use Rattle.commands.specs.declared.NwkCommandWithLists.{NwkCommandWithLists}
-use Rattle.commands.specs.declared.NwkCommandList.{NwkCommandList}
-use Rattle.commands.specs.declared.NwkLinkStatus.{NwkLinkStatus}
-use Rattle.commands.specs.declared.NwkPowerListEntry.{NwkPowerListEntry}
-use Rattle.commands.specs.declared.TypedBody.{TypedBody}
+use Rattle.commands.specs.declared.{NwkCommand.NwkCommand, NwkCommandWithLists.NwkCommandWithLists, NwkCommandList.NwkCommandList, NwkLinkStatus.NwkLinkStatus, NwkPowerListEntry.NwkPowerListEntry, TypedBody.TypedBody}
 use Rattle.commands.specs.Commands.{linkAt, powerAt}
 
 -- the entries that a format reads, each turned into its value
@@ -38,53 +33,78 @@ read-count of f s n e = e ∙ sym (length-read of f s)
 
 unfoldable pub setRelays : NwkCommandWithLists → ℕ → List ℕ → NwkCommandWithLists
 setRelays b n xs = record {
-    command = b .command;
-    «relay_count» = n; relays = xs;
-    «link_statuses_len» = b .«link_statuses_len»; «link_statuses» = b .«link_statuses»;
-    «report_information_count» = b .«report_information_count»; «pan_ids» = b .«pan_ids»;
-    «list_count» = b .«list_count»; «power_list» = b .«power_list»;
-    «unparsed_len» = b .«unparsed_len»; unparsed = b .unparsed;
-  }
+  command = b .command;
+  «relay_count» = n;
+  relays = xs;
+  «link_statuses_len» = b .«link_statuses_len»;
+  «link_statuses» = b .«link_statuses»;
+  «report_information_count» = b .«report_information_count»;
+  «pan_ids» = b .«pan_ids»;
+  «list_count» = b .«list_count»;
+  «power_list» = b .«power_list»;
+  «unparsed_len» = b .«unparsed_len»;
+  unparsed = b .unparsed;
+}
 
 unfoldable pub setLinks : NwkCommandWithLists → ℕ → List NwkLinkStatus → NwkCommandWithLists
 setLinks b n xs = record {
-    command = b .command;
-    «relay_count» = b .«relay_count»; relays = b .relays;
-    «link_statuses_len» = n; «link_statuses» = xs;
-    «report_information_count» = b .«report_information_count»; «pan_ids» = b .«pan_ids»;
-    «list_count» = b .«list_count»; «power_list» = b .«power_list»;
-    «unparsed_len» = b .«unparsed_len»; unparsed = b .unparsed;
-  }
+  command = b .command;
+  «relay_count» = b .«relay_count»;
+  relays = b .relays;
+  «link_statuses_len» = n;
+  «link_statuses» = xs;
+  «report_information_count» = b .«report_information_count»;
+  «pan_ids» = b .«pan_ids»;
+  «list_count» = b .«list_count»;
+  «power_list» = b .«power_list»;
+  «unparsed_len» = b .«unparsed_len»;
+  unparsed = b .unparsed;
+}
 
 unfoldable pub setPanIds : NwkCommandWithLists → ℕ → List ℕ → NwkCommandWithLists
 setPanIds b n xs = record {
-    command = b .command;
-    «relay_count» = b .«relay_count»; relays = b .relays;
-    «link_statuses_len» = b .«link_statuses_len»; «link_statuses» = b .«link_statuses»;
-    «report_information_count» = n; «pan_ids» = xs;
-    «list_count» = b .«list_count»; «power_list» = b .«power_list»;
-    «unparsed_len» = b .«unparsed_len»; unparsed = b .unparsed;
-  }
+  command = b .command;
+  «relay_count» = b .«relay_count»;
+  relays = b .relays;
+  «link_statuses_len» = b .«link_statuses_len»;
+  «link_statuses» = b .«link_statuses»;
+  «report_information_count» = n;
+  «pan_ids» = xs;
+  «list_count» = b .«list_count»;
+  «power_list» = b .«power_list»;
+  «unparsed_len» = b .«unparsed_len»;
+  unparsed = b .unparsed;
+}
 
 unfoldable pub setPowers : NwkCommandWithLists → ℕ → List NwkPowerListEntry → NwkCommandWithLists
 setPowers b n xs = record {
-    command = b .command;
-    «relay_count» = b .«relay_count»; relays = b .relays;
-    «link_statuses_len» = b .«link_statuses_len»; «link_statuses» = b .«link_statuses»;
-    «report_information_count» = b .«report_information_count»; «pan_ids» = b .«pan_ids»;
-    «list_count» = n; «power_list» = xs;
-    «unparsed_len» = b .«unparsed_len»; unparsed = b .unparsed;
-  }
+  command = b .command;
+  «relay_count» = b .«relay_count»;
+  relays = b .relays;
+  «link_statuses_len» = b .«link_statuses_len»;
+  «link_statuses» = b .«link_statuses»;
+  «report_information_count» = b .«report_information_count»;
+  «pan_ids» = b .«pan_ids»;
+  «list_count» = n;
+  «power_list» = xs;
+  «unparsed_len» = b .«unparsed_len»;
+  unparsed = b .unparsed;
+}
 
 unfoldable pub setBytes : NwkCommandWithLists → ℕ → List ℕ → NwkCommandWithLists
 setBytes b n xs = record {
-    command = b .command;
-    «relay_count» = b .«relay_count»; relays = b .relays;
-    «link_statuses_len» = b .«link_statuses_len»; «link_statuses» = b .«link_statuses»;
-    «report_information_count» = b .«report_information_count»; «pan_ids» = b .«pan_ids»;
-    «list_count» = b .«list_count»; «power_list» = b .«power_list»;
-    «unparsed_len» = n; unparsed = xs;
-  }
+  command = b .command;
+  «relay_count» = b .«relay_count»;
+  relays = b .relays;
+  «link_statuses_len» = b .«link_statuses_len»;
+  «link_statuses» = b .«link_statuses»;
+  «report_information_count» = b .«report_information_count»;
+  «pan_ids» = b .«pan_ids»;
+  «list_count» = b .«list_count»;
+  «power_list» = b .«power_list»;
+  «unparsed_len» = n;
+  unparsed = xs;
+}
 
 module _ (c : NwkCommand) (s : List ℕ) (b : NwkCommandWithLists) (blank : b ≡ withLists c [] [] [] [] []) where
   pub relays-listed : (n : ℕ) (xs : List ℕ) → n ≡ getD s 1 0 → xs ≡ places 0 53 (tab (λ (k : ℕ). leAt 2 s (2 + k * 2)) n)

@@ -8,8 +8,7 @@ use borrow.Author.Tests.{le-leb, lt-leb}
 use lib.ListN.{length}
 use Rattle.commands.specs.Format.{bodyEnd, values}
 use Rattle.commands.specs.Reading.{formatOf, commandOf, bodyOf}
-use Rattle.commands.specs.declared.NwkCommandId.{NwkCommandId}
-use Rattle.commands.specs.declared.TypedBody.{TypedBody}
+use Rattle.commands.specs.declared.{NwkCommandId.NwkCommandId, TypedBody.TypedBody}
 
 pub short : (id : NwkCommandId) (s : List ℕ) → length s < bodyEnd (formatOf id) s → TypedBody.NotTyped ≡ bodyOf id s
 unfolding bodyOf

@@ -17,9 +17,7 @@ use Rattle.commands.proofs.InRange.{InRange, in-range}
 use Rattle.commands.proofs.NwkCommandWithLists as nwk-command-with-lists
 use Rattle.commands.proofs.NwkLinkStatus as nwk-link-status
 use Rattle.commands.proofs.NwkPowerListEntry as nwk-power-list-entry
-use Rattle.commands.specs.declared.NwkCommandWithLists.{NwkCommandWithLists}
-use Rattle.commands.specs.declared.NwkLinkStatus.{NwkLinkStatus}
-use Rattle.commands.specs.declared.NwkPowerListEntry.{NwkPowerListEntry}
+use Rattle.commands.specs.declared.{NwkCommandWithLists.NwkCommandWithLists, NwkLinkStatus.NwkLinkStatus, NwkPowerListEntry.NwkPowerListEntry}
 
 abbrev pub Below16 : ℕ → Type 0
 Below16 x = x < 65536

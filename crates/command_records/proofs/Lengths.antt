@@ -11,10 +11,7 @@ use Rattle.octets.specs.Numbers.{le}
 use Rattle.octets.proofs.Strings.{over-front}
 use Rattle.octets.proofs.Numbers.{length-le}
 use Rattle.types.specs.declared.OptionEui64.{OptionEui64}
-use Rattle.commands.specs.declared.NwkCommand.{NwkCommand}
-use Rattle.commands.specs.declared.NwkCommandWithLists.{NwkCommandWithLists}
-use Rattle.commands.specs.declared.NwkLinkStatus.{NwkLinkStatus}
-use Rattle.commands.specs.declared.NwkPowerListEntry.{NwkPowerListEntry}
+use Rattle.commands.specs.declared.{NwkCommand.NwkCommand, NwkCommandWithLists.NwkCommandWithLists, NwkLinkStatus.NwkLinkStatus, NwkPowerListEntry.NwkPowerListEntry}
 use Rattle.commands.specs.Format.{size, sizes}
 use Rattle.commands.specs.Commands.{capabilityValues, linkPowerDeltaFormat, powerEntry, noPower}
 use Rattle.commands.specs.Reading.{places}

@@ -23,13 +23,7 @@ use Rattle.commands.specs.Writing.{commandBytes, writeRefusal}
 use Rattle.commands.proofs.Ranges.{Ranged, RangedList, tooBig}
 use Rattle.commands.proofs.Reread.{getD-places, entryAt, entry-read, Writable}
 use Rattle.commands.proofs.RoundTrip.{read-accepts, typed-writable, read-writes}
-use Rattle.commands.specs.declared.NwkCommand.{NwkCommand}
-use Rattle.commands.specs.declared.NwkCommandList.{NwkCommandList}
-use Rattle.commands.specs.declared.NwkCommandRead.{NwkCommandRead}
-use Rattle.commands.specs.declared.NwkCommandWithLists.{NwkCommandWithLists}
-use Rattle.commands.specs.declared.NwkLinkStatus.{NwkLinkStatus}
-use Rattle.commands.specs.declared.NwkPowerListEntry.{NwkPowerListEntry}
-use Rattle.commands.specs.declared.TypedBody.{TypedBody}
+use Rattle.commands.specs.declared.{NwkCommand.NwkCommand, NwkCommandList.NwkCommandList, NwkCommandRead.NwkCommandRead, NwkCommandWithLists.NwkCommandWithLists, NwkLinkStatus.NwkLinkStatus, NwkPowerListEntry.NwkPowerListEntry, TypedBody.TypedBody}
 use Rattle.command_records.specs.CommandRecord.{commandRecord, writeRecordRefusal}
 use Rattle.command_records.proofs.Lengths.{length-places}
 use Rattle.command_records.proofs.Fits.{Below16, LinkFits, PowerFits, ListFits, CommandFits}

@@ -20,12 +20,7 @@ use Rattle.commands.proofs.CodeLaws.{manyToOne-back, associationStatus-lt, repo
 use Rattle.commands.proofs.Ranges.{InAddress, Ranged}
 use Rattle.commands.proofs.Commands.{back}
 use Rattle.types.specs.declared.OptionEui64.{OptionEui64}
-use Rattle.commands.specs.declared.NwkCommand.{NwkCommand}
-use Rattle.commands.specs.declared.NwkCommandId.{NwkCommandId}
-use Rattle.commands.specs.declared.NwkCommandIdCode.{NwkCommandIdCode}
-use Rattle.commands.specs.declared.NwkCommandWithLists.{NwkCommandWithLists}
-use Rattle.commands.specs.declared.NwkCommandRead.{NwkCommandRead}
-use Rattle.commands.specs.declared.TypedBody.{TypedBody}
+use Rattle.commands.specs.declared.{NwkCommand.NwkCommand, NwkCommandId.NwkCommandId, NwkCommandIdCode.NwkCommandIdCode, NwkCommandWithLists.NwkCommandWithLists, NwkCommandRead.NwkCommandRead, TypedBody.TypedBody}
 use Rattle.command_records.specs.Fields.{addressRecord, fieldBytes, fieldsRecord, recordValues, areFlags, flagsFit, saidBy, said}
 use Rattle.command_records.specs.CommandRecord.{routingRecord, networkRecord, commandRecord, recordedBy, readRecord}
 use Rattle.command_records.proofs.Lengths.{length-fieldsRecord, length-routing, length-network}

@@ -13,10 +13,7 @@ use lib.ListN.{getD}
 use Rattle.octets.proofs.Strings.{below-or-last}
 use Rattle.commands.specs.Codes.{commandIdOf}
 use Rattle.commands.specs.Reading.{commandOf}
-use Rattle.commands.specs.declared.NwkCommand.{NwkCommand}
-use Rattle.commands.specs.declared.NwkCommandId.{NwkCommandId}
-use Rattle.commands.specs.declared.NwkCommandIdCode.{NwkCommandIdCode}
-use Rattle.commands.specs.declared.TypedBody.{TypedBody}
+use Rattle.commands.specs.declared.{NwkCommand.NwkCommand, NwkCommandId.NwkCommandId, NwkCommandIdCode.NwkCommandIdCode, TypedBody.TypedBody}
 use Rattle.command_records.specs.Fields.{recordValues, areFlags, flagsFit, saidBy, said}
 
 not-both : (a : Bool) → mathlib.Core.Bool._&&_ a false ≡ false

@@ -9,9 +9,7 @@ use Rattle.octets.specs.Numbers.{le}
 use Rattle.octets.specs.Refusals.{by, firstOf}
 use Rattle.commands.specs.Reading.{readAs, readNothing}
 use Rattle.commands.specs.Writing.{writeRefusal}
-use Rattle.commands.specs.declared.NwkCommandWithLists.{NwkCommandWithLists}
-use Rattle.commands.specs.declared.NwkCommandRead.{NwkCommandRead}
-use Rattle.commands.specs.declared.TypedBody.{TypedBody}
+use Rattle.commands.specs.declared.{NwkCommandWithLists.NwkCommandWithLists, NwkCommandRead.NwkCommandRead, TypedBody.TypedBody}
 use Rattle.command_records.specs.Fields.{fieldsRecord, said}
 use Rattle.command_records.specs.Lists.{entries, numbersRecord, linksRecord, powersRecord, withListsAt}
 

@@ -10,10 +10,7 @@ use lib.Dec.{ltb, eqb}
 use Rattle.octets.specs.Numbers.{le, leAt}
 use Rattle.types.specs.declared.OptionEui64.{OptionEui64}
 use Rattle.octets.specs.Fields.{bit}
-use Rattle.commands.specs.declared.NwkCommand.{NwkCommand}
-use Rattle.commands.specs.declared.NwkCommandId.{NwkCommandId}
-use Rattle.commands.specs.declared.NwkCommandIdCode.{NwkCommandIdCode}
-use Rattle.commands.specs.declared.TypedBody.{TypedBody}
+use Rattle.commands.specs.declared.{NwkCommand.NwkCommand, NwkCommandId.NwkCommandId, NwkCommandIdCode.NwkCommandIdCode, TypedBody.TypedBody}
 use Rattle.commands.specs.Codes.{isSet, commandIdOf, manyToOneCode, statusCode, associationStatusCode, reportIdentifierCode, updateIdentifierCode, timeoutCode, timeoutStatusCode, powerTypeCode, commissioningTypeCode}
 use Rattle.commands.specs.Format.{Values}
 use Rattle.commands.specs.Commands.{has, capabilityValues, only}

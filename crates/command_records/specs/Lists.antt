@@ -8,10 +8,7 @@ use mathlib.Core.List.{List, [], _++_}
 use lib.ListN.{getD}
 use Rattle.octets.specs.Strings.{tab}
 use Rattle.octets.specs.Numbers.{le, leAt}
-use Rattle.commands.specs.declared.NwkLinkStatus.{NwkLinkStatus}
-use Rattle.commands.specs.declared.NwkPowerListEntry.{NwkPowerListEntry}
-use Rattle.commands.specs.declared.NwkCommand.{NwkCommand}
-use Rattle.commands.specs.declared.NwkCommandWithLists.{NwkCommandWithLists}
+use Rattle.commands.specs.declared.{NwkLinkStatus.NwkLinkStatus, NwkPowerListEntry.NwkPowerListEntry, NwkCommand.NwkCommand, NwkCommandWithLists.NwkCommandWithLists}
 use Rattle.commands.specs.Format.{writeFields}
 use Rattle.commands.specs.Commands.{noLink, linkPowerDeltaFormat, powerEntry, powerAt, noPower}
 

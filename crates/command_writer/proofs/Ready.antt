@@ -23,10 +23,7 @@ use Rattle.commands.proofs.InRange.{InRange, misfits-test}
 use Rattle.commands.proofs.RoundTrip.{Accepted, accepts}
 use Rattle.command_writer.specs.Options.{LowCosts}
 use Rattle.types.specs.declared.OptionEui64.{OptionEui64}
-use Rattle.commands.specs.declared.NwkCommandId.{NwkCommandId}
-use Rattle.commands.specs.declared.NwkCommand.{NwkCommand}
-use Rattle.commands.specs.declared.NwkCommandWithLists.{NwkCommandWithLists}
-use Rattle.commands.specs.declared.NwkLinkStatus.{NwkLinkStatus}
+use Rattle.commands.specs.declared.{NwkCommandId.NwkCommandId, NwkCommand.NwkCommand, NwkCommandWithLists.NwkCommandWithLists, NwkLinkStatus.NwkLinkStatus}
 
 -- ---- the length of each command
 

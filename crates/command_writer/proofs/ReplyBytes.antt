@@ -12,8 +12,7 @@ use Rattle.commands.specs.Writing.{wireBytes}
 use Rattle.commands.specs.Writing.Wire.{body}
 use Rattle.commands.proofs.Format.{entries-append}
 use Rattle.types.specs.declared.OptionEui64.{OptionEui64}
-use Rattle.commands.specs.declared.NwkCommandId.{NwkCommandId}
-use Rattle.commands.specs.declared.NwkRouteReplyCommand.{NwkRouteReplyCommand}
+use Rattle.commands.specs.declared.{NwkCommandId.NwkCommandId, NwkRouteReplyCommand.NwkRouteReplyCommand}
 use Rattle.command_writer.specs.Reply.{replyHead}
 
 -- the bytes of an optional address

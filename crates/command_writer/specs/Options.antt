@@ -5,8 +5,7 @@ use mathlib.Core.List.{List, [], _∷_}
 use lib.ListN.{getD}
 use Rattle.octets.specs.Fields.{packed}
 use Rattle.commands.specs.Commands.{capabilityValues, noLink}
-use Rattle.commands.specs.declared.NwkRejoinCapabilityInformation.{NwkRejoinCapabilityInformation}
-use Rattle.commands.specs.declared.NwkLinkStatus.{NwkLinkStatus}
+use Rattle.commands.specs.declared.{NwkRejoinCapabilityInformation.NwkRejoinCapabilityInformation, NwkLinkStatus.NwkLinkStatus}
 
 unfoldable pub capabilityByte : NwkRejoinCapabilityInformation → ℕ
 capabilityByte c = packed (1 ∷ 1 ∷ 1 ∷ 1 ∷ 1 ∷ 1 ∷ 1 ∷ 1 ∷ []) (capabilityValues c)

@@ -10,13 +10,7 @@ ghost use Rattle.commands.specs.Format.{heldFields, heldEntries};
 ghost use Rattle.commands.specs.Commands.{has, linkStatusFormat, linkEntry, noLink};
 ghost use Rattle.commands.specs.Reading.{listOf};
 ghost use Rattle.commands.specs.Writing.{wire, misfits, updateCount, commandBytes, fieldRefusal, writeRefusal};
-use commands::NwkCommand;
-use commands::NwkCommandList;
-use commands::NwkCommandWithLists;
-use commands::NwkLinkStatus;
-use commands::NwkRouteReplyCommand;
-use commands::NwkRouteRequestCommand;
-use commands::has_address;
+use commands::*;
 use octets::refusals;
 use types::MAX_NSDU_SIZE;
 

@@ -12,24 +12,7 @@ ghost use Rattle.command_writer.specs.Options.{LowCosts};
 ghost use Rattle.command_writer.specs.Reply.{replyHead};
 use crate::options;
 use crate::puts;
-use commands::NwkEndDeviceTimeoutRequestCommand;
-use commands::NwkEndDeviceTimeoutResponseCommand;
-use commands::NwkLeaveCommand;
-use commands::NwkLinkPowerDeltaCommand;
-use commands::NwkLinkStatus;
-use commands::NwkLinkStatusCommand;
-use commands::NwkNetworkCommissioningRequestCommand;
-use commands::NwkNetworkCommissioningResponseCommand;
-use commands::NwkNetworkReportCommand;
-use commands::NwkNetworkStatusCommand;
-use commands::NwkNetworkUpdateCommand;
-use commands::NwkPowerListEntry;
-use commands::NwkRejoinRequestCommand;
-use commands::NwkRejoinResponseCommand;
-use commands::NwkRouteReplyCommand;
-use commands::NwkRouteRequestCommand;
-use commands::has_address;
-use commands::lists;
+use commands::*;
 
 // 3.4.1 Route Request.
 pub fn write_route_request(c: NwkRouteRequestCommand, out: &mut [u8])

@@ -13,29 +13,7 @@ use Rattle.octets.specs.Fields.{bit}
 use Rattle.commands.specs.Codes.{commandIdCode, commandIdOf, commandIds, manyToOneCode, manyToOneOf, manyToOnes, statusCode, statusOf, statuses, associationStatusCode, associationStatusOf, associationStatuses, reportIdentifierCode, reportIdentifierOf, updateIdentifierCode, updateIdentifierOf, timeoutCode, timeoutOf, timeouts, timeoutStatusCode, timeoutStatusOf, timeoutStatuses, powerTypeCode, powerTypeOf, powerTypes, commissioningTypeCode, commissioningTypeOf, commissioningTypes, isSet, deviceTypeBit, deviceTypeOf, powerSourceBit, powerSourceOf}
 use Rattle.commands.specs.Writing.{seconds, timeoutSeconds}
 use Rattle.commands.proofs.Format.{first, second}
-use Rattle.commands.specs.declared.NwkCommandId.{NwkCommandId}
-use Rattle.commands.specs.declared.NwkCommandIdCode.{NwkCommandIdCode}
-use Rattle.commands.specs.declared.NwkRouteRequestManyToOne.{NwkRouteRequestManyToOne}
-use Rattle.commands.specs.declared.NwkRouteRequestManyToOneCode.{NwkRouteRequestManyToOneCode}
-use Rattle.commands.specs.declared.NwkNetworkStatus.{NwkNetworkStatus}
-use Rattle.commands.specs.declared.NwkNetworkStatusCode.{NwkNetworkStatusCode}
-use Rattle.commands.specs.declared.Nwk802154AssociationStatus.{Nwk802154AssociationStatus}
-use Rattle.commands.specs.declared.Nwk802154AssociationStatusCode.{Nwk802154AssociationStatusCode}
-use Rattle.commands.specs.declared.NwkReportCommandIdentifier.{NwkReportCommandIdentifier}
-use Rattle.commands.specs.declared.NwkReportCommandIdentifierCode.{NwkReportCommandIdentifierCode}
-use Rattle.commands.specs.declared.NwkUpdateCommandIdentifier.{NwkUpdateCommandIdentifier}
-use Rattle.commands.specs.declared.NwkUpdateCommandIdentifierCode.{NwkUpdateCommandIdentifierCode}
-use Rattle.commands.specs.declared.EndDeviceTimeout.{EndDeviceTimeout}
-use Rattle.commands.specs.declared.EndDeviceTimeoutCode.{EndDeviceTimeoutCode}
-use Rattle.commands.specs.declared.NwkEndDeviceTimeoutResponseStatus.{NwkEndDeviceTimeoutResponseStatus}
-use Rattle.commands.specs.declared.NwkEndDeviceTimeoutResponseStatusCode.{NwkEndDeviceTimeoutResponseStatusCode}
-use Rattle.commands.specs.declared.NwkLinkPowerDeltaType.{NwkLinkPowerDeltaType}
-use Rattle.commands.specs.declared.NwkLinkPowerDeltaTypeCode.{NwkLinkPowerDeltaTypeCode}
-use Rattle.commands.specs.declared.NwkCommissioningType.{NwkCommissioningType}
-use Rattle.commands.specs.declared.NwkCommissioningTypeCode.{NwkCommissioningTypeCode}
-use Rattle.commands.specs.declared.NwkRejoinCapabilityInformationDeviceType.{NwkRejoinCapabilityInformationDeviceType}
-use Rattle.commands.specs.declared.NwkRejoinCapabilityInformationPowerSource.{NwkRejoinCapabilityInformationPowerSource}
-use Rattle.commands.specs.declared.EndDeviceTimeoutSeconds.{EndDeviceTimeoutSeconds}
+use Rattle.commands.specs.declared.{NwkCommandId.NwkCommandId, NwkCommandIdCode.NwkCommandIdCode, NwkRouteRequestManyToOne.NwkRouteRequestManyToOne, NwkRouteRequestManyToOneCode.NwkRouteRequestManyToOneCode, NwkNetworkStatus.NwkNetworkStatus, NwkNetworkStatusCode.NwkNetworkStatusCode, Nwk802154AssociationStatus.Nwk802154AssociationStatus, Nwk802154AssociationStatusCode.Nwk802154AssociationStatusCode, NwkReportCommandIdentifier.NwkReportCommandIdentifier, NwkReportCommandIdentifierCode.NwkReportCommandIdentifierCode, NwkUpdateCommandIdentifier.NwkUpdateCommandIdentifier, NwkUpdateCommandIdentifierCode.NwkUpdateCommandIdentifierCode, EndDeviceTimeout.EndDeviceTimeout, EndDeviceTimeoutCode.EndDeviceTimeoutCode, NwkEndDeviceTimeoutResponseStatus.NwkEndDeviceTimeoutResponseStatus, NwkEndDeviceTimeoutResponseStatusCode.NwkEndDeviceTimeoutResponseStatusCode, NwkLinkPowerDeltaType.NwkLinkPowerDeltaType, NwkLinkPowerDeltaTypeCode.NwkLinkPowerDeltaTypeCode, NwkCommissioningType.NwkCommissioningType, NwkCommissioningTypeCode.NwkCommissioningTypeCode, NwkRejoinCapabilityInformationDeviceType.NwkRejoinCapabilityInformationDeviceType, NwkRejoinCapabilityInformationPowerSource.NwkRejoinCapabilityInformationPowerSource, EndDeviceTimeoutSeconds.EndDeviceTimeoutSeconds}
 
 -- ---- NwkCommandId
 

@@ -17,27 +17,7 @@ use Rattle.commands.specs.Writing.Wire.{body, raw}
 use Rattle.commands.proofs.Format.{Fit, Shaped}
 use Rattle.commands.proofs.CodeLaws.{manyToOne-back, status-back, associationStatus-back, reportIdentifier-back, updateIdentifier-back, timeout-back, timeoutStatus-back, powerType-back, commissioningType-back, isSet-bit, deviceType-back, powerSource-back}
 use Rattle.types.specs.declared.OptionEui64.{OptionEui64}
-use Rattle.commands.specs.declared.NwkCommandId.{NwkCommandId}
-use Rattle.commands.specs.declared.NwkCommand.{NwkCommand}
-use Rattle.commands.specs.declared.NwkCommandWithLists.{NwkCommandWithLists}
-use Rattle.commands.specs.declared.TypedBody.{TypedBody}
-use Rattle.commands.specs.declared.NwkRejoinCapabilityInformation.{NwkRejoinCapabilityInformation}
-use Rattle.commands.specs.declared.NwkRouteRequestCommand.{NwkRouteRequestCommand}
-use Rattle.commands.specs.declared.NwkRouteReplyCommand.{NwkRouteReplyCommand}
-use Rattle.commands.specs.declared.NwkLeaveCommand.{NwkLeaveCommand}
-use Rattle.commands.specs.declared.NwkLinkStatusCommand.{NwkLinkStatusCommand}
-use Rattle.commands.specs.declared.NwkNetworkReportCommand.{NwkNetworkReportCommand}
-use Rattle.commands.specs.declared.NwkLinkPowerDeltaCommand.{NwkLinkPowerDeltaCommand}
-use Rattle.commands.specs.declared.NwkLinkStatus.{NwkLinkStatus}
-use Rattle.commands.specs.declared.NwkPowerListEntry.{NwkPowerListEntry}
-use Rattle.commands.specs.declared.NwkNetworkStatusCommand.{NwkNetworkStatusCommand}
-use Rattle.commands.specs.declared.NwkRejoinRequestCommand.{NwkRejoinRequestCommand}
-use Rattle.commands.specs.declared.NwkRejoinResponseCommand.{NwkRejoinResponseCommand}
-use Rattle.commands.specs.declared.NwkNetworkUpdateCommand.{NwkNetworkUpdateCommand}
-use Rattle.commands.specs.declared.NwkEndDeviceTimeoutRequestCommand.{NwkEndDeviceTimeoutRequestCommand}
-use Rattle.commands.specs.declared.NwkNetworkCommissioningRequestCommand.{NwkNetworkCommissioningRequestCommand}
-use Rattle.commands.specs.declared.NwkNetworkCommissioningResponseCommand.{NwkNetworkCommissioningResponseCommand}
-use Rattle.commands.specs.declared.NwkEndDeviceTimeoutResponseCommand.{NwkEndDeviceTimeoutResponseCommand}
+use Rattle.commands.specs.declared.{NwkCommandId.NwkCommandId, NwkCommand.NwkCommand, NwkCommandWithLists.NwkCommandWithLists, TypedBody.TypedBody, NwkRejoinCapabilityInformation.NwkRejoinCapabilityInformation, NwkRouteRequestCommand.NwkRouteRequestCommand, NwkRouteReplyCommand.NwkRouteReplyCommand, NwkLeaveCommand.NwkLeaveCommand, NwkLinkStatusCommand.NwkLinkStatusCommand, NwkNetworkReportCommand.NwkNetworkReportCommand, NwkLinkPowerDeltaCommand.NwkLinkPowerDeltaCommand, NwkLinkStatus.NwkLinkStatus, NwkPowerListEntry.NwkPowerListEntry, NwkNetworkStatusCommand.NwkNetworkStatusCommand, NwkRejoinRequestCommand.NwkRejoinRequestCommand, NwkRejoinResponseCommand.NwkRejoinResponseCommand, NwkNetworkUpdateCommand.NwkNetworkUpdateCommand, NwkEndDeviceTimeoutRequestCommand.NwkEndDeviceTimeoutRequestCommand, NwkNetworkCommissioningRequestCommand.NwkNetworkCommissioningRequestCommand, NwkNetworkCommissioningResponseCommand.NwkNetworkCommissioningResponseCommand, NwkEndDeviceTimeoutResponseCommand.NwkEndDeviceTimeoutResponseCommand}
 
 -- ---- lists
 

@@ -19,10 +19,7 @@ use Rattle.commands.proofs.NwkCommand as nwk-command
 use Rattle.commands.proofs.NwkCommandWithLists as nwk-command-with-lists
 use Rattle.commands.proofs.NwkPowerListEntry as nwk-power-list-entry
 use Rattle.types.specs.declared.OptionEui64.{OptionEui64}
-use Rattle.commands.specs.declared.NwkCommand.{NwkCommand}
-use Rattle.commands.specs.declared.NwkCommandWithLists.{NwkCommandWithLists}
-use Rattle.commands.specs.declared.NwkCommandList.{NwkCommandList}
-use Rattle.commands.specs.declared.NwkPowerListEntry.{NwkPowerListEntry}
+use Rattle.commands.specs.declared.{NwkCommand.NwkCommand, NwkCommandWithLists.NwkCommandWithLists, NwkCommandList.NwkCommandList, NwkPowerListEntry.NwkPowerListEntry}
 
 address-in : (a : OptionEui64) (vs : List Val) → shadow (option-eui64.the-row .own a vs) → InAddress a
 address-in OptionEui64.Absent vs s = tt

@@ -18,10 +18,7 @@ use Rattle.commands.specs.Writing.{wireOf, wireBytes, overPlaces, misfit
 use Rattle.commands.specs.Writing.Wire.{body}
 use Rattle.commands.proofs.Format.{length-bodyBytes}
 use Rattle.types.specs.declared.OptionEui64.{OptionEui64}
-use Rattle.commands.specs.declared.NwkCommandId.{NwkCommandId}
-use Rattle.commands.specs.declared.NwkCommand.{NwkCommand}
-use Rattle.commands.specs.declared.NwkCommandWithLists.{NwkCommandWithLists}
-use Rattle.commands.specs.declared.NwkCommandList.{NwkCommandList}
+use Rattle.commands.specs.declared.{NwkCommandId.NwkCommandId, NwkCommand.NwkCommand, NwkCommandWithLists.NwkCommandWithLists, NwkCommandList.NwkCommandList}
 
 -- the length of a body behind its identifier
 abbrev pub wireLength : NwkCommandId → Values → ℕ

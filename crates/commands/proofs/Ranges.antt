@@ -22,25 +22,7 @@ use Rattle.commands.specs.Writing.Wire.{body}
 use Rattle.commands.proofs.Format.{both, held-all}
 use Rattle.commands.proofs.CodeLaws.{manyToOne-lt, status-lt, associationStatus-lt, reportIdentifier-lt, updateIdentifier-lt, timeout-lt, timeoutStatus-lt, powerType-lt, commissioningType-lt, bit-lt}
 use Rattle.types.specs.declared.OptionEui64.{OptionEui64}
-use Rattle.commands.specs.declared.NwkCommandId.{NwkCommandId}
-use Rattle.commands.specs.declared.NwkCommand.{NwkCommand}
-use Rattle.commands.specs.declared.NwkCommandWithLists.{NwkCommandWithLists}
-use Rattle.commands.specs.declared.NwkCommandList.{NwkCommandList}
-use Rattle.commands.specs.declared.NwkRejoinCapabilityInformation.{NwkRejoinCapabilityInformation}
-use Rattle.commands.specs.declared.NwkRouteRequestCommand.{NwkRouteRequestCommand}
-use Rattle.commands.specs.declared.NwkRouteReplyCommand.{NwkRouteReplyCommand}
-use Rattle.commands.specs.declared.NwkNetworkStatusCommand.{NwkNetworkStatusCommand}
-use Rattle.commands.specs.declared.NwkLeaveCommand.{NwkLeaveCommand}
-use Rattle.commands.specs.declared.NwkRejoinRequestCommand.{NwkRejoinRequestCommand}
-use Rattle.commands.specs.declared.NwkRejoinResponseCommand.{NwkRejoinResponseCommand}
-use Rattle.commands.specs.declared.NwkLinkStatusCommand.{NwkLinkStatusCommand}
-use Rattle.commands.specs.declared.NwkNetworkReportCommand.{NwkNetworkReportCommand}
-use Rattle.commands.specs.declared.NwkNetworkUpdateCommand.{NwkNetworkUpdateCommand}
-use Rattle.commands.specs.declared.NwkEndDeviceTimeoutRequestCommand.{NwkEndDeviceTimeoutRequestCommand}
-use Rattle.commands.specs.declared.NwkEndDeviceTimeoutResponseCommand.{NwkEndDeviceTimeoutResponseCommand}
-use Rattle.commands.specs.declared.NwkLinkPowerDeltaCommand.{NwkLinkPowerDeltaCommand}
-use Rattle.commands.specs.declared.NwkNetworkCommissioningRequestCommand.{NwkNetworkCommissioningRequestCommand}
-use Rattle.commands.specs.declared.NwkNetworkCommissioningResponseCommand.{NwkNetworkCommissioningResponseCommand}
+use Rattle.commands.specs.declared.{NwkCommandId.NwkCommandId, NwkCommand.NwkCommand, NwkCommandWithLists.NwkCommandWithLists, NwkCommandList.NwkCommandList, NwkRejoinCapabilityInformation.NwkRejoinCapabilityInformation, NwkRouteRequestCommand.NwkRouteRequestCommand, NwkRouteReplyCommand.NwkRouteReplyCommand, NwkNetworkStatusCommand.NwkNetworkStatusCommand, NwkLeaveCommand.NwkLeaveCommand, NwkRejoinRequestCommand.NwkRejoinRequestCommand, NwkRejoinResponseCommand.NwkRejoinResponseCommand, NwkLinkStatusCommand.NwkLinkStatusCommand, NwkNetworkReportCommand.NwkNetworkReportCommand, NwkNetworkUpdateCommand.NwkNetworkUpdateCommand, NwkEndDeviceTimeoutRequestCommand.NwkEndDeviceTimeoutRequestCommand, NwkEndDeviceTimeoutResponseCommand.NwkEndDeviceTimeoutResponseCommand, NwkLinkPowerDeltaCommand.NwkLinkPowerDeltaCommand, NwkNetworkCommissioningRequestCommand.NwkNetworkCommissioningRequestCommand, NwkNetworkCommissioningResponseCommand.NwkNetworkCommissioningResponseCommand}
 
 -- ---- what the types give
 

@@ -24,21 +24,7 @@ use Rattle.commands.proofs.Commands.{map-tab}
 use Rattle.commands.proofs.Ranges.{InAddress, Ranged, RangedList, linkEntries, tooBig}
 use Rattle.commands.proofs.Lengths.{Typed}
 use Rattle.types.specs.declared.OptionEui64.{OptionEui64}
-use Rattle.commands.specs.declared.NwkCommandId.{NwkCommandId}
-use Rattle.commands.specs.declared.NwkCommand.{NwkCommand}
-use Rattle.commands.specs.declared.NwkCommandList.{NwkCommandList}
-use Rattle.commands.specs.declared.TypedBody.{TypedBody}
-use Rattle.commands.specs.declared.NwkLinkStatus.{NwkLinkStatus}
-use Rattle.commands.specs.declared.NwkPowerListEntry.{NwkPowerListEntry}
-use Rattle.commands.specs.declared.NwkRouteRequestManyToOneCode.{NwkRouteRequestManyToOneCode}
-use Rattle.commands.specs.declared.NwkNetworkStatusCode.{NwkNetworkStatusCode}
-use Rattle.commands.specs.declared.Nwk802154AssociationStatusCode.{Nwk802154AssociationStatusCode}
-use Rattle.commands.specs.declared.NwkReportCommandIdentifierCode.{NwkReportCommandIdentifierCode}
-use Rattle.commands.specs.declared.NwkUpdateCommandIdentifierCode.{NwkUpdateCommandIdentifierCode}
-use Rattle.commands.specs.declared.EndDeviceTimeoutCode.{EndDeviceTimeoutCode}
-use Rattle.commands.specs.declared.NwkEndDeviceTimeoutResponseStatusCode.{NwkEndDeviceTimeoutResponseStatusCode}
-use Rattle.commands.specs.declared.NwkLinkPowerDeltaTypeCode.{NwkLinkPowerDeltaTypeCode}
-use Rattle.commands.specs.declared.NwkCommissioningTypeCode.{NwkCommissioningTypeCode}
+use Rattle.commands.specs.declared.{NwkCommandId.NwkCommandId, NwkCommand.NwkCommand, NwkCommandList.NwkCommandList, TypedBody.TypedBody, NwkLinkStatus.NwkLinkStatus, NwkPowerListEntry.NwkPowerListEntry, NwkRouteRequestManyToOneCode.NwkRouteRequestManyToOneCode, NwkNetworkStatusCode.NwkNetworkStatusCode, Nwk802154AssociationStatusCode.Nwk802154AssociationStatusCode, NwkReportCommandIdentifierCode.NwkReportCommandIdentifierCode, NwkUpdateCommandIdentifierCode.NwkUpdateCommandIdentifierCode, EndDeviceTimeoutCode.EndDeviceTimeoutCode, NwkEndDeviceTimeoutResponseStatusCode.NwkEndDeviceTimeoutResponseStatusCode, NwkLinkPowerDeltaTypeCode.NwkLinkPowerDeltaTypeCode, NwkCommissioningTypeCode.NwkCommissioningTypeCode}
 
 -- ---- the places of an array
 

@@ -26,13 +26,7 @@ use Rattle.commands.proofs.Commands.{WireBack, back}
 use Rattle.commands.proofs.Ranges.{misfits-is}
 use Rattle.commands.proofs.Lengths.{Typed, typed-short}
 use Rattle.commands.proofs.Reread.{firsts-places, cleared-read, Writable, writable}
-use Rattle.commands.specs.declared.NwkCommandId.{NwkCommandId}
-use Rattle.commands.specs.declared.NwkCommandIdCode.{NwkCommandIdCode}
-use Rattle.commands.specs.declared.NwkCommand.{NwkCommand}
-use Rattle.commands.specs.declared.NwkCommandWithLists.{NwkCommandWithLists}
-use Rattle.commands.specs.declared.NwkCommandList.{NwkCommandList}
-use Rattle.commands.specs.declared.NwkCommandRead.{NwkCommandRead}
-use Rattle.commands.specs.declared.TypedBody.{TypedBody}
+use Rattle.commands.specs.declared.{NwkCommandId.NwkCommandId, NwkCommandIdCode.NwkCommandIdCode, NwkCommand.NwkCommand, NwkCommandWithLists.NwkCommandWithLists, NwkCommandList.NwkCommandList, NwkCommandRead.NwkCommandRead, TypedBody.TypedBody}
 
 -- ---- a typed command reads back
 

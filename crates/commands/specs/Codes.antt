@@ -6,28 +6,7 @@ use mathlib.Core.Bool.{Bool, true, false, cond}
 use mathlib.Core.List.{List, [], _∷_}
 use lib.ListN.{getD}
 use lib.Dec.{ltb, leb, eqb}
-use Rattle.commands.specs.declared.NwkCommandId.{NwkCommandId}
-use Rattle.commands.specs.declared.NwkRouteRequestManyToOne.{NwkRouteRequestManyToOne}
-use Rattle.commands.specs.declared.NwkNetworkStatus.{NwkNetworkStatus}
-use Rattle.commands.specs.declared.NwkRejoinCapabilityInformationDeviceType.{NwkRejoinCapabilityInformationDeviceType}
-use Rattle.commands.specs.declared.NwkRejoinCapabilityInformationPowerSource.{NwkRejoinCapabilityInformationPowerSource}
-use Rattle.commands.specs.declared.Nwk802154AssociationStatus.{Nwk802154AssociationStatus}
-use Rattle.commands.specs.declared.NwkReportCommandIdentifier.{NwkReportCommandIdentifier}
-use Rattle.commands.specs.declared.NwkUpdateCommandIdentifier.{NwkUpdateCommandIdentifier}
-use Rattle.commands.specs.declared.EndDeviceTimeout.{EndDeviceTimeout}
-use Rattle.commands.specs.declared.NwkEndDeviceTimeoutResponseStatus.{NwkEndDeviceTimeoutResponseStatus}
-use Rattle.commands.specs.declared.NwkLinkPowerDeltaType.{NwkLinkPowerDeltaType}
-use Rattle.commands.specs.declared.NwkCommissioningType.{NwkCommissioningType}
-use Rattle.commands.specs.declared.NwkCommandIdCode.{NwkCommandIdCode}
-use Rattle.commands.specs.declared.NwkRouteRequestManyToOneCode.{NwkRouteRequestManyToOneCode}
-use Rattle.commands.specs.declared.NwkNetworkStatusCode.{NwkNetworkStatusCode}
-use Rattle.commands.specs.declared.Nwk802154AssociationStatusCode.{Nwk802154AssociationStatusCode}
-use Rattle.commands.specs.declared.NwkReportCommandIdentifierCode.{NwkReportCommandIdentifierCode}
-use Rattle.commands.specs.declared.NwkUpdateCommandIdentifierCode.{NwkUpdateCommandIdentifierCode}
-use Rattle.commands.specs.declared.EndDeviceTimeoutCode.{EndDeviceTimeoutCode}
-use Rattle.commands.specs.declared.NwkEndDeviceTimeoutResponseStatusCode.{NwkEndDeviceTimeoutResponseStatusCode}
-use Rattle.commands.specs.declared.NwkLinkPowerDeltaTypeCode.{NwkLinkPowerDeltaTypeCode}
-use Rattle.commands.specs.declared.NwkCommissioningTypeCode.{NwkCommissioningTypeCode}
+use Rattle.commands.specs.declared.{NwkCommandId.NwkCommandId, NwkRouteRequestManyToOne.NwkRouteRequestManyToOne, NwkNetworkStatus.NwkNetworkStatus, NwkRejoinCapabilityInformationDeviceType.NwkRejoinCapabilityInformationDeviceType, NwkRejoinCapabilityInformationPowerSource.NwkRejoinCapabilityInformationPowerSource, Nwk802154AssociationStatus.Nwk802154AssociationStatus, NwkReportCommandIdentifier.NwkReportCommandIdentifier, NwkUpdateCommandIdentifier.NwkUpdateCommandIdentifier, EndDeviceTimeout.EndDeviceTimeout, NwkEndDeviceTimeoutResponseStatus.NwkEndDeviceTimeoutResponseStatus, NwkLinkPowerDeltaType.NwkLinkPowerDeltaType, NwkCommissioningType.NwkCommissioningType, NwkCommandIdCode.NwkCommandIdCode, NwkRouteRequestManyToOneCode.NwkRouteRequestManyToOneCode, NwkNetworkStatusCode.NwkNetworkStatusCode, Nwk802154AssociationStatusCode.Nwk802154AssociationStatusCode, NwkReportCommandIdentifierCode.NwkReportCommandIdentifierCode, NwkUpdateCommandIdentifierCode.NwkUpdateCommandIdentifierCode, EndDeviceTimeoutCode.EndDeviceTimeoutCode, NwkEndDeviceTimeoutResponseStatusCode.NwkEndDeviceTimeoutResponseStatusCode, NwkLinkPowerDeltaTypeCode.NwkLinkPowerDeltaTypeCode, NwkCommissioningTypeCode.NwkCommissioningTypeCode}
 
 -- 3.4: the command identifier
 abbrev pub commandIdCode : NwkCommandId → ℕ

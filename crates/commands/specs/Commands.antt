@@ -14,34 +14,7 @@ use Rattle.commands.specs.Format.{Field, Format, Values, readFields}
 use Rattle.commands.specs.Format.Part.{keep, skip}
 use Rattle.commands.specs.Format.Field.{byte, number, bits}
 use Rattle.types.specs.declared.OptionEui64.{OptionEui64}
-use Rattle.commands.specs.declared.NwkRouteRequestCommand.{NwkRouteRequestCommand}
-use Rattle.commands.specs.declared.NwkRouteReplyCommand.{NwkRouteReplyCommand}
-use Rattle.commands.specs.declared.NwkNetworkStatusCommand.{NwkNetworkStatusCommand}
-use Rattle.commands.specs.declared.NwkLeaveCommand.{NwkLeaveCommand}
-use Rattle.commands.specs.declared.NwkRejoinCapabilityInformation.{NwkRejoinCapabilityInformation}
-use Rattle.commands.specs.declared.NwkRejoinRequestCommand.{NwkRejoinRequestCommand}
-use Rattle.commands.specs.declared.NwkRejoinResponseCommand.{NwkRejoinResponseCommand}
-use Rattle.commands.specs.declared.NwkLinkStatusCommand.{NwkLinkStatusCommand}
-use Rattle.commands.specs.declared.NwkLinkStatus.{NwkLinkStatus}
-use Rattle.commands.specs.declared.NwkNetworkReportCommand.{NwkNetworkReportCommand}
-use Rattle.commands.specs.declared.NwkNetworkUpdateCommand.{NwkNetworkUpdateCommand}
-use Rattle.commands.specs.declared.NwkEndDeviceTimeoutRequestCommand.{NwkEndDeviceTimeoutRequestCommand}
-use Rattle.commands.specs.declared.NwkEndDeviceTimeoutResponseCommand.{NwkEndDeviceTimeoutResponseCommand}
-use Rattle.commands.specs.declared.NwkLinkPowerDeltaCommand.{NwkLinkPowerDeltaCommand}
-use Rattle.commands.specs.declared.NwkPowerListEntry.{NwkPowerListEntry}
-use Rattle.commands.specs.declared.NwkNetworkCommissioningRequestCommand.{NwkNetworkCommissioningRequestCommand}
-use Rattle.commands.specs.declared.NwkNetworkCommissioningResponseCommand.{NwkNetworkCommissioningResponseCommand}
-use Rattle.commands.specs.declared.NwkRouteRequestManyToOneCode.{NwkRouteRequestManyToOneCode}
-use Rattle.commands.specs.declared.NwkNetworkStatusCode.{NwkNetworkStatusCode}
-use Rattle.commands.specs.declared.Nwk802154AssociationStatusCode.{Nwk802154AssociationStatusCode}
-use Rattle.commands.specs.declared.NwkReportCommandIdentifierCode.{NwkReportCommandIdentifierCode}
-use Rattle.commands.specs.declared.NwkUpdateCommandIdentifierCode.{NwkUpdateCommandIdentifierCode}
-use Rattle.commands.specs.declared.EndDeviceTimeoutCode.{EndDeviceTimeoutCode}
-use Rattle.commands.specs.declared.NwkEndDeviceTimeoutResponseStatusCode.{NwkEndDeviceTimeoutResponseStatusCode}
-use Rattle.commands.specs.declared.NwkLinkPowerDeltaTypeCode.{NwkLinkPowerDeltaTypeCode}
-use Rattle.commands.specs.declared.NwkCommissioningTypeCode.{NwkCommissioningTypeCode}
-use Rattle.commands.specs.declared.NwkCommand.{NwkCommand}
-use Rattle.commands.specs.declared.TypedBody.{TypedBody}
+use Rattle.commands.specs.declared.{NwkRouteRequestCommand.NwkRouteRequestCommand, NwkRouteReplyCommand.NwkRouteReplyCommand, NwkNetworkStatusCommand.NwkNetworkStatusCommand, NwkLeaveCommand.NwkLeaveCommand, NwkRejoinCapabilityInformation.NwkRejoinCapabilityInformation, NwkRejoinRequestCommand.NwkRejoinRequestCommand, NwkRejoinResponseCommand.NwkRejoinResponseCommand, NwkLinkStatusCommand.NwkLinkStatusCommand, NwkLinkStatus.NwkLinkStatus, NwkNetworkReportCommand.NwkNetworkReportCommand, NwkNetworkUpdateCommand.NwkNetworkUpdateCommand, NwkEndDeviceTimeoutRequestCommand.NwkEndDeviceTimeoutRequestCommand, NwkEndDeviceTimeoutResponseCommand.NwkEndDeviceTimeoutResponseCommand, NwkLinkPowerDeltaCommand.NwkLinkPowerDeltaCommand, NwkPowerListEntry.NwkPowerListEntry, NwkNetworkCommissioningRequestCommand.NwkNetworkCommissioningRequestCommand, NwkNetworkCommissioningResponseCommand.NwkNetworkCommissioningResponseCommand, NwkRouteRequestManyToOneCode.NwkRouteRequestManyToOneCode, NwkNetworkStatusCode.NwkNetworkStatusCode, Nwk802154AssociationStatusCode.Nwk802154AssociationStatusCode, NwkReportCommandIdentifierCode.NwkReportCommandIdentifierCode, NwkUpdateCommandIdentifierCode.NwkUpdateCommandIdentifierCode, EndDeviceTimeoutCode.EndDeviceTimeoutCode, NwkEndDeviceTimeoutResponseStatusCode.NwkEndDeviceTimeoutResponseStatusCode, NwkLinkPowerDeltaTypeCode.NwkLinkPowerDeltaTypeCode, NwkCommissioningTypeCode.NwkCommissioningTypeCode, NwkCommand.NwkCommand, TypedBody.TypedBody}
 
 -- a body without entries
 abbrev plain : List Field → Format

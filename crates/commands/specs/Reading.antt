@@ -11,15 +11,7 @@ use Rattle.octets.specs.Refusals.{on, firstOf, unless}
 use Rattle.commands.specs.Codes.{commandIdOf}
 use Rattle.commands.specs.Format.{Format, Values, bodyEnd, values}
 use Rattle.commands.specs.Commands.{routeRequestFormat, routeRequestOf, routeReplyFormat, routeReplyOf, networkStatusFormat, networkStatusOf, leaveFormat, leaveOf, routeRecordFormat, routeRecordOf, rejoinRequestFormat, rejoinRequestOf, rejoinResponseFormat, rejoinResponseOf, linkStatusFormat, linkStatusOf, networkReportFormat, networkReportOf, networkUpdateFormat, networkUpdateOf, timeoutRequestFormat, timeoutRequestOf, timeoutResponseFormat, timeoutResponseOf, linkPowerDeltaFormat, linkPowerDeltaOf, commissioningRequestFormat, commissioningRequestOf, commissioningResponseFormat, commissioningResponseOf, relayOf, linkOf, noLink, powerOf, noPower, firsts}
-use Rattle.commands.specs.declared.NwkCommandId.{NwkCommandId}
-use Rattle.commands.specs.declared.NwkCommandIdCode.{NwkCommandIdCode}
-use Rattle.commands.specs.declared.NwkCommand.{NwkCommand}
-use Rattle.commands.specs.declared.NwkCommandWithLists.{NwkCommandWithLists}
-use Rattle.commands.specs.declared.NwkCommandList.{NwkCommandList}
-use Rattle.commands.specs.declared.NwkCommandRead.{NwkCommandRead}
-use Rattle.commands.specs.declared.TypedBody.{TypedBody}
-use Rattle.commands.specs.declared.NwkLinkStatus.{NwkLinkStatus}
-use Rattle.commands.specs.declared.NwkPowerListEntry.{NwkPowerListEntry}
+use Rattle.commands.specs.declared.{NwkCommandId.NwkCommandId, NwkCommandIdCode.NwkCommandIdCode, NwkCommand.NwkCommand, NwkCommandWithLists.NwkCommandWithLists, NwkCommandList.NwkCommandList, NwkCommandRead.NwkCommandRead, TypedBody.TypedBody, NwkLinkStatus.NwkLinkStatus, NwkPowerListEntry.NwkPowerListEntry}
 
 -- the most bytes that a command has
 abbrev pub maxNsduSize : ℕ

@@ -11,12 +11,7 @@ use Rattle.commands.specs.Codes.{commandIdCode, commandIdOf}
 use Rattle.commands.specs.Format.{Values, bodyBytes, heldValues}
 use Rattle.commands.specs.Commands.{routeRequestValues, routeReplyValues, networkStatusValues, leaveValues, routeRecordValues, rejoinRequestValues, rejoinResponseValues, linkStatusValues, networkReportValues, networkUpdateValues, timeoutRequestValues, timeoutResponseValues, linkPowerDeltaValues, commissioningRequestValues, commissioningResponseValues, firsts}
 use Rattle.commands.specs.Reading.{maxNsduSize, formatOf, listOf}
-use Rattle.commands.specs.declared.NwkCommandId.{NwkCommandId}
-use Rattle.commands.specs.declared.NwkCommandIdCode.{NwkCommandIdCode}
-use Rattle.commands.specs.declared.NwkCommand.{NwkCommand}
-use Rattle.commands.specs.declared.NwkCommandWithLists.{NwkCommandWithLists}
-use Rattle.commands.specs.declared.NwkCommandList.{NwkCommandList}
-use Rattle.commands.specs.declared.EndDeviceTimeoutSeconds.{EndDeviceTimeoutSeconds}
+use Rattle.commands.specs.declared.{NwkCommandId.NwkCommandId, NwkCommandIdCode.NwkCommandIdCode, NwkCommand.NwkCommand, NwkCommandWithLists.NwkCommandWithLists, NwkCommandList.NwkCommandList, EndDeviceTimeoutSeconds.EndDeviceTimeoutSeconds}
 
 -- a command as it goes out: an identifier with the values of its body, or bytes
 pub data Wire : Type 0 where

@@ -3,29 +3,7 @@
 ghost use mathlib.Core.Path.{_≡_};
 ghost use Rattle.commands.specs.Codes.{commandIdCode, commandIdOf, manyToOneCode, manyToOneOf, statusCode, statusOf, associationStatusCode, associationStatusOf, reportIdentifierCode, reportIdentifierOf, updateIdentifierCode, updateIdentifierOf, timeoutCode, timeoutOf, timeoutStatusCode, timeoutStatusOf, powerTypeCode, powerTypeOf, commissioningTypeCode, commissioningTypeOf, deviceTypeBit, deviceTypeOf, powerSourceBit, powerSourceOf};
 ghost use Rattle.commands.specs.Writing.{seconds, timeoutSeconds};
-use crate::EndDeviceTimeout;
-use crate::EndDeviceTimeoutCode;
-use crate::EndDeviceTimeoutSeconds;
-use crate::Nwk802154AssociationStatus;
-use crate::Nwk802154AssociationStatusCode;
-use crate::NwkCommandId;
-use crate::NwkCommandIdCode;
-use crate::NwkCommissioningType;
-use crate::NwkCommissioningTypeCode;
-use crate::NwkEndDeviceTimeoutResponseStatus;
-use crate::NwkEndDeviceTimeoutResponseStatusCode;
-use crate::NwkLinkPowerDeltaType;
-use crate::NwkLinkPowerDeltaTypeCode;
-use crate::NwkNetworkStatus;
-use crate::NwkNetworkStatusCode;
-use crate::NwkRejoinCapabilityInformationDeviceType;
-use crate::NwkRejoinCapabilityInformationPowerSource;
-use crate::NwkReportCommandIdentifier;
-use crate::NwkReportCommandIdentifierCode;
-use crate::NwkRouteRequestManyToOne;
-use crate::NwkRouteRequestManyToOneCode;
-use crate::NwkUpdateCommandIdentifier;
-use crate::NwkUpdateCommandIdentifierCode;
+use crate::*;
 
 const COMMAND_IDS: [NwkCommandId; 15] = [
     NwkCommandId::RouteRequest,

@@ -9,13 +9,9 @@ use lib.Dec.{ltb}
 use borrow.Author.Tests.{ltb-false, le-ltb}
 use Rattle.octets.specs.Refusals.{firstOf, unless}
 use Rattle.octets.proofs.Conditions.{answer-number, none, none-refuse, or-false}
-use Rattle.header.specs.declared.auxiliary.NwkSecurityLevel.{NwkSecurityLevel}
-use Rattle.header.specs.declared.auxiliary.AuxRead.{AuxRead}
-use Rattle.header.specs.declared.nwk.HeaderRead.{HeaderRead}
-use Rattle.header.specs.declared.nwk.NwkHeader.{NwkHeader}
+use Rattle.header.specs.declared.{auxiliary.NwkSecurityLevel.NwkSecurityLevel, auxiliary.AuxRead.AuxRead, nwk.HeaderRead.HeaderRead, nwk.NwkHeader.NwkHeader}
 use Rattle.header.specs.Writing.{badHeader, fieldRefusal}
-use Rattle.frame.specs.declared.OptionAuxHeader.{OptionAuxHeader}
-use Rattle.frame.specs.declared.FrameRead.{FrameRead}
+use Rattle.frame.specs.declared.{OptionAuxHeader.OptionAuxHeader, FrameRead.FrameRead}
 use Rattle.frame.specs.Reading.{frameRefused, frameGiven, frameNumber, frameBy}
 use Rattle.frame.specs.Security.{isAbsent, orBlank, noIeee}
 use Rattle.frame.specs.Writing.{frameBytes, frameWriteRefusal}

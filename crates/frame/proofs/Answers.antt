@@ -14,25 +14,20 @@ use Rattle.octets.specs.Strings.{over, Below}
 use Rattle.octets.proofs.Strings.{over-then, drop-below}
 use Rattle.octets.specs.Refusals.{firstOf, unless}
 use Rattle.octets.proofs.Conditions.{accepted-by, refused-by, unless-number, none, stop, skip, stop-by, skip-by, empty}
-use Rattle.header.specs.declared.auxiliary.AuxRead.{AuxRead}
-use Rattle.header.specs.declared.nwk.HeaderRead.{HeaderRead}
+use Rattle.header.specs.declared.{auxiliary.AuxRead.AuxRead, nwk.HeaderRead.HeaderRead, auxiliary.NwkSecurityLevel.NwkSecurityLevel, auxiliary.NwkAuxHeader.NwkAuxHeader, nwk.NwkHeader.NwkHeader}
 use Rattle.header.specs.Reading.{readHeader}
-use Rattle.header.specs.declared.auxiliary.NwkSecurityLevel.{NwkSecurityLevel}
-use Rattle.header.specs.declared.auxiliary.NwkAuxHeader.{NwkAuxHeader}
-use Rattle.header.specs.declared.nwk.NwkHeader.{NwkHeader}
 use Rattle.header.specs.Writing.{headerBytes, badHeader}
 use Rattle.header.specs.Auxiliary.{auxBytes, readAux}
 use Rattle.header.proofs.ReadFacts.{header-facts, aux-facts}
 use Rattle.ccm.specs.declared.Split.{Split}
 use Rattle.ccm.specs.Verification.{Verified}
 use Rattle.ccm.specs.Operations.{micLength, sealedBy, openedBy, splitMic, givenIf}
-use Rattle.frame.specs.declared.OptionAuxHeader.{OptionAuxHeader}
+use Rattle.frame.specs.declared.{OptionAuxHeader.OptionAuxHeader, FrameRead.FrameRead}
 use Rattle.frame.specs.Security.{networkLevel, sentLevel, atLevel, isAbsent, orBlank, nonce, authenticated}
 use Rattle.frame.specs.Sealing.{generated, sealedBytes}
 use Rattle.frame.specs.Opening.{behind, ciphertextOf, micOf, verified, openRefusals, openRefusal, openGiven, openNothing, openBy, openFrame}
 use Rattle.frame.proofs.Levels.{level-length}
 use Rattle.frame.proofs.SecondHalf.{secured-facts, payload-length}
-use Rattle.frame.specs.declared.FrameRead.{FrameRead}
 use Rattle.frame.specs.Reading.{secured, auxBehind, frameRefusal, frameNumber, frameBy, readFrame}
 
 -- ---- reading

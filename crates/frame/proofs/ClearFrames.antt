@@ -14,16 +14,12 @@ use borrow.Author.Tests.{le-ltb}
 use Rattle.octets.proofs.Conditions.{accepted, none-refuse}
 use Rattle.octets.proofs.Strings.{take-over}
 use Rattle.octets.proofs.Writing.{write-accepted, written-number}
-use Rattle.header.specs.declared.auxiliary.AuxRead.{AuxRead}
-use Rattle.header.specs.declared.control.NwkFrameControl.{NwkFrameControl}
-use Rattle.header.specs.declared.nwk.HeaderRead.{HeaderRead}
-use Rattle.header.specs.declared.nwk.NwkHeader.{NwkHeader}
+use Rattle.header.specs.declared.{auxiliary.AuxRead.AuxRead, control.NwkFrameControl.NwkFrameControl, nwk.HeaderRead.HeaderRead, nwk.NwkHeader.NwkHeader}
 use Rattle.header.specs.Reading.{readHeader}
 use Rattle.header.specs.Same.{Agrees, SameHeader, cleared, HeaderFits}
 use Rattle.header.specs.Writing.{headerBytes}
 use Rattle.header.proofs.ReadBack.{read-back, same-cleared}
-use Rattle.frame.specs.declared.OptionAuxHeader.{OptionAuxHeader}
-use Rattle.frame.specs.declared.FrameRead.{FrameRead}
+use Rattle.frame.specs.declared.{OptionAuxHeader.OptionAuxHeader, FrameRead.FrameRead}
 use Rattle.frame.specs.Reading.{secured, auxIf, auxBehind, frameRefusal, frameGiven, frameNumber, frameBy, readFrame}
 use Rattle.frame.specs.Writing.{frameBytes, frameWriteRefusal, writeFrame}
 use Rattle.frame.specs.SealingLaw.{bytesWritten}

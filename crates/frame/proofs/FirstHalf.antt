@@ -11,12 +11,7 @@ use lib.Seq.{take-at, drop-at}
 use lib.Dec.{ltb}
 use Rattle.octets.specs.Strings.{over}
 use Rattle.octets.proofs.Conditions.{accepted, none-refuse}
-use Rattle.header.specs.declared.auxiliary.NwkSecurityLevel.{NwkSecurityLevel}
-use Rattle.header.specs.declared.auxiliary.NwkAuxHeader.{NwkAuxHeader}
-use Rattle.header.specs.declared.auxiliary.AuxRead.{AuxRead}
-use Rattle.header.specs.declared.control.NwkFrameControl.{NwkFrameControl}
-use Rattle.header.specs.declared.nwk.HeaderRead.{HeaderRead}
-use Rattle.header.specs.declared.nwk.NwkHeader.{NwkHeader}
+use Rattle.header.specs.declared.{auxiliary.NwkSecurityLevel.NwkSecurityLevel, auxiliary.NwkAuxHeader.NwkAuxHeader, auxiliary.AuxRead.AuxRead, control.NwkFrameControl.NwkFrameControl, nwk.HeaderRead.HeaderRead, nwk.NwkHeader.NwkHeader}
 use Rattle.header.specs.Reading.{readHeader}
 use Rattle.header.specs.Auxiliary.{auxBytes, readAux}
 use Rattle.header.specs.Writing.{headerBytes, badHeader}
@@ -26,8 +21,7 @@ use Rattle.header.proofs.AuxiliaryLaws.{aux-read-back}
 use Rattle.ccm.specs.Verification.{Verified}
 use Rattle.ccm.specs.Operations.{openedBy}
 use Rattle.ccm.proofs.Opening.{length-ciphertext, length-tag, opened-sealed}
-use Rattle.frame.specs.declared.OptionAuxHeader.{OptionAuxHeader}
-use Rattle.frame.specs.declared.FrameRead.{FrameRead}
+use Rattle.frame.specs.declared.{OptionAuxHeader.OptionAuxHeader, FrameRead.FrameRead}
 use Rattle.frame.specs.Reading.{secured, auxIf, auxBehind, frameRefusal, frameGiven, frameNumber, frameBy, readFrame}
 use Rattle.frame.specs.Security.{sentLevel, atLevel, orBlank, noIeee, nonce, authenticated}
 use Rattle.frame.specs.Sealing.{generated, sealedBytes, sealedLength}

@@ -5,9 +5,7 @@ use mathlib.Core.Bool.{not, _||_}
 use mathlib.Core.List.{_++_}
 use lib.ListN.{length}
 use Rattle.octets.specs.Numbers.{le}
-use Rattle.header.specs.declared.auxiliary.NwkSecurityLevel.{NwkSecurityLevel}
-use Rattle.header.specs.declared.auxiliary.NwkAuxHeader.{NwkAuxHeader}
-use Rattle.header.specs.declared.nwk.NwkHeader.{NwkHeader}
+use Rattle.header.specs.declared.{auxiliary.NwkSecurityLevel.NwkSecurityLevel, auxiliary.NwkAuxHeader.NwkAuxHeader, nwk.NwkHeader.NwkHeader}
 use Rattle.types.specs.declared.OptionEui64.{OptionEui64}
 use Rattle.types.specs.Optional.{hasIeee}
 use Rattle.header.specs.AuxiliaryControl.{securityByte, withLevel}

@@ -15,9 +15,7 @@ use Rattle.octets.proofs.Conditions.{accepted, unless-either}
 use Rattle.octets.proofs.Writing.{write-accepted, written-number, written-within}
 use Rattle.header.proofs.ReadBack.{same-cleared}
 use Rattle.ccm.specs.Operations.{micLength}
-use Rattle.frame.specs.declared.OptionAuxHeader.{OptionAuxHeader}
-use Rattle.frame.specs.declared.FrameRead.{FrameRead}
-use Rattle.frame.specs.declared.FrameOpened.{FrameOpened}
+use Rattle.frame.specs.declared.{OptionAuxHeader.OptionAuxHeader, FrameRead.FrameRead, FrameOpened.FrameOpened}
 use Rattle.frame.specs.Reading.{readFrame}
 use Rattle.frame.specs.Security.{networkLevel, orBlank}
 use Rattle.frame.specs.Sealing.{sealRefusal, sealedBytes, sealFrame}

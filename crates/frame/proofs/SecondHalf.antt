@@ -12,10 +12,7 @@ use lib.Seq.{take-add, getD-drop, length-take-le}
 use Rattle.octets.proofs.Strings.{drop-below}
 use Rattle.octets.specs.Strings.{Below}
 use Rattle.octets.proofs.Conditions.{accepted, none}
-use Rattle.header.specs.declared.auxiliary.NwkSecurityLevel.{NwkSecurityLevel}
-use Rattle.header.specs.declared.auxiliary.NwkAuxHeader.{NwkAuxHeader}
-use Rattle.header.specs.declared.auxiliary.AuxRead.{AuxRead}
-use Rattle.header.specs.declared.nwk.HeaderRead.{HeaderRead}
+use Rattle.header.specs.declared.{auxiliary.NwkSecurityLevel.NwkSecurityLevel, auxiliary.NwkAuxHeader.NwkAuxHeader, auxiliary.AuxRead.AuxRead, nwk.HeaderRead.HeaderRead}
 use Rattle.header.specs.Reading.{readHeader}
 use Rattle.header.specs.Auxiliary.{auxBytes}
 use Rattle.header.specs.AuxiliaryControl.{withLevel}
@@ -23,8 +20,7 @@ use Rattle.header.specs.Writing.{headerBytes}
 use Rattle.header.proofs.ReadFacts.{HeaderFacts, header-facts, AuxFacts, aux-facts}
 use Rattle.header.proofs.AuxiliaryLaws.{aux-length}
 use Rattle.ccm.proofs.Opening.{length-payload, sealed-opened}
-use Rattle.frame.specs.declared.OptionAuxHeader.{OptionAuxHeader}
-use Rattle.frame.specs.declared.FrameRead.{FrameRead}
+use Rattle.frame.specs.declared.{OptionAuxHeader.OptionAuxHeader, FrameRead.FrameRead}
 use Rattle.frame.specs.Reading.{secured, auxIf, auxBehind, frameRefusal, frameRefused, frameGiven, frameNumber, frameBy, readFrame}
 use Rattle.frame.specs.Security.{sentLevel, atLevel, isAbsent, orBlank, nonce, authenticated}
 use Rattle.frame.specs.Sealing.{generated, sealedBytes, sealedLength}

@@ -8,14 +8,11 @@ use lib.ListN.{length, take, drop}
 use lib.Dec.{ltb}
 use Rattle.octets.specs.Strings.{over}
 use Rattle.octets.specs.Refusals.{unless, Condition, on, by, firstOf}
-use Rattle.header.specs.declared.auxiliary.NwkSecurityLevel.{NwkSecurityLevel}
-use Rattle.header.specs.declared.nwk.NwkHeader.{NwkHeader}
+use Rattle.header.specs.declared.{auxiliary.NwkSecurityLevel.NwkSecurityLevel, nwk.NwkHeader.NwkHeader}
 use Rattle.header.specs.Reading.{blankHeader}
 use Rattle.ccm.specs.Verification.{Verified}
 use Rattle.ccm.specs.Operations.{micLength, openedBy}
-use Rattle.frame.specs.declared.OptionAuxHeader.{OptionAuxHeader}
-use Rattle.frame.specs.declared.FrameRead.{FrameRead}
-use Rattle.frame.specs.declared.FrameOpened.{FrameOpened}
+use Rattle.frame.specs.declared.{OptionAuxHeader.OptionAuxHeader, FrameRead.FrameRead, FrameOpened.FrameOpened}
 use Rattle.frame.specs.Reading.{readFrame}
 use Rattle.frame.specs.Security.{networkLevel, isAbsent, orBlank, noIeee, nonce, authenticated}
 

@@ -7,15 +7,10 @@ use mathlib.Core.List.{List, [], _∷_}
 use lib.ListN.{length, drop}
 use lib.Dec.{ltb}
 use Rattle.octets.specs.Refusals.{unless, on, by, firstOf}
-use Rattle.header.specs.declared.auxiliary.NwkAuxHeader.{NwkAuxHeader}
-use Rattle.header.specs.declared.auxiliary.AuxRead.{AuxRead}
-use Rattle.header.specs.declared.nwk.HeaderRead.{HeaderRead}
+use Rattle.header.specs.declared.{auxiliary.NwkAuxHeader.NwkAuxHeader, auxiliary.AuxRead.AuxRead, nwk.HeaderRead.HeaderRead, control.NwkFrameType.NwkFrameType}
 use Rattle.header.specs.Reading.{readHeader, blankHeader}
 use Rattle.header.specs.Auxiliary.{readAux}
-use Rattle.frame.specs.declared.OptionAuxHeader.{OptionAuxHeader}
-use Rattle.frame.specs.declared.FrameRead.{FrameRead}
-use Rattle.frame.specs.declared.NwkPayload.{NwkPayload}
-use Rattle.header.specs.declared.control.NwkFrameType.{NwkFrameType}
+use Rattle.frame.specs.declared.{OptionAuxHeader.OptionAuxHeader, FrameRead.FrameRead, NwkPayload.NwkPayload}
 
 -- the security bit, bit 9 of frame control
 abbrev pub secured : HeaderRead → Bool

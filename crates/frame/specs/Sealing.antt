@@ -7,9 +7,7 @@ use lib.ListN.{length}
 use lib.Dec.{ltb}
 use Rattle.octets.specs.Refusals.{Condition, on, by, firstOf}
 use Rattle.octets.specs.Writing.{Run, written}
-use Rattle.header.specs.declared.auxiliary.NwkSecurityLevel.{NwkSecurityLevel}
-use Rattle.header.specs.declared.auxiliary.NwkAuxHeader.{NwkAuxHeader}
-use Rattle.header.specs.declared.nwk.NwkHeader.{NwkHeader}
+use Rattle.header.specs.declared.{auxiliary.NwkSecurityLevel.NwkSecurityLevel, auxiliary.NwkAuxHeader.NwkAuxHeader, nwk.NwkHeader.NwkHeader}
 use Rattle.header.specs.Auxiliary.{auxBytes}
 use Rattle.header.specs.Writing.{headerBytes, fieldRefusal}
 use Rattle.ccm.specs.Generation.{Generated}

@@ -5,10 +5,8 @@ use Prim.Native.Nat.{ℕ}
 use mathlib.Core.Bool.{Bool, true, false, not, _||_}
 use mathlib.Core.List.{List, _++_}
 use Rattle.octets.specs.Numbers.{le}
-use Rattle.header.specs.declared.auxiliary.NwkSecurityLevel.{NwkSecurityLevel}
-use Rattle.header.specs.declared.auxiliary.NwkAuxHeader.{NwkAuxHeader}
+use Rattle.header.specs.declared.{auxiliary.NwkSecurityLevel.NwkSecurityLevel, auxiliary.NwkAuxHeader.NwkAuxHeader, nwk.NwkHeader.NwkHeader}
 use Rattle.types.specs.declared.OptionEui64.{OptionEui64}
-use Rattle.header.specs.declared.nwk.NwkHeader.{NwkHeader}
 use Rattle.types.specs.Optional.{hasIeee}
 use Rattle.header.specs.AuxiliaryControl.{securityByte, withLevel}
 use Rattle.header.specs.Auxiliary.{auxBytes, blankAux}

@@ -16,8 +16,7 @@ use Rattle.octets.specs.Numbers.{le, leAt}
 use Rattle.octets.specs.Refusals.{firstOf}
 use Rattle.octets.proofs.Numbers.{length-le, leAt-le, le-leAt}
 use Rattle.octets.proofs.Conditions.{accepted, none}
-use Rattle.header.specs.declared.auxiliary.NwkAuxHeader.{NwkAuxHeader}
-use Rattle.header.specs.declared.auxiliary.NwkSecurityHeaderControlField.{NwkSecurityHeaderControlField}
+use Rattle.header.specs.declared.{auxiliary.NwkAuxHeader.NwkAuxHeader, auxiliary.NwkSecurityHeaderControlField.NwkSecurityHeaderControlField}
 use Rattle.types.specs.Optional.{ieeeIf, ieeeBytes, hasIeee}
 use Rattle.octets.specs.Fields.{bit}
 use Rattle.header.specs.AuxiliaryControl.{securityByte}

@@ -5,10 +5,7 @@ use mathlib.Core.Bool.{Bool, true, false}
 use Prim.Native.Nat.{ℕ, zero, suc, _<_}
 use native.Mathlib.Omega.{arith}
 use lib.Dec.{eqb}
-use Rattle.header.specs.declared.control.NwkFrameType.{NwkFrameType}
-use Rattle.header.specs.declared.control.NwkRouteDiscovery.{NwkRouteDiscovery}
-use Rattle.header.specs.declared.auxiliary.NwkSecurityLevel.{NwkSecurityLevel}
-use Rattle.header.specs.declared.auxiliary.NwkSecurityHeaderKeyId.{NwkSecurityHeaderKeyId}
+use Rattle.header.specs.declared.{control.NwkFrameType.NwkFrameType, control.NwkRouteDiscovery.NwkRouteDiscovery, auxiliary.NwkSecurityLevel.NwkSecurityLevel, auxiliary.NwkSecurityHeaderKeyId.NwkSecurityHeaderKeyId}
 use Rattle.octets.specs.Fields.{bit}
 use Rattle.header.specs.Control.{typeCode, typeOf, discoveryCode, discoveryOf}
 use Rattle.header.specs.AuxiliaryControl.{levelCode, levelOf, keyIdCode, keyIdOf}

@@ -13,8 +13,7 @@ use lib.Dec.{eqb, ltb}
 use Rattle.octets.proofs.Conditions.{or-false}
 use Rattle.octets.specs.Fields.{fields, packed, bitsOf, Held}
 use Rattle.octets.proofs.Fields.{fields-packed, packed-fields, packed-lt}
-use Rattle.header.specs.declared.control.NwkFrameControl.{NwkFrameControl}
-use Rattle.header.specs.declared.auxiliary.NwkSecurityHeaderControlField.{NwkSecurityHeaderControlField}
+use Rattle.header.specs.declared.{control.NwkFrameControl.NwkFrameControl, auxiliary.NwkSecurityHeaderControlField.NwkSecurityHeaderControlField}
 use Rattle.octets.specs.Fields.{bit}
 use Rattle.header.specs.Control.{controlSizes, controlValues, controlFrom, controlWord, controlOf}
 use Rattle.header.specs.AuxiliaryControl.{securitySizes, securityValues, securityFrom, securityByte, securityOf}

@@ -15,8 +15,7 @@ use Rattle.octets.specs.Numbers.{le, leAt}
 use Rattle.octets.proofs.Strings.{over-over, below-or-last}
 use Rattle.octets.proofs.Numbers.{length-le, leAt-le, le-leAt, leAt-behind}
 use Rattle.types.specs.declared.OptionEui64.{OptionEui64}
-use Rattle.header.specs.declared.optional.OptionMulticast.{OptionMulticast}
-use Rattle.header.specs.declared.optional.NwkSourceRoute.{NwkSourceRoute}
+use Rattle.header.specs.declared.{optional.OptionMulticast.OptionMulticast, optional.NwkSourceRoute.NwkSourceRoute}
 use Rattle.header.specs.Optional.{hasMulticast, multicastIf, multicastBytes, hasRoute, routeIf, relayCount, relayBytes, routeBytes}
 use Rattle.types.specs.Optional.{hasIeee, ieeeIf, ieeeBytes}
 use Rattle.octets.specs.Fields.{bit}

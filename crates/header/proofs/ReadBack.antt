@@ -16,9 +16,7 @@ use Rattle.octets.specs.Refusals.{firstOf}
 use Rattle.octets.proofs.Conditions.{accepted, or-false}
 use Rattle.octets.proofs.Strings.{tab-ext, getD-tab}
 use Rattle.octets.proofs.Numbers.{length-le, leAt-le, leAt-behind}
-use Rattle.header.specs.declared.control.NwkFrameControl.{NwkFrameControl}
-use Rattle.header.specs.declared.optional.NwkSourceRoute.{NwkSourceRoute}
-use Rattle.header.specs.declared.nwk.NwkHeader.{NwkHeader}
+use Rattle.header.specs.declared.{control.NwkFrameControl.NwkFrameControl, optional.NwkSourceRoute.NwkSourceRoute, nwk.NwkHeader.NwkHeader}
 use Rattle.header.specs.Optional.{multicastIf, multicastBytes, hasMulticast, routeIf, routeBytes, relayCount}
 use Rattle.types.specs.Optional.{ieeeIf, ieeeBytes, hasIeee}
 use Rattle.octets.specs.Fields.{bit}

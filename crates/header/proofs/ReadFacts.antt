@@ -11,10 +11,7 @@ use Rattle.octets.specs.Strings.{Below}
 use Rattle.octets.specs.Fields.{bit, fields}
 use Rattle.octets.proofs.Strings.{length-tab}
 use Rattle.octets.proofs.Conditions.{accepted, answer-number, unless-either}
-use Rattle.header.specs.declared.auxiliary.NwkSecurityLevel.{NwkSecurityLevel}
-use Rattle.header.specs.declared.control.NwkFrameControl.{NwkFrameControl}
-use Rattle.header.specs.declared.nwk.HeaderRead.{HeaderRead}
-use Rattle.header.specs.declared.auxiliary.AuxRead.{AuxRead}
+use Rattle.header.specs.declared.{auxiliary.NwkSecurityLevel.NwkSecurityLevel, control.NwkFrameControl.NwkFrameControl, nwk.HeaderRead.HeaderRead, auxiliary.AuxRead.AuxRead}
 use Rattle.header.specs.Reading.{control, relaysOf, headerBy, headerRefusal, headerGiven, headerRefused, readHeader}
 use Rattle.header.specs.Writing.{headerBytes, badHeader}
 use Rattle.header.specs.Auxiliary.{security, keySequenceAt, auxRefusal, auxBy, auxGiven, auxRefused, readAux, auxBytes}

@@ -13,8 +13,7 @@ use Rattle.octets.specs.Numbers.{leAt}
 use Rattle.octets.proofs.Strings.{length-tab, getD-tab}
 use Rattle.octets.proofs.Numbers.{leAt-lt}
 use Rattle.types.specs.Optional.{ieeeIf}
-use Rattle.header.specs.declared.control.NwkFrameControl.{NwkFrameControl}
-use Rattle.header.specs.declared.auxiliary.NwkSecurityHeaderControlField.{NwkSecurityHeaderControlField}
+use Rattle.header.specs.declared.{control.NwkFrameControl.NwkFrameControl, auxiliary.NwkSecurityHeaderControlField.NwkSecurityHeaderControlField}
 use Rattle.header.specs.Optional.{multicastIf, routeIf}
 use Rattle.header.specs.Reading.{sourceAt, multicastAt, routeAt, relaysAnnounced, relaysOf, headerBy}
 use Rattle.header.specs.Auxiliary.{keySequenceAt, auxBy}

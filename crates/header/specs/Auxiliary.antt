@@ -8,9 +8,7 @@ use lib.Dec.{ltb}
 use Rattle.octets.specs.Numbers.{le, leAt}
 use Rattle.octets.specs.Refusals.{unless, on, firstOf}
 use Rattle.octets.specs.Writing.{Run, written}
-use Rattle.header.specs.declared.auxiliary.NwkSecurityHeaderControlField.{NwkSecurityHeaderControlField}
-use Rattle.header.specs.declared.auxiliary.NwkAuxHeader.{NwkAuxHeader}
-use Rattle.header.specs.declared.auxiliary.AuxRead.{AuxRead}
+use Rattle.header.specs.declared.{auxiliary.NwkSecurityHeaderControlField.NwkSecurityHeaderControlField, auxiliary.NwkAuxHeader.NwkAuxHeader, auxiliary.AuxRead.AuxRead}
 use Rattle.types.specs.Optional.{ieeeIf, ieeeBytes}
 use Rattle.octets.specs.Fields.{bit}
 use Rattle.header.specs.AuxiliaryControl.{securityByte, securityOf}

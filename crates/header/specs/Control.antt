@@ -5,9 +5,7 @@ use mathlib.Core.List.{List, [], _∷_}
 use lib.ListN.{getD}
 use lib.Dec.{eqb}
 use Rattle.octets.specs.Fields.{fields, packed}
-use Rattle.header.specs.declared.control.NwkFrameType.{NwkFrameType}
-use Rattle.header.specs.declared.control.NwkRouteDiscovery.{NwkRouteDiscovery}
-use Rattle.header.specs.declared.control.NwkFrameControl.{NwkFrameControl}
+use Rattle.header.specs.declared.{control.NwkFrameType.NwkFrameType, control.NwkRouteDiscovery.NwkRouteDiscovery, control.NwkFrameControl.NwkFrameControl}
 use Rattle.octets.specs.Fields.{bit}
 
 -- bits 0-1 type, 2-5 version, 6-7 discovery, 8 multicast, 9 security, 10 source route, 11 destination IEEE,

@@ -5,8 +5,7 @@ use mathlib.Core.Bool.{Bool, true, false}
 use mathlib.Core.List.{List, [], _++_}
 use lib.ListN.{getD}
 use Rattle.octets.specs.Numbers.{le}
-use Rattle.header.specs.declared.optional.OptionMulticast.{OptionMulticast}
-use Rattle.header.specs.declared.optional.NwkSourceRoute.{NwkSourceRoute}
+use Rattle.header.specs.declared.{optional.OptionMulticast.OptionMulticast, optional.NwkSourceRoute.NwkSourceRoute}
 
 -- ---- the multicast control byte
 

@@ -9,9 +9,7 @@ use lib.Dec.{eqb, ltb}
 use Rattle.octets.specs.Strings.{tab}
 use Rattle.octets.specs.Numbers.{leAt}
 use Rattle.octets.specs.Refusals.{unless, Condition, on, firstOf}
-use Rattle.header.specs.declared.control.NwkFrameControl.{NwkFrameControl}
-use Rattle.header.specs.declared.nwk.NwkHeader.{NwkHeader}
-use Rattle.header.specs.declared.nwk.HeaderRead.{HeaderRead}
+use Rattle.header.specs.declared.{control.NwkFrameControl.NwkFrameControl, nwk.NwkHeader.NwkHeader, nwk.HeaderRead.HeaderRead}
 use Rattle.header.specs.Optional.{multicastIf, routeIf}
 use Rattle.types.specs.Optional.{ieeeIf}
 use Rattle.octets.specs.Fields.{bit}

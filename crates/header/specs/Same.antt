@@ -8,10 +8,7 @@ use lib.ListN.{getD}
 use lib.Dec.{ltb}
 use Rattle.octets.specs.Strings.{tab, Below}
 use Rattle.types.specs.declared.OptionEui64.{OptionEui64}
-use Rattle.header.specs.declared.optional.OptionMulticast.{OptionMulticast}
-use Rattle.header.specs.declared.optional.NwkSourceRoute.{NwkSourceRoute}
-use Rattle.header.specs.declared.nwk.NwkHeader.{NwkHeader}
-use Rattle.header.specs.declared.auxiliary.NwkAuxHeader.{NwkAuxHeader}
+use Rattle.header.specs.declared.{optional.OptionMulticast.OptionMulticast, optional.NwkSourceRoute.NwkSourceRoute, nwk.NwkHeader.NwkHeader, auxiliary.NwkAuxHeader.NwkAuxHeader}
 use Rattle.header.specs.Optional.{hasMulticast, hasRoute, relayCount}
 use Rattle.types.specs.Optional.{hasIeee}
 

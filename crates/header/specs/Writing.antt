@@ -9,8 +9,7 @@ use lib.Dec.{ltb}
 use Rattle.octets.specs.Numbers.{le}
 use Rattle.octets.specs.Refusals.{on, by, firstOf}
 use Rattle.octets.specs.Writing.{Run, written}
-use Rattle.header.specs.declared.control.NwkFrameControl.{NwkFrameControl}
-use Rattle.header.specs.declared.nwk.NwkHeader.{NwkHeader}
+use Rattle.header.specs.declared.{control.NwkFrameControl.NwkFrameControl, nwk.NwkHeader.NwkHeader}
 use Rattle.header.specs.Optional.{multicastBytes, routeBytes, relayCount}
 use Rattle.types.specs.Optional.{ieeeBytes}
 use Rattle.header.specs.Control.{controlWord}

@@ -14,8 +14,7 @@ use lib.Seq.{length-take-le}
 use Rattle.octets.specs.Strings.{Below}
 use Rattle.octets.specs.Refusals.{on, firstOf}
 use Rattle.octets.proofs.Conditions.{skip, skip-by, empty}
-use Rattle.header.specs.declared.nwk.NwkHeader.{NwkHeader}
-use Rattle.header.specs.declared.auxiliary.NwkAuxHeader.{NwkAuxHeader}
+use Rattle.header.specs.declared.{nwk.NwkHeader.NwkHeader, auxiliary.NwkAuxHeader.NwkAuxHeader}
 use Rattle.header.specs.Reading.{readHeader}
 use Rattle.header.specs.Writing.{headerBytes, fieldRefusal, headerWriteRefusal}
 use Rattle.header.specs.Auxiliary.{readAux, auxWriteRefusal}

@@ -11,9 +11,7 @@ use lib.Dec.{eqb}
 use lib.ListN.{length, getD, take, drop}
 use Rattle.octets.specs.Strings.{Below}
 use Rattle.octets.specs.Numbers.{le}
-use Rattle.header.specs.declared.control.NwkRouteDiscovery.{NwkRouteDiscovery}
-use Rattle.header.specs.declared.nwk.NwkHeader.{NwkHeader}
-use Rattle.header.specs.declared.auxiliary.NwkAuxHeader.{NwkAuxHeader}
+use Rattle.header.specs.declared.{control.NwkRouteDiscovery.NwkRouteDiscovery, nwk.NwkHeader.NwkHeader, auxiliary.NwkAuxHeader.NwkAuxHeader}
 use Rattle.header.specs.Optional.{hasMulticast, hasRoute}
 use Rattle.types.specs.Optional.{hasIeee}
 use Rattle.header.specs.Control.{discoveryCode}

@@ -12,8 +12,7 @@ use Rattle.octets.specs.Numbers.{le, leAt}
 use Rattle.octets.proofs.Numbers.{leAt-le}
 use Rattle.header.specs.Auxiliary.{blankAux}
 use Rattle.header.specs.Same.{HeaderFits}
-use Rattle.frame.specs.declared.OptionAuxHeader.{OptionAuxHeader}
-use Rattle.frame.specs.declared.FrameOpened.{FrameOpened}
+use Rattle.frame.specs.declared.{OptionAuxHeader.OptionAuxHeader, FrameOpened.FrameOpened}
 use Rattle.frame.specs.Reading.{auxIf}
 use Rattle.frame.specs.SealingLaw.{AuxOptionFits}
 use Rattle.records.specs.HeaderRecord.{headerRecord, headerOf}

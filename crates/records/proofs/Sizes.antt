@@ -7,17 +7,13 @@ use lib.ListN.{length, length-append}
 use Rattle.octets.proofs.Strings.{length-tab}
 use Rattle.octets.proofs.Numbers.{length-le}
 use Rattle.types.specs.declared.OptionEui64.{OptionEui64}
-use Rattle.header.specs.declared.optional.OptionMulticast.{OptionMulticast}
-use Rattle.header.specs.declared.optional.NwkSourceRoute.{NwkSourceRoute}
-use Rattle.header.specs.declared.nwk.NwkHeader.{NwkHeader}
-use Rattle.header.specs.declared.auxiliary.NwkAuxHeader.{NwkAuxHeader}
+use Rattle.header.specs.declared.{optional.OptionMulticast.OptionMulticast, optional.NwkSourceRoute.NwkSourceRoute, nwk.NwkHeader.NwkHeader, auxiliary.NwkAuxHeader.NwkAuxHeader}
 use Rattle.header.proofs.OptionalFields.{relay-length}
 use Rattle.records.specs.Optional.{ieeeRecord, multicastRecord, routeRecord}
 use Rattle.records.specs.HeaderRecord.{addressRecord, optionalRecord, headerRecord}
 use Rattle.records.specs.AuxiliaryRecord.{counterRecord, auxRecord}
 use Rattle.records.specs.OpenedRecord.{optionRecord, openedFront, openedRecord}
-use Rattle.frame.specs.declared.OptionAuxHeader.{OptionAuxHeader}
-use Rattle.frame.specs.declared.FrameOpened.{FrameOpened}
+use Rattle.frame.specs.declared.{OptionAuxHeader.OptionAuxHeader, FrameOpened.FrameOpened}
 use Rattle.frame.specs.Security.{isAbsent, orBlank}
 
 pub length-ieee : (o : OptionEui64) → length (ieeeRecord o) ≡ 9

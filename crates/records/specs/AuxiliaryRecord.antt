@@ -8,8 +8,7 @@ use mathlib.Core.List.{List, [], _∷_, _++_}
 use lib.ListN.{length, getD}
 use lib.Dec.{eqb}
 use Rattle.octets.specs.Numbers.{le, leAt}
-use Rattle.header.specs.declared.auxiliary.NwkSecurityHeaderControlField.{NwkSecurityHeaderControlField}
-use Rattle.header.specs.declared.auxiliary.NwkAuxHeader.{NwkAuxHeader}
+use Rattle.header.specs.declared.{auxiliary.NwkSecurityHeaderControlField.NwkSecurityHeaderControlField, auxiliary.NwkAuxHeader.NwkAuxHeader}
 use Rattle.octets.specs.Fields.{bit}
 use Rattle.header.specs.AuxiliaryControl.{levelCode, levelOf, keyIdCode, keyIdOf}
 use Rattle.records.specs.Limits.{exceeds}

@@ -8,8 +8,7 @@ use mathlib.Core.List.{List, _∷_, _++_}
 use lib.ListN.{getD, take, drop}
 use Rattle.octets.specs.Strings.{tab}
 use Rattle.octets.specs.Numbers.{le, leAt}
-use Rattle.frame.specs.declared.OptionAuxHeader.{OptionAuxHeader}
-use Rattle.frame.specs.declared.FrameOpened.{FrameOpened}
+use Rattle.frame.specs.declared.{OptionAuxHeader.OptionAuxHeader, FrameOpened.FrameOpened}
 use Rattle.frame.specs.Reading.{auxIf}
 use Rattle.frame.specs.Security as security
 use Rattle.records.specs.HeaderRecord.{headerRecord, headerOf}

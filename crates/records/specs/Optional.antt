@@ -7,8 +7,7 @@ use lib.ListN.{getD}
 use lib.Dec.{eqb}
 use Rattle.octets.specs.Numbers.{le, leAt}
 use Rattle.types.specs.declared.OptionEui64.{OptionEui64}
-use Rattle.header.specs.declared.optional.OptionMulticast.{OptionMulticast}
-use Rattle.header.specs.declared.optional.NwkSourceRoute.{NwkSourceRoute}
+use Rattle.header.specs.declared.{optional.OptionMulticast.OptionMulticast, optional.NwkSourceRoute.NwkSourceRoute}
 use Rattle.header.specs.Optional.{hasMulticast, multicastIf, hasRoute, routeIf, relayCount}
 use Rattle.types.specs.Optional.{hasIeee, ieeeIf}
 use Rattle.octets.specs.Fields.{bit}

@@ -8,12 +8,7 @@ use lib.Dec.{ltb}
 use lib.ListN.{length, getD, take}
 use Rattle.octets.specs.Strings.{tab}
 use Rattle.octets.specs.Numbers.{leAt}
-use Rattle.types.specs.declared.Nwk.{Nwk}
-use Rattle.types.specs.declared.NwkRead.{NwkRead}
-use Rattle.types.specs.declared.PanId.{PanId}
-use Rattle.types.specs.declared.PanIdRead.{PanIdRead}
-use Rattle.types.specs.declared.Eui64.{Eui64}
-use Rattle.types.specs.declared.Eui64Read.{Eui64Read}
+use Rattle.types.specs.declared.{Nwk.Nwk, NwkRead.NwkRead, PanId.PanId, PanIdRead.PanIdRead, Eui64.Eui64, Eui64Read.Eui64Read}
 
 -- the address of a number
 abbrev pub nwk : ℕ → Nwk

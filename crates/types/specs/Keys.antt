@@ -7,8 +7,7 @@ use lib.Dec.{eqb}
 use lib.ListN.{length}
 use Rattle.octets.specs.Strings.{tab}
 use Rattle.octets.specs.Numbers.{le}
-use Rattle.types.specs.declared.Key.{Key}
-use Rattle.types.specs.declared.KeyRead.{KeyRead}
+use Rattle.types.specs.declared.{Key.Key, KeyRead.KeyRead}
 
 -- the key of sixteen bytes
 abbrev pub key : List ℕ → Key

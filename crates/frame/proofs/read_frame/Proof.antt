@@ -7,8 +7,7 @@ use Rattle.frame.proofs.read_frame.Statement.{statement}
 use Rattle.frame.proofs.read_frame.Tie as tie
 use Rattle.octets.proofs.Conditions.{accepted-by, refused-by}
 use Rattle.header.proofs.ReadFacts.{header-short, aux-short}
-use Rattle.header.specs.declared.nwk.HeaderRead.{HeaderRead}
-use Rattle.header.specs.declared.auxiliary.AuxRead.{AuxRead}
+use Rattle.header.specs.declared.{nwk.HeaderRead.HeaderRead, auxiliary.AuxRead.AuxRead}
 use Rattle.frame.specs.Reading.{frameRefused, frameGiven, frameNumber, frameBy}
 use Rattle.frame.proofs.Answers.{frame-done}
 

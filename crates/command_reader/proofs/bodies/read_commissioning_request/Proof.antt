@@ -7,9 +7,7 @@ use Rattle.command_reader.proofs.bodies.read_commissioning_request.Tie 
 use Rattle.octets.specs.Fields.{fields}
 use Rattle.commands.specs.Format.{bodyEnd, headEnd, announced, summed, plus, readFields, readField, kept, partSizes, size, sizes, values}
 use Rattle.commands.specs.Reading.{formatOf, commandOf}
-use Rattle.commands.specs.declared.NwkCommandId.{NwkCommandId}
-use Rattle.commands.specs.declared.NwkCommand.{NwkCommand}
-use Rattle.commands.specs.declared.TypedBody.{TypedBody}
+use Rattle.commands.specs.declared.{NwkCommandId.NwkCommandId, NwkCommand.NwkCommand, TypedBody.TypedBody}
 use Rattle.command_reader.proofs.Whole.{short, whole}
 use Rattle.commands.specs.Codes.{commissioningTypeOf}
 use Rattle.commands.specs.Commands.{commissioningRequestFormat, commissioningRequestOf, commissioningRequestBy, capabilityField}
@@ -25,8 +23,8 @@ unfolding values bodyEnd headEnd announced summed plus readFields readField kept
 returns-2 c =
     let s = c .before .before .before .before .before .before .args .s .now in
     ap (λ k. commissioningRequestBy k (values commissioningRequestFormat s))
-        (sym (c .enum-told .given .1) ∙ c .before .before .try-from .ensures
-        ∙ ap (λ (x : ℕ). commissioningTypeOf (x)) (c .before .before .before .byte-at .ensures))
+    (sym (c .enum-told .given .1) ∙ c .before .before .try-from .ensures
+    ∙ ap (λ (x : ℕ). commissioningTypeOf (x)) (c .before .before .before .byte-at .ensures))
     ∙ whole NwkCommandId.NetworkCommissioningRequest s (c .before .before .before .before .if1 .left)
 
 returns-3 : tie.Need-returns-3
@@ -34,12 +32,12 @@ unfolding values bodyEnd headEnd announced summed plus readFields readField kept
 returns-3 c =
     let s = c .before .before .before .before .before .before .before .before .before .args .s .now in
     (λ i. TypedBody.Typed (NwkCommand.NetworkCommissioningRequest (record {
-        «commissioning_type» = c .before .before .before .commissioning-type .given .0 .0;
-        «capability_information» = (c .capability-of .ensures ∙ ap capabilityOfByte (c .before .byte-at2 .ensures)) i;
-      })))
+      «commissioning_type» = c .before .before .before .commissioning-type .given .0 .0;
+      «capability_information» = (c .capability-of .ensures ∙ ap capabilityOfByte (c .before .byte-at2 .ensures)) i;
+    })))
     ∙ ap (λ k. commissioningRequestBy k (values commissioningRequestFormat s))
-        (sym (c .before .before .before .commissioning-type .given .1) ∙ c .before .before .before .before .before .try-from .ensures
-        ∙ ap (λ (x : ℕ). commissioningTypeOf (x)) (c .before .before .before .before .before .before .byte-at .ensures))
+    (sym (c .before .before .before .commissioning-type .given .1) ∙ c .before .before .before .before .before .try-from .ensures
+    ∙ ap (λ (x : ℕ). commissioningTypeOf (x)) (c .before .before .before .before .before .before .byte-at .ensures))
     ∙ whole NwkCommandId.NetworkCommissioningRequest s (c .before .before .before .before .before .before .before .if1 .left)
 
 pub read-commissioning-request-spec : {M : Type 1} → statement M

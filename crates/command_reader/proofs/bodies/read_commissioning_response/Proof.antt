@@ -7,9 +7,7 @@ use Rattle.command_reader.proofs.bodies.read_commissioning_response.Tie
 use Rattle.octets.specs.Fields.{fields}
 use Rattle.commands.specs.Format.{bodyEnd, headEnd, announced, summed, plus, readFields, readField, kept, partSizes, size, sizes, values}
 use Rattle.commands.specs.Reading.{formatOf, commandOf}
-use Rattle.commands.specs.declared.NwkCommandId.{NwkCommandId}
-use Rattle.commands.specs.declared.NwkCommand.{NwkCommand}
-use Rattle.commands.specs.declared.TypedBody.{TypedBody}
+use Rattle.commands.specs.declared.{NwkCommandId.NwkCommandId, NwkCommand.NwkCommand, TypedBody.TypedBody}
 use Rattle.command_reader.proofs.Whole.{short, whole}
 use Rattle.commands.specs.Codes.{associationStatusOf}
 use Rattle.commands.specs.Commands.{commissioningResponseFormat, commissioningResponseOf, commissioningResponseBy}
@@ -24,8 +22,8 @@ unfolding values bodyEnd headEnd announced summed plus readFields readField kept
 returns-2 c =
     let s = c .before .before .before .before .before .before .args .s .now in
     ap (λ k. commissioningResponseBy k (values commissioningResponseFormat s))
-        (sym (c .enum-told .given .1) ∙ c .before .before .try-from .ensures
-        ∙ ap (λ (x : ℕ). associationStatusOf (x)) (c .before .before .before .byte-at .ensures))
+    (sym (c .enum-told .given .1) ∙ c .before .before .try-from .ensures
+    ∙ ap (λ (x : ℕ). associationStatusOf (x)) (c .before .before .before .byte-at .ensures))
     ∙ whole NwkCommandId.NetworkCommissioningResponse s (c .before .before .before .before .if1 .left)
 
 returns-3 : tie.Need-returns-3
@@ -34,8 +32,8 @@ returns-3 c =
     let s = c .before .before .before .before .before .before .before .before .args .s .now in
     (λ i. TypedBody.Typed (NwkCommand.NetworkCommissioningResponse (record { «network_address» = c .read-u16 .ensures i; status = c .before .before .status .given .0 .0 })))
     ∙ ap (λ k. commissioningResponseBy k (values commissioningResponseFormat s))
-        (sym (c .before .before .status .given .1) ∙ c .before .before .before .before .try-from .ensures
-        ∙ ap (λ (x : ℕ). associationStatusOf (x)) (c .before .before .before .before .before .byte-at .ensures))
+    (sym (c .before .before .status .given .1) ∙ c .before .before .before .before .try-from .ensures
+    ∙ ap (λ (x : ℕ). associationStatusOf (x)) (c .before .before .before .before .before .byte-at .ensures))
     ∙ whole NwkCommandId.NetworkCommissioningResponse s (c .before .before .before .before .before .before .if1 .left)
 
 pub read-commissioning-response-spec : {M : Type 1} → statement M

@@ -9,8 +9,7 @@ use lib.ListN.{getD}
 use Rattle.command_records.proofs.read_fields.route_reply_at.Statement.{statement}
 use Rattle.command_records.proofs.read_fields.route_reply_at.Tie as tie
 use Rattle.octets.specs.Fields.{bit}
-use Rattle.commands.specs.declared.NwkCommand.{NwkCommand}
-use Rattle.commands.specs.declared.TypedBody.{TypedBody}
+use Rattle.commands.specs.declared.{NwkCommand.NwkCommand, TypedBody.TypedBody}
 use Rattle.commands.specs.Reading.{commandOf}
 use Rattle.command_records.specs.Fields.{recordValues}
 use Rattle.octets.specs.Numbers.{leAt}

@@ -5,8 +5,7 @@ use lib.ListN.{length}
 use Rattle.command_writer.proofs.checks.length_of.Statement.{statement}
 use Rattle.command_writer.proofs.checks.length_of.Tie as tie
 use Rattle.commands.specs.Writing.{wire, commandBytes}
-use Rattle.commands.specs.declared.NwkCommand.{NwkCommand}
-use Rattle.commands.specs.declared.NwkCommandWithLists.{NwkCommandWithLists}
+use Rattle.commands.specs.declared.{NwkCommand.NwkCommand, NwkCommandWithLists.NwkCommandWithLists}
 use Rattle.command_writer.proofs.Ready.{lengthBy, length-by}
 
 -- the length by the command's case

@@ -10,8 +10,7 @@ use mir.Val.{Val}
 use denote.Shadow.{shadow}
 use Rattle.commands.specs.Reading.{listOf}
 use Rattle.commands.specs.Writing.{wire, misfits}
-use Rattle.commands.specs.declared.NwkCommandWithLists.{NwkCommandWithLists}
-use Rattle.commands.specs.declared.NwkCommandList.{NwkCommandList}
+use Rattle.commands.specs.declared.{NwkCommandWithLists.NwkCommandWithLists, NwkCommandList.NwkCommandList}
 use Rattle.commands.proofs.Ranges.{tooBig}
 use Rattle.commands.proofs.InRange.{in-range, misfits-test}
 use Rattle.commands.proofs.NwkCommandWithLists as nwk-command-with-lists

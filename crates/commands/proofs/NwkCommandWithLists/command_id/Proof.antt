@@ -12,9 +12,7 @@ use Rattle.octets.proofs.Strings.{getD-tab}
 use Rattle.commands.specs.Codes.{commandIdOf}
 use Rattle.commands.specs.Commands.{firsts}
 use Rattle.commands.specs.Writing.{wireOf, wire, wireId, typedId, commandId}
-use Rattle.commands.specs.declared.NwkCommand.{NwkCommand}
-use Rattle.commands.specs.declared.NwkCommandWithLists.{NwkCommandWithLists}
-use Rattle.commands.specs.declared.NwkCommandIdCode.{NwkCommandIdCode}
+use Rattle.commands.specs.declared.{NwkCommand.NwkCommand, NwkCommandWithLists.NwkCommandWithLists, NwkCommandIdCode.NwkCommandIdCode}
 
 -- by the typed identifier, else by x
 abbrev known : NwkCommandIdCode → NwkCommandIdCode → NwkCommandIdCode
