@@ -15,9 +15,7 @@ fn quoted(text: &str) -> impl Iterator<Item = &str> {
 /// Whether the text has the name as a word of its own.
 fn has_word(text: &str, name: &str) -> bool {
     let part = |c: char| c.is_alphanumeric() || c == '_' || c == '-';
-    text.match_indices(name).any(|(at, _)| {
-        !text[..at].ends_with(part) && !text[at + name.len()..].starts_with(part)
-    })
+    text.match_indices(name).any(|(at, _)| !text[..at].ends_with(part) && !text[at + name.len()..].starts_with(part))
 }
 
 #[test]
@@ -51,7 +49,9 @@ fn the_lines_of_the_definitions_are_counted() {
         counted.push(root().join(file));
     }
     // Every file of definitions of the codec is in the table; a crate's Lib.antt only lists them.
-    for name in ["octets", "types", "field", "aes", "ccm", "header", "frame", "commands", "records", "command_records", "nwk"] {
+    for name in
+        ["octets", "types", "field", "aes", "ccm", "header", "frame", "commands", "records", "command_records", "nwk"]
+    {
         for entry in fs::read_dir(root().join("crates").join(name).join("specs")).unwrap() {
             let path = entry.unwrap().path();
             assert!(path.ends_with("Lib.antt") || counted.contains(&path), "{} is not in the table", path.display());
