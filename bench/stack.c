@@ -84,6 +84,11 @@ static bool split_mic(void *input) {
   return nwk_split_mic(m->sealed, m->length + MIC_LENGTH, m->out) == m->length;
 }
 
+static bool payload_kind(void *input) {
+  struct message *m = input;
+  return NWK_REFUSAL(nwk_payload_kind((uint8_t)m->length)) == 0;
+}
+
 static bool timeout_seconds(void *input) {
   struct message *m = input;
   return NWK_REFUSAL(nwk_timeout_seconds((uint8_t)m->length)) == 0;
@@ -143,6 +148,7 @@ void print_stack_use(void) {
       {"nwk_write_frame", over_messages, write_frame},
       {"nwk_seal", over_messages, seal_frame},
       {"nwk_open", over_messages, open_frame},
+      {"nwk_payload_kind", over_messages, payload_kind},
       {"nwk_read_command", over_commands, read_command},
       {"nwk_write_command", over_commands, write_command},
       {"nwk_timeout_seconds", over_messages, timeout_seconds},

@@ -295,11 +295,19 @@ uint64_t nwk_seal(uint64_t key_first, uint64_t key_second, const uint8_t *header
 uint64_t nwk_open(uint64_t key_first, uint64_t key_second, const uint8_t *bytes, size_t bytes_len, uint8_t *opened,
                   size_t opened_len, uint8_t *out, size_t out_len);
 
+/* What a payload is: bytes for the layer above, or a command. */
+#define NWK_PAYLOAD_OPAQUE 0
+#define NWK_PAYLOAD_COMMAND 1
+
+/* What the payload of a frame of this type is, in place of the length: NWK_PAYLOAD_COMMAND for type 1, else
+ * NWK_PAYLOAD_OPAQUE. Refusals: 13 a code that is no frame type, 2 or above 3. */
+uint64_t nwk_payload_kind(uint8_t frame_type);
+
 /* ---- commands */
 
-/* Read a command from the whole of bytes into a command record. Bytes that are no typed command are no refusal: the command
- * is then unparsed, identifier 0, with all its bytes. Bytes behind a typed command are dropped. Length: 535, the record's.
- * Refusals: 12 bytes over 108; 18 command shorter than 535.
+/* Read a command from the whole of bytes into a command record. nwk_payload_kind says whether a payload is one. Bytes
+ * that are no typed command are no refusal: the command is then unparsed, identifier 0, with all its bytes. Bytes behind a
+ * typed command are dropped. Length: 535, the record's. Refusals: 12 bytes over 108; 18 command shorter than 535.
  * Afterwards command holds the record in its first 535 bytes. */
 uint64_t nwk_read_command(const uint8_t *bytes, size_t bytes_len, uint8_t *command, size_t command_len);
 

@@ -1,4 +1,4 @@
-/* Calls all fifteen functions of nwk.h with generated inputs, from a fixed seed, and prints one line for each call:
+/* Calls all sixteen functions of nwk.h with generated inputs, from a fixed seed, and prints one line for each call:
  *
  *   name [key_first key_second] inputs = answer outputs
  *
@@ -27,6 +27,7 @@ enum operation {
   WRITE_FRAME,
   SEAL,
   OPEN,
+  PAYLOAD_KIND,
   READ_COMMAND,
   WRITE_COMMAND,
   TIMEOUT_SECONDS,
@@ -47,9 +48,10 @@ struct shape {
 static const struct shape shapes[OPERATIONS] = {
     {"nwk_read_header", 0, 1, 1},     {"nwk_write_header", 0, 1, 1},  {"nwk_read_auxiliary", 0, 1, 1},
     {"nwk_write_auxiliary", 0, 1, 1}, {"nwk_read_frame", 0, 1, 2},    {"nwk_write_frame", 0, 2, 1},
-    {"nwk_seal", 1, 3, 1},            {"nwk_open", 1, 1, 2},          {"nwk_read_command", 0, 1, 1},
-    {"nwk_write_command", 0, 1, 1},   {"nwk_timeout_seconds", 0, 1, 0}, {"nwk_encrypt_ccm", 1, 3, 2},
-    {"nwk_decrypt_ccm", 1, 4, 1},     {"nwk_split_mic", 0, 1, 1},     {"nwk_encrypt_block", 1, 1, 1},
+    {"nwk_seal", 1, 3, 1},            {"nwk_open", 1, 1, 2},          {"nwk_payload_kind", 0, 1, 0},
+    {"nwk_read_command", 0, 1, 1},    {"nwk_write_command", 0, 1, 1}, {"nwk_timeout_seconds", 0, 1, 0},
+    {"nwk_encrypt_ccm", 1, 3, 2},     {"nwk_decrypt_ccm", 1, 4, 1},   {"nwk_split_mic", 0, 1, 1},
+    {"nwk_encrypt_block", 1, 1, 1},
 };
 
 struct buffer {
@@ -114,6 +116,8 @@ static uint64_t perform(struct call *c) {
     return nwk_seal(k1, k2, IN(0), IN(1), IN(2), OUT(0));
   case OPEN:
     return nwk_open(k1, k2, IN(0), OUT(0), OUT(1));
+  case PAYLOAD_KIND:
+    return nwk_payload_kind(in[0].bytes[0]);
   case READ_COMMAND:
     return nwk_read_command(IN(0), OUT(0));
   case WRITE_COMMAND:
@@ -379,6 +383,12 @@ static void seal_ccm(struct call *c) {
   }
 }
 
+/* A code, mostly below the bound. */
+static void code(struct buffer *b, unsigned bound) {
+  random_bytes(b, 1);
+  b->bytes[0] = (uint8_t)(b->bytes[0] % (percent(70) ? bound : 256));
+}
+
 static void generate(struct call *c) {
   switch (c->operation) {
   case READ_HEADER:
@@ -422,9 +432,11 @@ static void generate(struct call *c) {
     command_record(&c->in[0]);
     damage_record(&c->in[0], 12);
     return;
+  case PAYLOAD_KIND:
+    code(&c->in[0], 5);
+    return;
   case TIMEOUT_SECONDS:
-    random_bytes(&c->in[0], 1);
-    c->in[0].bytes[0] = (uint8_t)(c->in[0].bytes[0] % (percent(70) ? 17 : 256));
+    code(&c->in[0], 17);
     return;
   case ENCRYPT_CCM:
     ccm_inputs(c);

@@ -32,6 +32,30 @@ static void print_numbers(void) {
          nwk_get16(bytes + 2));
 }
 
+static const char *kind_of(uint8_t frame_type) {
+  const uint64_t answer = nwk_payload_kind(frame_type);
+  if (NWK_REFUSAL(answer) != NWK_ACCEPTED) {
+    return "refused";
+  }
+  switch (NWK_LENGTH(answer)) {
+  case NWK_PAYLOAD_OPAQUE:
+    return "opaque";
+  case NWK_PAYLOAD_COMMAND:
+    return "command";
+  default:
+    return "unknown";
+  }
+}
+
+/* The payloads of the frame types 0 to 4, by the names of their kinds. */
+static void print_kinds(void) {
+  printf("payloads");
+  for (unsigned type = 0; type <= 4; type++) {
+    printf(" %s", kind_of(NWK_CAST(uint8_t, type)));
+  }
+  printf("\n");
+}
+
 static void print_answer(const char *name, uint64_t answer) {
   printf("%s %u %u\n", name, NWK_REFUSAL(answer), NWK_LENGTH(answer));
 }
@@ -64,6 +88,7 @@ int main(void) {
   printf("version %s %06X\n", NWK_VERSION, NWK_VERSION_NUMBER);
   print_key();
   print_numbers();
+  print_kinds();
   print_empty();
   print_texts();
   return 0;

@@ -42,6 +42,7 @@ extern "C" {
         out: *mut u8,
         out_len: usize,
     ) -> u64;
+    pub fn nwk_payload_kind(frame_type: u8) -> u64;
     pub fn nwk_read_command(bytes: *const u8, bytes_len: usize, command: *mut u8, command_len: usize) -> u64;
     pub fn nwk_write_command(command: *const u8, command_len: usize, out: *mut u8, out_len: usize) -> u64;
     pub fn nwk_timeout_seconds(code: u8) -> u64;

@@ -50,6 +50,8 @@ fn c_and_cpp_print_the_same() {
         assert_eq!(lines.next(), Some(format!("version {version} {number:06X}").as_str()));
         assert_eq!(lines.next(), Some("key C7C6C5C4C3C2C1C0 CFCECDCCCBCAC9C8"));
         assert_eq!(lines.next(), Some("put D4C3B2A1 get A1B2C3D4 A1B2"));
+        // A plaintext is a command if the type is 1, else opaque; 2 and 4 are no types.
+        assert_eq!(lines.next(), Some("payloads opaque command refused opaque refused"));
         check_empty(&mut lines);
         check_texts(lines);
     }

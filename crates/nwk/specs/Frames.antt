@@ -6,11 +6,13 @@ use Prim.Native.Nat.{ℕ}
 use mathlib.Core.Bool.{not}
 use mathlib.Core.List.{List, [], _∷_}
 use lib.ListN.{length}
-use lib.Dec.{ltb}
+use lib.Dec.{eqb, ltb}
 use Rattle.octets.specs.Refusals.{on, by, firstOf}
 use Rattle.ccm.specs.Operations.{micLength}
 use Rattle.ccm.specs.Verification.{Verified}
-use Rattle.frame.specs.Reading.{readFrame}
+use Rattle.header.specs.Control.{typeCode, typeOf}
+use Rattle.frame.specs.declared.NwkPayload.{NwkPayload}
+use Rattle.frame.specs.Reading.{readFrame, payloadOf}
 use Rattle.frame.specs.Writing.{frameWriteRefusal, frameBytes}
 use Rattle.frame.specs.Security as security
 use Rattle.frame.specs.Sealing.{sealRefusal, sealedBytes}
@@ -90,3 +92,17 @@ openRecord key f x o = given (openRecordRefusal key f (length x) (length o)) (op
 
 abbrev pub openOutput : List ℕ → List ℕ → List ℕ → List ℕ → List ℕ
 openOutput key f x o = given (openRecordRefusal key f (length x) (length o)) (verifiedFrame key f .payload) o
+
+-- ---- what a payload is, by the frame type's code: 13 for a code that no type has, 2 or above 3
+
+-- the number of each kind
+abbrev pub payloadCode : NwkPayload → ℕ
+payloadCode NwkPayload.Opaque = 0
+payloadCode NwkPayload.Command = 1
+
+unfoldable pub payloadKindRefusal : ℕ → ℕ
+payloadKindRefusal code = firstOf (on 13 (not (eqb (typeCode (typeOf code)) code)) ∷ [])
+
+-- the kind in place of the length
+abbrev pub payloadKindAnswer : ℕ → ℕ
+payloadKindAnswer code = answerBy (payloadKindRefusal code) (payloadCode (payloadOf (typeOf code)))

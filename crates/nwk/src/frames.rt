@@ -1,5 +1,7 @@
-// Reading, writing, sealing and opening frames.
+// Reading, writing, sealing and opening frames, and what a payload is.
 use crate::answer::answer;
+use frame::NwkPayload;
+use header::control::NwkFrameType;
 use octets::refusals;
 use records::auxiliary_record;
 use records::header_record;
@@ -9,7 +11,7 @@ ghost use mathlib.Core.Path.{_≡_};
 ghost use mathlib.Core.List.{[], _∷_};
 ghost use Rattle.octets.specs.Refusals.{by, firstOf};
 ghost use Rattle.types.specs.Keys.{keyBytes};
-ghost use Rattle.nwk.specs.Frames.{openNumber, readFrameAnswer, readFrameHeader, readFrameAuxiliary, writeFrameAnswer, writeFrameOutput, sealAnswer, sealOutput, openAnswer, openRecord, openOutput};
+ghost use Rattle.nwk.specs.Frames.{openNumber, readFrameAnswer, readFrameHeader, readFrameAuxiliary, writeFrameAnswer, writeFrameOutput, sealAnswer, sealOutput, openAnswer, openRecord, openOutput, payloadCode, payloadKindAnswer};
 
 // Read a frame into a header record and an auxiliary record, and give how many bytes the two headers take; the payload
 // or ciphertext is the rest of the frame. Refusals 1 to 12 and 18.
@@ -115,4 +117,27 @@ pub extern "C" fn nwk_open(
     }
     opened_record::put_opened(opened, run);
     answer(0, run.length)
+}
+
+// The number of a kind of payload.
+fn payload_code(payload: NwkPayload) -> usize
+    ensures { λ r. ⌜ r ≡ payloadCode payload ⌝ }
+{
+    match payload {
+        NwkPayload::Opaque => 0,
+        NwkPayload::Command => 1,
+    }
+}
+
+// Whether a frame type's payload is opaque, 0, or a command, 1, as the answer's length; refusal 13 for a code that no frame
+// type has.
+#[no_mangle]
+pub extern "C" fn nwk_payload_kind(frame_type: u8) -> u64
+    ensures { λ r. ⌜ r ≡ payloadKindAnswer «frame_type» ⌝ }
+{
+    let declared = NwkFrameType::from_code(frame_type as u16);
+    if declared.code() != frame_type as u16 {
+        return answer(refusals::FIELD, 0);
+    }
+    answer(0, payload_code(NwkPayload::of(declared)))
 }

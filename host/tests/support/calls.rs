@@ -120,6 +120,7 @@ fn through_c(call: &Call, inputs: &[Guarded], outputs: &mut [Guarded]) -> u64 {
             WriteFrame => sys::nwk_write_frame(p(0), n(0), p(1), n(1), out[0], room(0)),
             Seal => sys::nwk_seal(first, second, p(0), n(0), p(1), n(1), p(2), n(2), out[0], room(0)),
             Open => sys::nwk_open(first, second, p(0), n(0), out[0], room(0), out[1], room(1)),
+            PayloadKind => sys::nwk_payload_kind(inputs[0].content()[0]),
             ReadCommand => sys::nwk_read_command(p(0), n(0), out[0], room(0)),
             WriteCommand => sys::nwk_write_command(p(0), n(0), out[0], room(0)),
             TimeoutSeconds => sys::nwk_timeout_seconds(inputs[0].content()[0]),

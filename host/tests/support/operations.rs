@@ -1,4 +1,4 @@
-//! The fifteen operations of `include/nwk.h`: their buffers, and the refusals each of them can answer.
+//! The sixteen operations of `include/nwk.h`: their buffers, and the refusals each of them can answer.
 
 pub const HEADER_RECORD: usize = 147;
 pub const AUXILIARY_RECORD: usize = 19;
@@ -19,6 +19,7 @@ pub enum Operation {
     WriteFrame,
     Seal,
     Open,
+    PayloadKind,
     ReadCommand,
     WriteCommand,
     TimeoutSeconds,
@@ -53,7 +54,7 @@ pub struct Shape {
 use Extent::{Array, Fixed, Length};
 use Operation::*;
 
-pub const OPERATIONS: [Operation; 15] = [
+pub const OPERATIONS: [Operation; 16] = [
     ReadHeader,
     WriteHeader,
     ReadAuxiliary,
@@ -62,6 +63,7 @@ pub const OPERATIONS: [Operation; 15] = [
     WriteFrame,
     Seal,
     Open,
+    PayloadKind,
     ReadCommand,
     WriteCommand,
     TimeoutSeconds,
@@ -92,7 +94,7 @@ const fn shape(
 }
 
 /// In the order of `OPERATIONS`. The refusals are those of the comments in `include/nwk.h`.
-static SHAPES: [Shape; 15] = [
+static SHAPES: [Shape; 16] = [
     shape("nwk_read_header", false, &[("bytes", true)], &[Fixed(HEADER_RECORD)], &[1, 2, 3, 4, 5, 6, 7, 8, 18]),
     shape("nwk_write_header", false, &[("header", false)], &[Length], &[13, 17, 18]),
     shape("nwk_read_auxiliary", false, &[("bytes", true)], &[Fixed(AUXILIARY_RECORD)], &[1, 9, 10, 11, 18]),
@@ -119,6 +121,7 @@ static SHAPES: [Shape; 15] = [
         &[Fixed(OPENED_RECORD), Length],
         &[1, 2, 3, 4, 5, 6, 7, 8, 9, 10, 11, 12, 14, 15, 16, 18, 19],
     ),
+    shape("nwk_payload_kind", false, &[("frame_type", false)], &[], &[13]),
     shape("nwk_read_command", false, &[("bytes", true)], &[Fixed(COMMAND_RECORD)], &[12, 18]),
     shape("nwk_write_command", false, &[("command", false)], &[Length], &[13, 17, 18]),
     shape("nwk_timeout_seconds", false, &[("code", false)], &[], &[13]),

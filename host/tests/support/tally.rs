@@ -113,7 +113,7 @@ fn auxiliary_kind(record: &[u8]) -> usize {
     usize::from(record[0]) + usize::from(record[0] == 1 && record[9] == 1)
 }
 
-/// The kind of content of an accepted call: the fields present, or the command's identifier.
+/// The kind of content of an accepted call: the fields present, the command's identifier, or the code.
 fn kind(call: &Call, outcome: &Outcome) -> usize {
     use Operation::*;
     let (inputs, outputs) = (&call.inputs, &outcome.outputs);
@@ -130,7 +130,7 @@ fn kind(call: &Call, outcome: &Outcome) -> usize {
         Seal => 3 * header_kind(&inputs[0]) + auxiliary_kind(&inputs[1]),
         ReadCommand => usize::from(outputs[0][0]),
         WriteCommand => usize::from(inputs[0][0]),
-        TimeoutSeconds => usize::from(inputs[0][0]),
+        PayloadKind | TimeoutSeconds => usize::from(inputs[0][0]),
         EncryptCcm | DecryptCcm => usize::from(inputs[1].is_empty()) + 2 * usize::from(inputs[2].is_empty()),
         SplitMic => usize::from(outcome.length() == 0),
         EncryptBlock => 0,
@@ -145,6 +145,7 @@ pub fn all_kinds(operation: Operation) -> usize {
         ReadAuxiliary | WriteAuxiliary => 2,
         ReadFrame => 48,
         Seal | Open => 24,
+        PayloadKind => 3,
         TimeoutSeconds => 15,
         EncryptCcm | DecryptCcm => 4,
         SplitMic => 2,

@@ -33,7 +33,7 @@ pub fn call(call: &mut Call, random: &mut Random) {
                 flip(&mut call.inputs[at], random);
             }
         }
-        TimeoutSeconds | EncryptCcm | SplitMic | EncryptBlock => {}
+        PayloadKind | TimeoutSeconds | EncryptCcm | SplitMic | EncryptBlock => {}
     }
 }
 
@@ -41,7 +41,7 @@ pub fn call(call: &mut Call, random: &mut Random) {
 fn slice(operation: Operation, random: &mut Random) -> Option<usize> {
     use Operation::*;
     match operation {
-        TimeoutSeconds | EncryptBlock => None,
+        PayloadKind | TimeoutSeconds | EncryptBlock => None,
         EncryptCcm | DecryptCcm => Some(random.between(1, 2)),
         other => Some(random.below(other.shape().inputs.len())),
     }

@@ -48,15 +48,21 @@ fn undamaged(operation: Operation, wanted: Option<usize>, random: &mut Random) -
         Seal => {
             vec![headers::any_header_record(random), headers::any_auxiliary_record(random), payload(wanted, random)]
         }
+        PayloadKind => vec![code(5, random)],
         ReadCommand => vec![commands::bytes(wanted, random)],
         WriteCommand => vec![commands::record(random)],
-        TimeoutSeconds => vec![vec![if random.bit() { random.below(16) as u8 } else { random.byte() }]],
+        TimeoutSeconds => vec![code(16, random)],
         EncryptCcm => sealed::ccm_inputs(wanted, random),
         DecryptCcm => sealed::ccm_sealed_inputs(&key, wanted, random),
         SplitMic => vec![payload(wanted, random)],
         EncryptBlock => vec![random.bytes(BLOCK)],
     };
     Call { operation, key, inputs, rooms: Vec::new() }
+}
+
+/// A code below the bound, or any byte.
+fn code(bound: usize, random: &mut Random) -> Vec<u8> {
+    vec![if random.bit() { random.below(bound) as u8 } else { random.byte() }]
 }
 
 fn payload(wanted: Option<usize>, random: &mut Random) -> Vec<u8> {

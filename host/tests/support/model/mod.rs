@@ -45,6 +45,7 @@ pub fn run(call: &Call) -> Answer {
         Operation::WriteFrame => write_frame(input(0), input(1), rooms),
         Operation::Seal => seal(&call.key, input(0), input(1), input(2), rooms),
         Operation::Open => open(&call.key, input(0), rooms),
+        Operation::PayloadKind => payload_kind(input(0)[0]),
         Operation::ReadCommand => read_command(input(0), rooms),
         Operation::WriteCommand => write_command(input(0), rooms),
         Operation::TimeoutSeconds => timeout_seconds(input(0)[0]),
@@ -143,6 +144,12 @@ fn opened_record(frame: &frame::Frame, length: usize) -> Vec<u8> {
     record.extend(frame.header.record());
     record.extend(auxiliary::record(&frame.auxiliary));
     record
+}
+
+/// "A plaintext is a command if the type is 1, else opaque"; the types are 0, 1 and 3.
+fn payload_kind(frame_type: u8) -> Answer {
+    refuse(&[(13, ![0, 1, 3].contains(&frame_type))])?;
+    Ok(Done { length: usize::from(frame_type == 1), written: Vec::new() })
 }
 
 fn read_command(bytes: &[u8], rooms: &[usize]) -> Answer {
