@@ -3,7 +3,7 @@
 //!
 //!   cargo run --release --example gateway
 use std::collections::BTreeMap;
-use store_reader::{hex, open, Eui64, Key, NwkCommand, NwkFrameType, OpenedFrame, Refusal, MAX_FRAME, MAX_PAYLOAD};
+use store_reader::{hex, open, Eui64, Key, NwkCommand, NwkPayload, OpenedFrame, Refusal, MAX_FRAME, MAX_PAYLOAD};
 
 /// What the radio handed over: records 2, 3, 8, 3 again, 10 and 16 of `samples/store.pcap`, without their MAC headers.
 const HEARD: [&str; 6] = [
@@ -64,9 +64,9 @@ impl Gateway {
 /// Hands a payload on: a command is read, the rest goes to the layer above.
 fn deliver(opened: &OpenedFrame<'_>) -> Result<(), Refusal> {
     let source = opened.header.source;
-    match opened.header.frame_control.frame_type {
-        NwkFrameType::Command => println!("{source}: {:?}", NwkCommand::read(opened.payload)?.command_id()),
-        _ => println!("{source}: {} bytes for the layer above", opened.payload.len()),
+    match opened.header.frame_control.frame_type.payload()? {
+        NwkPayload::Command => println!("{source}: {:?}", NwkCommand::read(opened.payload)?.command_id()),
+        NwkPayload::Opaque => println!("{source}: {} bytes for the layer above", opened.payload.len()),
     }
     Ok(())
 }

@@ -22,7 +22,8 @@ pub struct OpenedFrame<'a> {
     pub header: NwkHeader,
     /// The auxiliary header.
     pub auxiliary: NwkAuxHeader,
-    /// The bytes that were sealed, at the front of the output.
+    /// The bytes that were sealed, at the front of the output. The frame's type says what they are:
+    /// [`NwkFrameType::payload`](crate::NwkFrameType::payload).
     pub payload: &'a [u8],
 }
 

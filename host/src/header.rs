@@ -27,6 +27,39 @@ codes! {
     }
 }
 
+/// What a payload is; [`NwkFrameType::payload`] says it.
+#[derive(Debug, Clone, Copy, PartialEq, Eq, PartialOrd, Ord, Hash)]
+pub enum NwkPayload {
+    /// Bytes for the layer above.
+    Opaque,
+    /// A NWK command, for [`NwkCommand::read`](crate::NwkCommand::read).
+    Command,
+}
+
+impl NwkFrameType {
+    /// What the payload of a frame of this type is.
+    ///
+    /// ```
+    /// use store_reader::{NwkFrameType, NwkPayload};
+    ///
+    /// assert_eq!(NwkFrameType::Command.payload(), Ok(NwkPayload::Command));
+    /// assert_eq!(NwkFrameType::Data.payload(), Ok(NwkPayload::Opaque));
+    /// assert_eq!(NwkFrameType::Interpan.payload(), Ok(NwkPayload::Opaque));
+    /// ```
+    ///
+    /// # Errors
+    ///
+    /// None of the list; [`Refusal::INTERNAL`] for an archive of another version.
+    pub fn payload(self) -> Result<NwkPayload, Refusal> {
+        // SAFETY: the function takes a number.
+        match length(unsafe { sys::nwk_payload_kind(self.code()) }) {
+            Ok(0) => Ok(NwkPayload::Opaque),
+            Ok(1) => Ok(NwkPayload::Command),
+            _ => Err(Refusal::INTERNAL),
+        }
+    }
+}
+
 codes! {
     /// How a route may be looked for.
     NwkRouteDiscovery {

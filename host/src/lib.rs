@@ -51,8 +51,8 @@ pub use command::{
 };
 pub use frame::{open, read, seal, write, NwkFrame, OpenedFrame};
 pub use header::{
-    NwkAuxHeader, NwkFrameControl, NwkFrameType, NwkHeader, NwkRouteDiscovery, NwkSecurityHeaderControlField,
-    NwkSecurityHeaderKeyId, NwkSecurityLevel, NwkSourceRoute,
+    NwkAuxHeader, NwkFrameControl, NwkFrameType, NwkHeader, NwkPayload, NwkRouteDiscovery,
+    NwkSecurityHeaderControlField, NwkSecurityHeaderKeyId, NwkSecurityLevel, NwkSourceRoute,
 };
 pub use list::{Full, List};
 pub use refusal::Refusal;

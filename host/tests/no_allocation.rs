@@ -46,6 +46,7 @@ fn everything() -> Result<(), Refusal> {
     let length = NwkCommand::RouteRecord { relays }.write(&mut record)?;
     let n = seal(&key, &header, Some(&NwkAuxHeader::new(1, probe)), &record[..length], &mut frame)?;
     let opened = open(&key, &frame[..n], &mut out)?;
+    opened.header.frame_control.frame_type.payload()?;
     NwkCommand::read(opened.payload)?;
     read(&frame[..n])?;
     header.frame_control.security = false;

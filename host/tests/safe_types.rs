@@ -5,7 +5,7 @@ mod support;
 
 use store_reader::{
     decrypt_ccm, encrypt_block, encrypt_ccm, open, read, seal, split_mic, timeout_seconds, write, Key, NwkAuxHeader,
-    NwkCommand, NwkHeader, Refusal,
+    NwkCommand, NwkFrameType, NwkHeader, NwkPayload, Refusal,
 };
 use support::calls::{perform, Call, Outcome};
 use support::generate;
@@ -169,6 +169,21 @@ fn timeout_codes() {
         match timeout_seconds(code) {
             Ok(seconds) => assert_eq!((outcome.refusal(), outcome.length()), (0, seconds as usize)),
             Err(refusal) => assert_eq!(outcome.refusal(), refusal.number()),
+        }
+    }
+}
+
+/// The frame types of the crate are those that the C function takes.
+#[test]
+fn payload_kinds() {
+    for code in 0..=255 {
+        let outcome = raw(Operation::PayloadKind, [0; 16], &[&[code]], &[]);
+        match NwkFrameType::from_code(code).map(NwkFrameType::payload) {
+            Some(kind) => {
+                let expected = if outcome.length() == 1 { NwkPayload::Command } else { NwkPayload::Opaque };
+                assert_eq!((outcome.refusal(), kind), (0, Ok(expected)), "type {code}");
+            }
+            None => assert_eq!(outcome.refusal(), 13, "type {code}"),
         }
     }
 }

@@ -2,7 +2,7 @@
 use super::describe;
 use super::keys::{open_with, NumberedKey};
 use super::value::{digits, line, Fields, Value};
-use store_reader::{read, NwkAuxHeader, NwkCommand, NwkFrameType, NwkHeader, Refusal, MAX_FRAME};
+use store_reader::{read, NwkAuxHeader, NwkCommand, NwkFrameType, NwkHeader, NwkPayload, Refusal, MAX_FRAME};
 
 /// What is said of an input.
 #[derive(Default)]
@@ -64,11 +64,12 @@ impl Answer {
         fields
     }
 
-    /// Adds a payload: a decoded command in a command frame, else its bytes.
+    /// Adds a payload: a decoded command, or the bytes where it is opaque.
     fn add_payload(&mut self, header: &NwkHeader, bytes: &[u8]) {
-        let answer = match header.frame_control.frame_type {
-            NwkFrameType::Command => command(bytes),
-            _ => Self { line: format!("payload {}", counted_digits(bytes)), ..Self::default() },
+        let answer = match header.frame_control.frame_type.payload() {
+            Ok(NwkPayload::Command) => command(bytes),
+            Ok(NwkPayload::Opaque) => Self { line: format!("payload {}", counted_digits(bytes)), ..Self::default() },
+            Err(refusal) => Self { refusal: Some(refusal), ..Self::default() },
         };
         self.refusal = answer.refusal;
         self.line = answer.line;
