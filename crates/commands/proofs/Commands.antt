@@ -40,7 +40,7 @@ module _ {A : Type 0} (entry : A → List ℕ) (d : A) (xs : List A) (n : ℕ) w
   entries-count : n ≡ length (entriesOf entry d xs n)
   entries-count = sym (length-tab (λ (k : ℕ). entry (getD xs k d)) n)
 
-  entries-shaped : (fs : List Field) → ((x : A) → length (entry x) ≡ widths fs) → Shaped fs (entriesOf entry d xs n)
+  pub entries-shaped : (fs : List Field) → ((x : A) → length (entry x) ≡ widths fs) → Shaped fs (entriesOf entry d xs n)
   entries-shaped fs h k l =
       ap length (getD-tab (λ (j : ℕ). entry (getD xs j d)) n k [] (rw (length-tab (λ (j : ℕ). entry (getD xs j d)) n) at l)) ∙ h (getD xs k d)
 

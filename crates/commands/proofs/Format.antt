@@ -197,7 +197,7 @@ length-writeEntries fs (e ∷ es) =
     length-append (writeFields fs e) _
     ∙ rw (length-writeFields fs e, length-writeEntries fs es, suc-mul (length es) (sizes fs)) (add-comm (sizes fs) (length es * sizes fs))
 
-entry-back : (fs : List Field) (es : List (List ℕ)) (k : ℕ) (p rest : List ℕ) → k < length es → Shaped fs es → heldEntries fs es ≡ true
+pub entry-back : (fs : List Field) (es : List (List ℕ)) (k : ℕ) (p rest : List ℕ) → k < length es → Shaped fs es → heldEntries fs es ≡ true
     → readFields fs (p ++ (writeEntries fs es ++ rest)) (length p + k * sizes fs) ≡ getD es k []
 unfolding writeEntries heldEntries
 entry-back fs [] k p rest h sh e = absurd (omega arith)
@@ -310,7 +310,13 @@ module _ (f : Format) (v : Values) (id : ℕ) (rest : List ℕ) (fit : Fit f v) 
   end-back =
       let a : announced f bytes ≡ length (v .entries) = announced-back in
       let n : ℕ = length (v .entries) * sizes (f .entry) in
-      rw (a, length-append (writeFields (f .head) (v .head) ++ writeEntries (f .entry) (v .entries)) rest, length-append (writeFields (f .head) (v .head)) (writeEntries (f .entry) (v .entries)), length-writeFields (f .head) (v .head), length-writeEntries (f .entry) (v .entries))
+      rw (
+        a,
+        length-append (bodyBytes f v) rest,
+        length-append (writeFields (f .head) (v .head)) (writeEntries (f .entry) (v .entries)),
+        length-writeFields (f .head) (v .head),
+        length-writeEntries (f .entry) (v .entries),
+      )
       (omega arith)
 
 -- how long a body is

@@ -87,7 +87,7 @@ unfolding heldValues
 all-held f v h e = both (fields-hold (f .head) (v .head) h) e
 
 -- so many entries that hold
-entries-held : {A : Type 0} (fs : List Field) (entry : A → List ℕ) (d : A) (xs : List A) (n : ℕ)
+pub entries-held : {A : Type 0} (fs : List Field) (entry : A → List ℕ) (d : A) (xs : List A) (n : ℕ)
     → ((k : ℕ) → k < n → HoldFields fs (entry (getD xs k d))) → heldEntries fs (entriesOf entry d xs n) ≡ true
 entries-held fs entry d xs n h = held-all fs (λ (k : ℕ). entry (getD xs k d)) n (λ k l. fields-hold fs (entry (getD xs k d)) (h k l))
 

@@ -194,7 +194,9 @@ routeRequest-writable NwkRouteRequestManyToOneCode.Unknown s b = tt
 
 routeReply-writable : (s : List ℕ) → Below 256 s → Writable s (routeReplyOf (values routeReplyFormat s))
 unfolding routeReplyOf routeReplyFormat routeRequestFormat tooBig values readFields readField kept partSizes fields size
-routeReply-writable s b = (tt, (b 2, leAt-lt 2 s 3 b, leAt-lt 2 s 5 b, b 7, addressOf-in _ _ (address-read routeReplyFormat s 0 b refl), addressOf-in _ _ (address-read routeReplyFormat s _ b refl)), (tt, refl))
+routeReply-writable s b =
+    let first = addressOf-in _ _ (address-read routeReplyFormat s 0 b refl) in
+    (tt, (b 2, leAt-lt 2 s 3 b, leAt-lt 2 s 5 b, b 7, first, addressOf-in _ _ (address-read routeReplyFormat s _ b refl)), (tt, refl))
 
 networkStatus-writable : (k : NwkNetworkStatusCode) (s : List ℕ) → Below 256 s → Writable s (networkStatusBy k (values networkStatusFormat s))
 unfolding networkStatusBy networkStatusFormat tooBig values readFields readField kept partSizes fields size
@@ -242,7 +244,8 @@ unfolding timeoutResponseBy timeoutResponseFormat tooBig values readFields readF
 timeoutResponse-writable (NwkEndDeviceTimeoutResponseStatusCode.Known k) s b = (tt, tt, (tt, refl))
 timeoutResponse-writable NwkEndDeviceTimeoutResponseStatusCode.Unknown s b = tt
 
-linkPowerDelta-writable : (k : NwkLinkPowerDeltaTypeCode) (s : List ℕ) → Below 256 s → length s ≤ 108 → bodyEnd linkPowerDeltaFormat s ≤ length s → Writable s (linkPowerDeltaBy k (values linkPowerDeltaFormat s))
+linkPowerDelta-writable : (k : NwkLinkPowerDeltaTypeCode) (s : List ℕ) → Below 256 s → length s ≤ 108
+    → bodyEnd linkPowerDeltaFormat s ≤ length s → Writable s (linkPowerDeltaBy k (values linkPowerDeltaFormat s))
 unfolding linkPowerDeltaBy linkPowerDeltaFormat values readFields readField kept partSizes fields size
 linkPowerDelta-writable (NwkLinkPowerDeltaTypeCode.Known k) s b short whole = (tt, tt, powers-read _ s b short whole)
 linkPowerDelta-writable NwkLinkPowerDeltaTypeCode.Unknown s b short whole = tt
@@ -259,7 +262,8 @@ commissioningResponse-writable Nwk802154AssociationStatusCode.Unknown s b = tt
 
 pub writable : (id : NwkCommandId) (s : List ℕ) → Below 256 s → length s ≤ 108 → bodyEnd (formatOf id) s ≤ length s
     → Writable s (commandOf id (values (formatOf id) s))
-unfolding formatOf commandOf routeRequestOf networkStatusOf rejoinResponseOf networkReportOf networkUpdateOf timeoutRequestOf timeoutResponseOf linkPowerDeltaOf commissioningRequestOf commissioningResponseOf
+unfolding formatOf commandOf routeRequestOf networkStatusOf rejoinResponseOf networkReportOf networkUpdateOf timeoutRequestOf
+    timeoutResponseOf linkPowerDeltaOf commissioningRequestOf commissioningResponseOf
 writable NwkCommandId.RouteRequest s b short whole = routeRequest-writable _ s b
 writable NwkCommandId.RouteReply s b short whole = routeReply-writable s b
 writable NwkCommandId.NetworkStatus s b short whole = networkStatus-writable _ s b
