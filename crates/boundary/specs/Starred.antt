@@ -122,7 +122,7 @@ timeout14 = record { «request_timeout_enum» = EndDeviceTimeout.Minutes16384; �
 unfoldable pub oneLink : NwkCommandWithLists
 oneLink =
     withLists (NwkCommand.LinkStatus (record { «is_first_frame» = true; «is_last_frame» = true }))
-    [] (record { address = 0x1234; «incoming_cost» = 1; «outgoing_cost» = 3 } ∷ []) [] [] []
+    [] (record { address = nwk 0x1234; «incoming_cost» = 1; «outgoing_cost» = 3 } ∷ []) [] [] []
 
 -- ---- the table, in document 01's order
 

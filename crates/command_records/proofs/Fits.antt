@@ -6,41 +6,41 @@ use mathlib.Core.List.{List, [], _∷_, map}
 use Prim.Native.Nat.{ℕ, zero, suc, _<_}
 use native.Mathlib.Omega.{arith}
 use lib.ListN.{length, getD, length-map}
-use borrow.Author.Needs.{needs}
-use mir.Syntax.{w8}
-use mir.Val.{Val, Fits}
+use mir.Val.{Val}
 use denote.Shadow.{shadow}
 use denote.Array.{each}
-use Rattle.commands.specs.Commands.{noLink, noPower}
-use Rattle.commands.proofs.Ranges.{Ranged}
+use Rattle.types.proofs.Nwk as nwk
+use Rattle.types.proofs.PanId as pan-id
+use Rattle.commands.specs.Commands.{noRelay, noLink, noPanId, noPower}
+use Rattle.commands.proofs.Ranges.{InPower, Ranged}
 use Rattle.commands.proofs.InRange.{InRange, in-range}
 use Rattle.commands.proofs.NwkCommandWithLists as nwk-command-with-lists
 use Rattle.commands.proofs.NwkLinkStatus as nwk-link-status
 use Rattle.commands.proofs.NwkPowerListEntry as nwk-power-list-entry
-use Rattle.commands.specs.declared.{NwkCommandWithLists.NwkCommandWithLists, NwkLinkStatus.NwkLinkStatus, NwkPowerListEntry.NwkPowerListEntry}
+use Rattle.types.specs.declared.{Nwk.Nwk, PanId.PanId}
+use Rattle.commands.specs.declared.{NwkCommandWithLists.NwkCommandWithLists, NwkLinkStatus.NwkLinkStatus}
 
-abbrev pub Below16 : ℕ → Type 0
-Below16 x = x < 65536
+abbrev pub RelayFits : Nwk → Type 0
+RelayFits a = a .0 < 65536
 
 abbrev pub LinkFits : NwkLinkStatus → Type 0
-LinkFits l = (l .address < 65536) × (l .«incoming_cost» < 256) × (l .«outgoing_cost» < 256)
+LinkFits l = (l .address .0 < 65536) × (l .«incoming_cost» < 256) × (l .«outgoing_cost» < 256)
 
-abbrev pub PowerFits : NwkPowerListEntry → Type 0
-PowerFits p = (p .«device_address» < 65536) × (p .«power_delta» < 256)
+abbrev pub PanIdFits : PanId → Type 0
+PanIdFits p = p .0 < 65536
 
--- a list of so many places and its count, d past the end
-pub record ListFits {A : Type 0} (Fits : A → Type 0) (d : A) (places count : ℕ) (xs : List A) : Type 0 where
-  pub count-lt : count < 256
+-- a list of so many places, d past the end
+pub record ListFits {A : Type 0} (Fits : A → Type 0) (d : A) (places : ℕ) (xs : List A) : Type 0 where
   pub length-is : length xs ≡ places
   pub entries : (k : ℕ) → Fits (getD xs k d)
 
 pub record CommandFits (f : NwkCommandWithLists) : Type 0 where
   pub command : Ranged (f .command)
-  pub relays : ListFits Below16 0 53 (f .«relay_count») (f .relays)
-  pub links : ListFits LinkFits noLink 31 (f .«link_statuses_len») (f .«link_statuses»)
-  pub panIds : ListFits Below16 0 31 (f .«report_information_count») (f .«pan_ids»)
-  pub powers : ListFits PowerFits noPower 35 (f .«list_count») (f .«power_list»)
-  pub bytes : ListFits (λ (x : ℕ). x < 256) 0 108 (f .«unparsed_len») (f .unparsed)
+  pub relays : ListFits RelayFits noRelay 53 (f .relays)
+  pub links : ListFits LinkFits noLink 31 (f .«link_statuses»)
+  pub panIds : ListFits PanIdFits noPanId 31 (f .«pan_ids»)
+  pub powers : ListFits InPower noPower 35 (f .«power_list»)
+  pub bytes : length (f .unparsed) ≡ 108
 
 -- each entry of the link statuses
 links-fit : (xs : List NwkLinkStatus) (us : List Val)
@@ -51,23 +51,26 @@ links-fit (x ∷ xs) [] s k = absurd s
 links-fit (x ∷ xs) (u ∷ us) s zero = omega arith
 links-fit (x ∷ xs) (u ∷ us) s (suc k) = links-fit xs us (s .1) k
 
+-- an array of structs has its places
+sized : {A B : Type 0} (into : A → B) (xs : List A) {m : ℕ} → length (map into xs) ≡ m → length xs ≡ m
+sized into xs e = sym (length-map xs into) ∙ e
+
 -- every value of the type
 pub command-fits : (f : NwkCommandWithLists) (vs : List Val) → shadow (nwk-command-with-lists.the-row .own f vs) → CommandFits f
 command-fits f vs s =
     let r : InRange f = in-range f vs s in
+    let at-links = s .1 .1 .1 .1 .1 .1 .0 .1 in
     record {
       command = r .command;
-      relays = record { count-lt = omega arith; length-is = search needs; entries = r .relays };
+      relays = record { length-is = sized (nwk.the-field .into) (f .relays) (s .1 .1 .1 .1 .0 .1 .0 .1); entries = r .relays };
       links = record {
-        count-lt = omega arith;
-        length-is = sym (length-map (f .«link_statuses») (nwk-link-status.the-field .into)) ∙ s .1 .1 .1 .1 .1 .1 .0 .1 .0 .1;
-        entries = links-fit (f .«link_statuses») _ (s .1 .1 .1 .1 .1 .1 .0 .1 .1);
+        length-is = sized (nwk-link-status.the-field .into) (f .«link_statuses») (at-links .0 .1);
+        entries = links-fit (f .«link_statuses») _ (at-links .1);
       };
-      panIds = record { count-lt = omega arith; length-is = search needs; entries = r .panIds };
+      panIds = record { length-is = sized (pan-id.the-field .into) (f .«pan_ids») (s .1 .1 .1 .1 .1 .1 .1 .1 .0 .1 .0 .1); entries = r .panIds };
       powers = record {
-        count-lt = omega arith;
-        length-is = sym (length-map (f .«power_list») (nwk-power-list-entry.the-field .into)) ∙ s .1 .1 .1 .1 .1 .1 .1 .1 .1 .1 .0 .1 .0 .1;
+        length-is = sized (nwk-power-list-entry.the-field .into) (f .«power_list») (s .1 .1 .1 .1 .1 .1 .1 .1 .1 .1 .0 .1 .0 .1);
         entries = r .powers;
       };
-      bytes = record { count-lt = omega arith; length-is = search needs; entries = λ k. let h : Fits w8 (getD (f .unparsed) k 0) = search needs in h .fits };
+      bytes = r .bytes;
     }

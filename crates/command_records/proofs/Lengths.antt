@@ -1,64 +1,30 @@
--- How long the parts of the command record are, and that fields written over a blank front are filled up with zeros.
+-- Where the parts of the command record begin, and that fields written over a blank front are filled up with zeros.
 -- Assumes nothing.
 use mathlib.Core.Path.{_≡_, refl, sym, ap, _∙_}
-use mathlib.Core.List.{List, _++_, append-assoc}
-use Prim.Native.Nat.{ℕ, _+_, _*_, _≤_}
+use mathlib.Core.List.{List, [], _∷_, _++_, append-assoc}
+use Prim.Native.Nat.{ℕ, suc, _+_, _*_, _≤_}
 use native.Mathlib.Omega.{arith}
 use lib.ListN.{length, getD, drop, replicate, length-append, length-drop, length-replicate}
 use lib.Seq.{drop-append-le}
 use Rattle.octets.specs.Strings.{over}
 use Rattle.octets.specs.Numbers.{le}
-use Rattle.octets.proofs.Strings.{over-front}
+use Rattle.octets.proofs.Strings.{over-front, over-then, length-tab}
 use Rattle.octets.proofs.Numbers.{length-le}
-use Rattle.types.specs.declared.OptionEui64.{OptionEui64}
-use Rattle.commands.specs.declared.{NwkCommand.NwkCommand, NwkCommandWithLists.NwkCommandWithLists, NwkLinkStatus.NwkLinkStatus, NwkPowerListEntry.NwkPowerListEntry}
-use Rattle.commands.specs.Format.{size, sizes}
-use Rattle.commands.specs.Commands.{capabilityValues, linkPowerDeltaFormat, powerEntry, noPower}
+use Rattle.commands.specs.Format.{Field, size, sizes}
+use Rattle.commands.specs.Commands.{entriesOf, capabilityValues, routeRecordFormat, relayEntry, noRelay, linkEntry, noLink, networkReportFormat, panIdEntry, noPanId, linkPowerDeltaFormat, powerEntry, noPower}
 use Rattle.commands.specs.Reading.{places}
-use Rattle.commands.proofs.Format.{length-writeFields}
+use Rattle.commands.proofs.Format.{length-writeEntries}
+use Rattle.types.specs.declared.OptionEui64.{OptionEui64}
+use Rattle.commands.specs.declared.{NwkCommand.NwkCommand, NwkCommandWithLists.NwkCommandWithLists}
 use Rattle.command_records.specs.Fields.{addressRecord, fieldBytes, fieldsRecord}
-use Rattle.command_records.specs.Lists.{entries, numbersRecord, linkRecord, linksRecord, powerRecord, powersRecord}
-use Rattle.command_records.specs.CommandRecord.{routingRecord, networkRecord}
-use Rattle.command_records.proofs.Entries.{entries-length}
+use Rattle.command_records.specs.Lists.{linkRecordEntry, listRecord, relaysRecord, linksRecord, panIdsRecord, powersRecord}
+use Rattle.command_records.specs.CommandRecord.{listsRecord, commandRecord}
 
-pub length-number : (xs : List ℕ) (k : ℕ) → length (numbersRecord xs k) ≡ 2
-length-number xs k = length-le 2 (getD xs k 0)
+-- ---- the fields
 
-pub length-link : (ls : List NwkLinkStatus) (k : ℕ) → length (linksRecord ls k) ≡ 4
-unfolding linkRecord
-length-link ls k = simp (length-append, length-le)
-
-pub length-power : (ps : List NwkPowerListEntry) (k : ℕ) → length (powersRecord ps k) ≡ 3
-unfolding powerRecord linkPowerDeltaFormat size sizes
-length-power ps k = length-writeFields (linkPowerDeltaFormat .entry) (powerEntry (getD ps k noPower))
-
-pub length-address : (a : OptionEui64) → length (addressRecord a) ≡ 9
+length-address : (a : OptionEui64) → length (addressRecord a) ≡ 9
 unfolding addressRecord
-length-address a = simp (length-append, length-le)
-
--- a count and n entries of m bytes
-pub length-counted : (f : ℕ → List ℕ) (m : ℕ) → ((k : ℕ) → length (f k) ≡ m) → (c n : ℕ) → length (le 1 c ++ entries f n) ≡ 1 + m * n
-length-counted f m size c n = rw (length-append (le 1 c) (entries f n), length-le 1 c, entries-length f m size n) refl
-
-pub length-routing : (f : NwkCommandWithLists) → length (routingRecord f) ≡ 232
-unfolding routingRecord
-length-routing f =
-    rw (
-      length-append (le 1 (f .«relay_count») ++ entries (numbersRecord (f .relays)) 53) (le 1 (f .«link_statuses_len») ++ entries (linksRecord (f .«link_statuses»)) 31),
-      length-counted (numbersRecord (f .relays)) 2 (length-number (f .relays)) (f .«relay_count») 53,
-      length-counted (linksRecord (f .«link_statuses»)) 4 (length-link (f .«link_statuses»)) (f .«link_statuses_len») 31,
-    )
-    refl
-
-pub length-network : (f : NwkCommandWithLists) → length (networkRecord f) ≡ 169
-unfolding networkRecord
-length-network f =
-    rw (
-      length-append (le 1 (f .«report_information_count») ++ entries (numbersRecord (f .«pan_ids»)) 31) (le 1 (f .«list_count») ++ entries (powersRecord (f .«power_list»)) 35),
-      length-counted (numbersRecord (f .«pan_ids»)) 2 (length-number (f .«pan_ids»)) (f .«report_information_count») 31,
-      length-counted (powersRecord (f .«power_list»)) 3 (length-power (f .«power_list»)) (f .«list_count») 35,
-    )
-    refl
+length-address a = simp length-le
 
 -- the fields of every command have their place
 pub length-fields : (c : NwkCommand) → length (fieldBytes c) ≤ 25
@@ -67,8 +33,8 @@ length-fields (NwkCommand.RouteRequest c) = simp (length-append, length-le, leng
 length-fields (NwkCommand.RouteReply c) = simp (length-append, length-le, length-address) (omega arith)
 length-fields (NwkCommand.NetworkStatus c) = simp length-le (omega arith)
 length-fields (NwkCommand.Leave c) = omega arith
-length-fields NwkCommand.RouteRecord = rw (length-le 1 5) (omega arith)
-length-fields (NwkCommand.RejoinRequest c) = simp (length-append, length-le) (omega arith)
+length-fields NwkCommand.RouteRecord = omega arith
+length-fields (NwkCommand.RejoinRequest c) = omega arith
 length-fields (NwkCommand.RejoinResponse c) = simp (length-append, length-le) (omega arith)
 length-fields (NwkCommand.LinkStatus c) = omega arith
 length-fields (NwkCommand.NetworkReport c) = simp length-le (omega arith)
@@ -78,7 +44,7 @@ length-fields (NwkCommand.EndDeviceTimeoutResponse c) = omega arith
 length-fields (NwkCommand.LinkPowerDelta c) = omega arith
 length-fields (NwkCommand.NetworkCommissioningRequest c) = omega arith
 length-fields (NwkCommand.NetworkCommissioningResponse c) = simp (length-append, length-le) (omega arith)
-length-fields NwkCommand.Unparsed = rw (length-le 1 0) (omega arith)
+length-fields NwkCommand.Unparsed = omega arith
 
 pub length-places : {A : Type 0} (d : A) (m : ℕ) (xs : List A) → length xs ≤ m → length (places d m xs) ≡ m
 unfolding places
@@ -97,6 +63,90 @@ over-places m o bs h =
     ∙ ap (λ (n : ℕ). (bs ++ drop (length bs) (replicate m 0)) ++ drop n o) (z ∙ sym whole)
     ∙ sym (over-front o (bs ++ drop (length bs) (replicate m 0)))
 
-pub length-fieldsRecord : (c : NwkCommand) → length (fieldsRecord c) ≡ 25
-unfolding fieldsRecord
-length-fieldsRecord c = length-places 0 25 (fieldBytes c) (length-fields c)
+-- ---- the lists
+
+-- a count and m entries
+length-list : {A : Type 0} (fs : List Field) (entry : A → List ℕ) (d : A) (xs : List A) (m n : ℕ)
+    → length (listRecord fs n (entriesOf entry d xs m)) ≡ suc (m * sizes fs)
+unfolding listRecord
+length-list fs entry d xs m n =
+    ap suc (length-writeEntries fs (entriesOf entry d xs m) ∙ ap (λ (k : ℕ). k * sizes fs) (length-tab (λ (k : ℕ). entry (getD xs k d)) m))
+
+joined-length : (p s : List ℕ) {i n : ℕ} → length p ≡ i → length s ≡ n → length (p ++ s) ≡ i + n
+joined-length p s e l = rw (length-append p s, e, l) refl
+
+module _ (f : NwkCommandWithLists) where
+  -- what stands before each list
+  abbrev pub toRelays : List ℕ
+  toRelays = fieldsRecord (f .command)
+
+  abbrev pub toLinks : List ℕ
+  toLinks = toRelays ++ relaysRecord (f .«relay_count») (f .relays)
+
+  abbrev pub toPanIds : List ℕ
+  toPanIds = toLinks ++ linksRecord (f .«link_statuses_len») (f .«link_statuses»)
+
+  abbrev pub toPowers : List ℕ
+  toPowers = toPanIds ++ panIdsRecord (f .«report_information_count») (f .«pan_ids»)
+
+  abbrev pub toBytes : List ℕ
+  toBytes = toPowers ++ powersRecord (f .«list_count») (f .«power_list»)
+
+  -- and what from each list on
+  abbrev pub fromBytes : List ℕ
+  fromBytes = f .«unparsed_len» ∷ f .unparsed
+
+  abbrev pub fromPowers : List ℕ
+  fromPowers = powersRecord (f .«list_count») (f .«power_list») ++ fromBytes
+
+  abbrev pub fromPanIds : List ℕ
+  fromPanIds = panIdsRecord (f .«report_information_count») (f .«pan_ids») ++ fromPowers
+
+  abbrev pub fromLinks : List ℕ
+  fromLinks = linksRecord (f .«link_statuses_len») (f .«link_statuses») ++ fromPanIds
+
+  -- how long it is before each list
+  pub at-relays : length toRelays ≡ 25
+  unfolding fieldsRecord
+  at-relays = length-places 0 25 (fieldBytes (f .command)) (length-fields (f .command))
+
+  pub at-links : length toLinks ≡ 132
+  unfolding routeRecordFormat size sizes
+  at-links = joined-length toRelays _ at-relays (length-list (routeRecordFormat .entry) relayEntry noRelay (f .relays) 53 (f .«relay_count»))
+
+  pub at-panIds : length toPanIds ≡ 257
+  unfolding linkRecordEntry size sizes
+  at-panIds = joined-length toLinks _ at-links (length-list linkRecordEntry linkEntry noLink (f .«link_statuses») 31 (f .«link_statuses_len»))
+
+  pub at-powers : length toPowers ≡ 320
+  unfolding networkReportFormat size sizes
+  at-powers =
+      joined-length toPanIds _ at-panIds
+      (length-list (networkReportFormat .entry) panIdEntry noPanId (f .«pan_ids») 31 (f .«report_information_count»))
+
+  pub at-bytes : length toBytes ≡ 426
+  unfolding linkPowerDeltaFormat size sizes
+  at-bytes =
+      joined-length toPowers _ at-powers (length-list (linkPowerDeltaFormat .entry) powerEntry noPower (f .«power_list») 35 (f .«list_count»))
+
+  pub whole : toBytes ++ fromBytes ≡ commandRecord f
+  unfolding commandRecord listsRecord
+  whole = simp append-assoc
+
+  pub length-command : length (f .unparsed) ≡ 108 → length (commandRecord f) ≡ 535
+  length-command l =
+      ap length (sym whole) ∙ joined-length toBytes fromBytes at-bytes (ap suc l)
+
+  -- the six parts, each written right behind the one before
+  pub parts-put : (o o₁ o₂ o₃ o₄ o₅ o₆ : List ℕ) → o₁ ≡ over o 0 toRelays
+      → o₂ ≡ over o₁ 25 (relaysRecord (f .«relay_count») (f .relays))
+      → o₃ ≡ over o₂ 132 (linksRecord (f .«link_statuses_len») (f .«link_statuses»))
+      → o₄ ≡ over o₃ 257 (panIdsRecord (f .«report_information_count») (f .«pan_ids»))
+      → o₅ ≡ over o₄ 320 (powersRecord (f .«list_count») (f .«power_list»))
+      → o₆ ≡ over o₅ 426 fromBytes → o₆ ≡ over o 0 (commandRecord f)
+  parts-put o o₁ o₂ o₃ o₄ o₅ o₆ p₁ p₂ p₃ p₄ p₅ p₆ =
+      let q₂ = over-then o o₁ o₂ 0 25 _ _ (omega arith) (rw at-relays refl) p₁ p₂ in
+      let q₃ = over-then o o₂ o₃ 0 132 _ _ (omega arith) (rw at-links refl) q₂ p₃ in
+      let q₄ = over-then o o₃ o₄ 0 257 _ _ (omega arith) (rw at-panIds refl) q₃ p₄ in
+      let q₅ = over-then o o₄ o₅ 0 320 _ _ (omega arith) (rw at-powers refl) q₄ p₅ in
+      over-then o o₅ o₆ 0 426 _ _ (omega arith) (rw at-bytes refl) q₅ p₆ ∙ ap (over o 0) whole

@@ -1,5 +1,4 @@
 -- Laws of the command record and its parts, and the proofs of the functions that write it.
-pub mod Entries
 pub mod Lengths
 pub mod Fits
 pub mod ListsBack

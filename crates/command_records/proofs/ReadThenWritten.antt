@@ -17,16 +17,17 @@ use Rattle.octets.specs.Refusals.{on, by, firstOf}
 use Rattle.octets.proofs.Numbers.{leAt-lt}
 use Rattle.octets.proofs.Conditions.{unless-number, skip-by, or-false}
 use Rattle.commands.specs.Format.{partSizes, kept, readField, readFields, values, announced}
-use Rattle.commands.specs.Commands.{noLink, noPower, linkStatusFormat, linkOf}
+use Rattle.commands.specs.Commands.{noRelay, noLink, noPanId, noPower, linkStatusFormat, linkOf}
 use Rattle.commands.specs.Reading.{places, withLists, listOf, listed, typed, unparsed, parsed, readCommand}
 use Rattle.commands.specs.Writing.{commandBytes, writeRefusal}
-use Rattle.commands.proofs.Ranges.{Ranged, RangedList, tooBig}
-use Rattle.commands.proofs.Reread.{getD-places, entryAt, entry-read, Writable}
+use Rattle.commands.proofs.Ranges.{InPower, Ranged, RangedList, tooBig}
+use Rattle.commands.proofs.Reread.{entryAt, entry-read, Writable}
 use Rattle.commands.proofs.RoundTrip.{read-accepts, typed-writable, read-writes}
+use Rattle.types.specs.declared.{Nwk.Nwk, PanId.PanId}
 use Rattle.commands.specs.declared.{NwkCommand.NwkCommand, NwkCommandList.NwkCommandList, NwkCommandRead.NwkCommandRead, NwkCommandWithLists.NwkCommandWithLists, NwkLinkStatus.NwkLinkStatus, NwkPowerListEntry.NwkPowerListEntry, TypedBody.TypedBody}
 use Rattle.command_records.specs.CommandRecord.{commandRecord, writeRecordRefusal}
 use Rattle.command_records.proofs.Lengths.{length-places}
-use Rattle.command_records.proofs.Fits.{Below16, LinkFits, PowerFits, ListFits, CommandFits}
+use Rattle.command_records.proofs.Fits.{RelayFits, LinkFits, PanIdFits, ListFits, CommandFits}
 use Rattle.command_records.proofs.RoundTrip.{record-back}
 
 -- ---- the places of a list that was read
@@ -51,31 +52,29 @@ record Filled {A : Type 0} (Fits : A → Type 0) (d : A) (m : ℕ) (xs : List A)
   few : length xs ≤ m
   each : (k : ℕ) → k < length xs → Fits (getD (places d m xs) k d)
 
-none : {A : Type 0} (Fits : A → Type 0) (d : A) (m : ℕ) → Filled Fits d m []
-none Fits d m = record { few = omega arith; each = λ k l. absurd (omega arith) }
+none : {A : Type 0} {Fits : A → Type 0} {d : A} {m : ℕ} → Filled Fits d m []
+none = record { few = omega arith; each = λ k l. absurd (omega arith) }
 
-filled-fits : {A : Type 0} (Fits : A → Type 0) (d : A) (m : ℕ) (xs : List A) → Fits d → m < 256 → Filled Fits d m xs
-    → ListFits Fits d m (length xs) (places d m xs)
-filled-fits Fits d m xs z s w =
+filled-fits : {A : Type 0} {Fits : A → Type 0} {d : A} {m : ℕ} {xs : List A} → Fits d → Filled Fits d m xs → ListFits Fits d m (places d m xs)
+filled-fits {A} {Fits} {d} {m} {xs} z w =
     record {
-      count-lt = let f = w .few in omega arith;
       length-is = length-places d m xs (w .few);
       entries =
           λ k. elim (decLt k (length xs)) [ yes l ↦ w .each k l | no l ↦ rw (getD-past d m xs k (omega arith)) z ];
     }
 
-with-fits : (c : NwkCommand) {r : List ℕ} {l : List NwkLinkStatus} {p : List ℕ} {w : List NwkPowerListEntry} {b : List ℕ} → Ranged c
-    → Filled Below16 0 53 r → Filled LinkFits noLink 31 l → Filled Below16 0 31 p → Filled PowerFits noPower 35 w
-    → Filled (λ (x : ℕ). x < 256) 0 108 b → CommandFits (withLists c r l p w b)
+with-fits : (c : NwkCommand) {r : List Nwk} {l : List NwkLinkStatus} {p : List PanId} {w : List NwkPowerListEntry} (b : List ℕ) → Ranged c
+    → Filled RelayFits noRelay 53 r → Filled LinkFits noLink 31 l → Filled PanIdFits noPanId 31 p → Filled InPower noPower 35 w
+    → length b ≤ 108 → CommandFits (withLists c r l p w b)
 unfolding withLists
-with-fits c {r} {l} {p} {w} {b} h fr fl fp fw fb =
+with-fits c {r} {l} {p} {w} b h fr fl fp fw fb =
     record {
       command = h;
-      relays = filled-fits Below16 0 53 r (omega arith) (omega arith) fr;
-      links = filled-fits LinkFits noLink 31 l (omega arith) (omega arith) fl;
-      panIds = filled-fits Below16 0 31 p (omega arith) (omega arith) fp;
-      powers = filled-fits PowerFits noPower 35 w (omega arith) (omega arith) fw;
-      bytes = filled-fits (λ (x : ℕ). x < 256) 0 108 b (omega arith) (omega arith) fb;
+      relays = filled-fits (omega arith) fr;
+      links = filled-fits (omega arith) fl;
+      panIds = filled-fits (omega arith) fp;
+      powers = filled-fits (omega arith) fw;
+      bytes = length-places 0 108 b fb;
     }
 
 -- ---- what was read
@@ -87,24 +86,21 @@ link-read s k b = (leAt-lt 2 s _ b, omega arith, omega arith)
 listed-fits : (k : NwkCommandList) (c : NwkCommand) (s : List ℕ) → Below 256 s → Ranged c → RangedList k (listed k c s)
     → tooBig k c (listed k c s) ≡ false → CommandFits (listed k c s)
 unfolding listed withLists tooBig values
-listed-fits NwkCommandList.NoList c s b h r t = with-fits c h (none _ _ _) (none _ _ _) (none _ _ _) (none _ _ _) (none _ _ _)
-listed-fits NwkCommandList.Relays c s b h r t =
-    with-fits c h (record { few = ltb-false 53 _ t; each = r }) (none _ _ _) (none _ _ _) (none _ _ _) (none _ _ _)
+listed-fits NwkCommandList.NoList c s b h r t = with-fits c [] h none none none none (omega arith)
+listed-fits NwkCommandList.Relays c s b h r t = with-fits c [] h (record { few = ltb-false 53 _ t; each = r }) none none none (omega arith)
 listed-fits NwkCommandList.LinkStatuses c s b h r t =
-    with-fits c h (none _ _ _) (record { few = ltb-false 31 _ (or-false _ _ t .0); each = λ k l. rw (entry-read linkOf (entryAt linkStatusFormat s) (announced linkStatusFormat s) noLink 31 k l) (link-read s k b) })
-    (none _ _ _) (none _ _ _) (none _ _ _)
-listed-fits NwkCommandList.PanIds c s b h r t =
-    with-fits c h (none _ _ _) (none _ _ _) (record { few = ltb-false 31 _ t; each = r }) (none _ _ _) (none _ _ _)
-listed-fits NwkCommandList.PowerList c s b h r t =
-    with-fits c h (none _ _ _) (none _ _ _) (none _ _ _) (record { few = ltb-false 35 _ t; each = r }) (none _ _ _)
-listed-fits NwkCommandList.Bytes c s b h r t = with-fits c h (none _ _ _) (none _ _ _) (none _ _ _) (none _ _ _) (none _ _ _)
+    let n = announced linkStatusFormat s in
+    with-fits c [] h none
+    (record { few = ltb-false 31 _ (or-false _ _ t .0); each = λ k l. rw (entry-read linkOf (entryAt linkStatusFormat s) n noLink 31 k l) (link-read s k b) })
+    none none (omega arith)
+listed-fits NwkCommandList.PanIds c s b h r t = with-fits c [] h none none (record { few = ltb-false 31 _ t; each = r }) none (omega arith)
+listed-fits NwkCommandList.PowerList c s b h r t = with-fits c [] h none none none (record { few = ltb-false 35 _ t; each = r }) (omega arith)
+listed-fits NwkCommandList.Bytes c s b h r t = with-fits c [] h none none none none (omega arith)
 
 parsed-fits : (s : List ℕ) (t : TypedBody) → Writable s t → Below 256 s → length s ≤ 108 → CommandFits (parsed t s)
 unfolding parsed unparsed
 parsed-fits s (TypedBody.Typed c) w b h = listed-fits (listOf c) c s b (w .1) (w .2 .0) (w .2 .1)
-parsed-fits s TypedBody.NotTyped w b h =
-    with-fits NwkCommand.Unparsed tt (none _ _ _) (none _ _ _) (none _ _ _) (none _ _ _)
-    (record { few = h; each = λ k l. rw (getD-places 0 108 s k l) (b k) })
+parsed-fits s TypedBody.NotTyped w b h = with-fits NwkCommand.Unparsed s tt none none none none h
 
 -- every command that was read is within the ranges of its types
 pub read-fits : (s : List ℕ) → Below 256 s → length s ≤ 108 → CommandFits (readCommand s .command)

@@ -5,34 +5,29 @@ use mathlib.Core.Bool.{cond}
 use mathlib.Core.List.{List, [], _∷_, _++_}
 use lib.ListN.{length}
 use lib.Dec.{eqb}
-use Rattle.octets.specs.Numbers.{le}
 use Rattle.octets.specs.Refusals.{by, firstOf}
 use Rattle.commands.specs.Reading.{readAs, readNothing}
 use Rattle.commands.specs.Writing.{writeRefusal}
 use Rattle.commands.specs.declared.{NwkCommandWithLists.NwkCommandWithLists, NwkCommandRead.NwkCommandRead, TypedBody.TypedBody}
 use Rattle.command_records.specs.Fields.{fieldsRecord, said}
-use Rattle.command_records.specs.Lists.{entries, numbersRecord, linksRecord, powersRecord, withListsAt}
+use Rattle.command_records.specs.Lists.{relaysRecord, linksRecord, panIdsRecord, powersRecord, withListsAt}
 
 abbrev pub commandRecordSize : ℕ
 commandRecordSize = 535
 
 -- ---- the record of a command
 
--- 25 to 256
-unfoldable pub routingRecord : NwkCommandWithLists → List ℕ
-routingRecord f =
-    (le 1 (f .«relay_count») ++ entries (numbersRecord (f .relays)) 53)
-    ++ (le 1 (f .«link_statuses_len») ++ entries (linksRecord (f .«link_statuses»)) 31)
-
--- 257 to 425
-unfoldable pub networkRecord : NwkCommandWithLists → List ℕ
-networkRecord f =
-    (le 1 (f .«report_information_count») ++ entries (numbersRecord (f .«pan_ids»)) 31)
-    ++ (le 1 (f .«list_count») ++ entries (powersRecord (f .«power_list»)) 35)
+-- the lists, from 25 on
+unfoldable pub listsRecord : NwkCommandWithLists → List ℕ
+listsRecord f =
+    relaysRecord (f .«relay_count») (f .relays)
+    ++ (linksRecord (f .«link_statuses_len») (f .«link_statuses»)
+    ++ (panIdsRecord (f .«report_information_count») (f .«pan_ids»)
+    ++ (powersRecord (f .«list_count») (f .«power_list»)
+    ++ (f .«unparsed_len» ∷ f .unparsed))))
 
 unfoldable pub commandRecord : NwkCommandWithLists → List ℕ
-commandRecord f =
-    fieldsRecord (f .command) ++ (routingRecord f ++ (networkRecord f ++ (le 1 (f .«unparsed_len») ++ f .unparsed)))
+commandRecord f = fieldsRecord (f .command) ++ listsRecord f
 
 -- ---- the command of a record
 

@@ -23,33 +23,36 @@ addressValue OptionEui64.Absent = 0
 addressValue (OptionEui64.Present x) = x
 
 unfoldable pub addressRecord : OptionEui64 → List ℕ
-addressRecord a = le 1 (has a) ++ le 8 (addressValue a)
+addressRecord a = has a ∷ le 8 (addressValue a)
 
 -- identifier and fields
 unfoldable pub fieldBytes : NwkCommand → List ℕ
 fieldBytes (NwkCommand.RouteRequest c) =
-    (1 ∷ manyToOneCode (c .«many_to_one») ∷ c .«route_request_identifier» ∷ []) ++ (le 2 (c .«destination_address») ++ (le 1 (c .«path_cost») ++ addressRecord (c .«destination_eui64»)))
+    1 ∷ manyToOneCode (c .«many_to_one») ∷ c .«route_request_identifier»
+    ∷ (le 2 (c .«destination_address» .0) ++ (c .«path_cost» ∷ addressRecord (c .«destination_eui64»)))
 fieldBytes (NwkCommand.RouteReply c) =
-    ((2 ∷ c .«route_request_identifier» ∷ []) ++ (le 2 (c .«originator_nwk») ++ (le 2 (c .«responder_nwk») ++ le 1 (c .«path_cost»))))
-    ++ (addressRecord (c .«originator_eui64») ++ addressRecord (c .«responder_eui64»))
-fieldBytes (NwkCommand.NetworkStatus c) = (3 ∷ statusCode (c .«status_code») ∷ []) ++ le 2 (c .«network_address»)
+    2 ∷ c .«route_request_identifier»
+    ∷ (le 2 (c .«originator_nwk» .0) ++ (le 2 (c .«responder_nwk» .0)
+    ++ (c .«path_cost» ∷ (addressRecord (c .«originator_eui64») ++ addressRecord (c .«responder_eui64»)))))
+fieldBytes (NwkCommand.NetworkStatus c) = 3 ∷ statusCode (c .«status_code») ∷ le 2 (c .«network_address» .0)
 fieldBytes (NwkCommand.Leave c) = 4 ∷ bit (c .rejoin) ∷ bit (c .request) ∷ bit (c .«remove_children») ∷ []
-fieldBytes NwkCommand.RouteRecord = le 1 5
-fieldBytes (NwkCommand.RejoinRequest c) = le 1 6 ++ capabilityValues (c .«capability_information»)
-fieldBytes (NwkCommand.RejoinResponse c) = le 1 7 ++ (le 2 (c .«network_address») ++ le 1 (associationStatusCode (c .«rejoin_status»)))
+fieldBytes NwkCommand.RouteRecord = 5 ∷ []
+fieldBytes (NwkCommand.RejoinRequest c) = 6 ∷ capabilityValues (c .«capability_information»)
+fieldBytes (NwkCommand.RejoinResponse c) = 7 ∷ (le 2 (c .«network_address» .0) ++ (associationStatusCode (c .«rejoin_status») ∷ []))
 fieldBytes (NwkCommand.LinkStatus c) = 8 ∷ bit (c .«is_first_frame») ∷ bit (c .«is_last_frame») ∷ []
-fieldBytes (NwkCommand.NetworkReport c) = (9 ∷ reportIdentifierCode (c .«report_command_identifier») ∷ []) ++ le 8 (c .epid)
+fieldBytes (NwkCommand.NetworkReport c) = 9 ∷ reportIdentifierCode (c .«report_command_identifier») ∷ le 8 (c .epid)
 fieldBytes (NwkCommand.NetworkUpdate c) =
-    (10 ∷ c .«update_information_count» ∷ updateIdentifierCode (c .«update_command_identifier») ∷ []) ++ (le 8 (c .epid) ++ (le 1 (c .«update_id») ++ le 2 (c .«new_pan_id»)))
+    10 ∷ c .«update_information_count» ∷ updateIdentifierCode (c .«update_command_identifier»)
+    ∷ (le 8 (c .epid) ++ (c .«update_id» ∷ le 2 (c .«new_pan_id» .0)))
 fieldBytes (NwkCommand.EndDeviceTimeoutRequest c) = 11 ∷ timeoutCode (c .«request_timeout_enum») ∷ c .«end_device_configuration» ∷ []
 fieldBytes (NwkCommand.EndDeviceTimeoutResponse c) =
     12 ∷ timeoutStatusCode (c .status) ∷ bit (c .«mac_data_poll_keepalive_supported»)
     ∷ bit (c .«end_device_timeout_request_keepalive_supported») ∷ bit (c .«power_negotation_support») ∷ []
 fieldBytes (NwkCommand.LinkPowerDelta c) = 13 ∷ powerTypeCode (c .«command_type») ∷ []
 fieldBytes (NwkCommand.NetworkCommissioningRequest c) =
-    (14 ∷ commissioningTypeCode (c .«commissioning_type») ∷ []) ++ capabilityValues (c .«capability_information»)
-fieldBytes (NwkCommand.NetworkCommissioningResponse c) = le 1 15 ++ (le 2 (c .«network_address») ++ le 1 (associationStatusCode (c .status)))
-fieldBytes NwkCommand.Unparsed = le 1 0
+    14 ∷ commissioningTypeCode (c .«commissioning_type») ∷ capabilityValues (c .«capability_information»)
+fieldBytes (NwkCommand.NetworkCommissioningResponse c) = 15 ∷ (le 2 (c .«network_address» .0) ++ (associationStatusCode (c .status) ∷ []))
+fieldBytes NwkCommand.Unparsed = 0 ∷ []
 
 -- the 25 bytes
 unfoldable pub fieldsRecord : NwkCommand → List ℕ

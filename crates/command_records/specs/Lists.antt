@@ -3,42 +3,42 @@
 -- count of PAN ids and 31 of them; at 320 the count of the power list and 35 entries, an address and a delta; at 426 the
 -- length of an unparsed command and its 108 places.
 -- Assumes nothing.
-use Prim.Native.Nat.{ℕ, zero, suc, _+_, _*_}
-use mathlib.Core.List.{List, [], _++_}
+use Prim.Native.Nat.{ℕ, _+_, _*_}
+use mathlib.Core.List.{List, [], _∷_}
 use lib.ListN.{getD}
 use Rattle.octets.specs.Strings.{tab}
-use Rattle.octets.specs.Numbers.{le, leAt}
+use Rattle.types.specs.declared.{Nwk.Nwk, PanId.PanId}
 use Rattle.commands.specs.declared.{NwkLinkStatus.NwkLinkStatus, NwkPowerListEntry.NwkPowerListEntry, NwkCommand.NwkCommand, NwkCommandWithLists.NwkCommandWithLists}
-use Rattle.commands.specs.Format.{writeFields}
-use Rattle.commands.specs.Commands.{noLink, linkPowerDeltaFormat, powerEntry, powerAt, noPower}
+use Rattle.commands.specs.Format.{Field, readFields, writeEntries}
+use Rattle.commands.specs.Format.Field.{byte, number}
+use Rattle.commands.specs.Commands.{routeRecordFormat, relayEntries, relayAt, linkOf, linkEntries, networkReportFormat, panIdEntries, panIdAt, linkPowerDeltaFormat, powerEntries, powerAt}
 
--- the bytes of n entries, those of entry k being f k
-unfoldable pub entries : (ℕ → List ℕ) → ℕ → List ℕ
-entries f zero = []
-entries f (suc n) = entries f n ++ f n
+-- ---- the record of a list
 
--- ---- an entry of each list
+-- a link status in a record, where each cost has a byte of its own; the other entries are as in a command's bytes
+unfoldable pub linkRecordEntry : List Field
+linkRecordEntry = number 2 ∷ byte ∷ byte ∷ []
 
-abbrev pub numbersRecord : List ℕ → ℕ → List ℕ
-numbersRecord xs k = le 2 (getD xs k 0)
+-- a count, and the entries of all places
+unfoldable pub listRecord : List Field → ℕ → List (List ℕ) → List ℕ
+listRecord fs n es = n ∷ writeEntries fs es
 
-unfoldable pub linkRecord : NwkLinkStatus → List ℕ
-linkRecord l = le 2 (l .address) ++ (le 1 (l .«incoming_cost») ++ le 1 (l .«outgoing_cost»))
+abbrev pub relaysRecord : ℕ → List Nwk → List ℕ
+relaysRecord n relays = listRecord (routeRecordFormat .entry) n (relayEntries relays 53)
 
-abbrev pub linksRecord : List NwkLinkStatus → ℕ → List ℕ
-linksRecord ls k = linkRecord (getD ls k noLink)
+abbrev pub linksRecord : ℕ → List NwkLinkStatus → List ℕ
+linksRecord n links = listRecord linkRecordEntry n (linkEntries links 31)
 
--- as in a link power delta
-unfoldable pub powerRecord : NwkPowerListEntry → List ℕ
-powerRecord p = writeFields (linkPowerDeltaFormat .entry) (powerEntry p)
+abbrev pub panIdsRecord : ℕ → List PanId → List ℕ
+panIdsRecord n panIds = listRecord (networkReportFormat .entry) n (panIdEntries panIds 31)
 
-abbrev pub powersRecord : List NwkPowerListEntry → ℕ → List ℕ
-powersRecord ps k = powerRecord (getD ps k noPower)
+abbrev pub powersRecord : ℕ → List NwkPowerListEntry → List ℕ
+powersRecord n powers = listRecord (linkPowerDeltaFormat .entry) n (powerEntries powers 35)
 
 -- ---- and back
 
 unfoldable pub linkRecordAt : List ℕ → ℕ → NwkLinkStatus
-linkRecordAt r i = record { address = leAt 2 r i; «incoming_cost» = getD r (i + 2) 0; «outgoing_cost» = getD r (i + 3) 0 }
+linkRecordAt r i = linkOf (readFields linkRecordEntry r i)
 
 -- the command c with the lists of the record r
 unfoldable pub withListsAt : NwkCommand → List ℕ → NwkCommandWithLists
@@ -46,13 +46,13 @@ withListsAt c r =
     record {
       command = c;
       «relay_count» = getD r 25 0;
-      relays = tab (λ (k : ℕ). leAt 2 r (26 + 2 * k)) 53;
+      relays = tab (λ (k : ℕ). relayAt r (26 + k * 2)) 53;
       «link_statuses_len» = getD r 132 0;
-      «link_statuses» = tab (λ (k : ℕ). linkRecordAt r (133 + 4 * k)) 31;
+      «link_statuses» = tab (λ (k : ℕ). linkRecordAt r (133 + k * 4)) 31;
       «report_information_count» = getD r 257 0;
-      «pan_ids» = tab (λ (k : ℕ). leAt 2 r (258 + 2 * k)) 31;
+      «pan_ids» = tab (λ (k : ℕ). panIdAt r (258 + k * 2)) 31;
       «list_count» = getD r 320 0;
-      «power_list» = tab (λ (k : ℕ). powerAt r (321 + 3 * k)) 35;
+      «power_list» = tab (λ (k : ℕ). powerAt r (321 + k * 3)) 35;
       «unparsed_len» = getD r 426 0;
       unparsed = tab (λ (k : ℕ). getD r (427 + k) 0) 108;
     }

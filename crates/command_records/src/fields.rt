@@ -6,12 +6,13 @@ ghost use Prim.Native.Nat.{_+_, _≤_};
 ghost use lib.ListN.{length};
 ghost use Rattle.octets.specs.Strings.{over};
 ghost use Rattle.octets.specs.Numbers.{le};
-ghost use Rattle.octets.specs.Fields.{bit};
 ghost use Rattle.commands.specs.Commands.{capabilityValues};
 ghost use Rattle.commands.specs.declared.NwkCommand.{NwkCommand};
 ghost use Rattle.command_records.specs.Fields.{addressValue, addressRecord, fieldBytes, fieldsRecord};
+use commands::lists::put_byte;
 use commands::*;
 use octets::bit_of;
+use types::Nwk;
 use types::OptionEui64;
 
 // The address as a number, 0 where it is absent.
@@ -29,7 +30,7 @@ fn put_address(out: &mut [u8], i: usize, a: OptionEui64)
     requires { ⌜ i + 9 ≤ length (now out) ⌝ }
     ensures { λ _. ⌜ now (out .exit) ≡ over (now (out .entry)) i (addressRecord a) ⌝ }
 {
-    octets::put_u8(out, i, has_address(a));
+    put_byte(out, i, has_address(a));
     octets::put_u64(out, i + 1, address_value(a));
 }
 
@@ -59,24 +60,25 @@ fn put_route_request(out: &mut [u8], c: NwkRouteRequestCommand)
     ensures { λ _. ⌜ now (out .exit) ≡ over (now (out .entry)) 0 (fieldBytes (NwkCommand.RouteRequest c)) ⌝ }
 {
     let many_to_one = c.many_to_one;
+    let address = c.destination_address;
     let destination_eui64 = c.destination_eui64;
     let values = [1, many_to_one.code(), c.route_request_identifier];
     octets::copy_at(out, 0, &values);
-    octets::put_u16(out, 3, c.destination_address);
-    octets::put_u8(out, 5, c.path_cost);
+    octets::put_u16(out, 3, address.0);
+    put_byte(out, 5, c.path_cost);
     put_address(out, 6, destination_eui64);
 }
 
 // 3.4.2 Route Reply: what every one has.
-fn put_route_reply_front(out: &mut [u8], id: u8, originator: u16, responder: u16, cost: u8)
+fn put_route_reply_front(out: &mut [u8], id: u8, originator: Nwk, responder: Nwk, cost: u8)
     requires { ⌜ 25 ≤ length (now out) ⌝ }
-    ensures { λ _. ⌜ now (out .exit) ≡ over (now (out .entry)) 0 ((2 ∷ id ∷ []) ++ (le 2 originator ++ (le 2 responder ++ le 1 cost))) ⌝ }
+    ensures { λ _. ⌜ now (out .exit) ≡ over (now (out .entry)) 0 (2 ∷ id ∷ (le 2 (originator .0) ++ (le 2 (responder .0) ++ (cost ∷ [])))) ⌝ }
 {
     let values = [2, id];
     octets::copy_at(out, 0, &values);
-    octets::put_u16(out, 2, originator);
-    octets::put_u16(out, 4, responder);
-    octets::put_u8(out, 6, cost);
+    octets::put_u16(out, 2, originator.0);
+    octets::put_u16(out, 4, responder.0);
+    put_byte(out, 6, cost);
 }
 
 // 3.4.2 Route Reply.
@@ -84,13 +86,15 @@ fn put_route_reply(out: &mut [u8], c: NwkRouteReplyCommand)
     requires { ⌜ 25 ≤ length (now out) ⌝ }
     ensures { λ _. ⌜ now (out .exit) ≡ over (now (out .entry)) 0 (fieldBytes (NwkCommand.RouteReply c)) ⌝ }
 {
+    let originator = c.originator_nwk;
+    let responder = c.responder_nwk;
     let originator_eui64 = c.originator_eui64;
     let responder_eui64 = c.responder_eui64;
     put_route_reply_front(
         out,
         c.route_request_identifier,
-        c.originator_nwk,
-        c.responder_nwk,
+        originator,
+        responder,
         c.path_cost,
     );
     put_address(out, 7, originator_eui64);
@@ -103,9 +107,10 @@ fn put_network_status(out: &mut [u8], c: NwkNetworkStatusCommand)
     ensures { λ _. ⌜ now (out .exit) ≡ over (now (out .entry)) 0 (fieldBytes (NwkCommand.NetworkStatus c)) ⌝ }
 {
     let status_code = c.status_code;
+    let address = c.network_address;
     let values = [3, status_code.code()];
     octets::copy_at(out, 0, &values);
-    octets::put_u16(out, 2, c.network_address);
+    octets::put_u16(out, 2, address.0);
 }
 
 // 3.4.4 Leave.
@@ -128,18 +133,18 @@ fn put_rejoin_request(out: &mut [u8], c: NwkRejoinRequestCommand)
     ensures { λ _. ⌜ now (out .exit) ≡ over (now (out .entry)) 0 (fieldBytes (NwkCommand.RejoinRequest c)) ⌝ }
 {
     let capability_information = c.capability_information;
-    octets::put_u8(out, 0, 6);
+    put_byte(out, 0, 6);
     put_capability(out, 1, capability_information);
 }
 
 // 3.4.7 Rejoin Response and 3.4.15 Network Commissioning Response: an address and a status.
-fn put_response(out: &mut [u8], id: u8, address: u16, status: u8)
+fn put_response(out: &mut [u8], id: u8, address: Nwk, status: u8)
     requires { ⌜ 25 ≤ length (now out) ⌝ }
-    ensures { λ _. ⌜ now (out .exit) ≡ over (now (out .entry)) 0 (le 1 id ++ (le 2 address ++ le 1 status)) ⌝ }
+    ensures { λ _. ⌜ now (out .exit) ≡ over (now (out .entry)) 0 (id ∷ (le 2 (address .0) ++ (status ∷ []))) ⌝ }
 {
-    octets::put_u8(out, 0, id);
-    octets::put_u16(out, 1, address);
-    octets::put_u8(out, 3, status);
+    put_byte(out, 0, id);
+    octets::put_u16(out, 1, address.0);
+    put_byte(out, 3, status);
 }
 
 // 3.4.7 Rejoin Response.
@@ -148,7 +153,8 @@ fn put_rejoin_response(out: &mut [u8], c: NwkRejoinResponseCommand)
     ensures { λ _. ⌜ now (out .exit) ≡ over (now (out .entry)) 0 (fieldBytes (NwkCommand.RejoinResponse c)) ⌝ }
 {
     let rejoin_status = c.rejoin_status;
-    put_response(out, 7, c.network_address, rejoin_status.code());
+    let address = c.network_address;
+    put_response(out, 7, address, rejoin_status.code());
 }
 
 // 3.4.8 Link Status.
@@ -177,6 +183,7 @@ fn put_network_update(out: &mut [u8], c: NwkNetworkUpdateCommand)
     ensures { λ _. ⌜ now (out .exit) ≡ over (now (out .entry)) 0 (fieldBytes (NwkCommand.NetworkUpdate c)) ⌝ }
 {
     let update_command_identifier = c.update_command_identifier;
+    let new_pan_id = c.new_pan_id;
     let values = [
         10,
         c.update_information_count,
@@ -184,8 +191,8 @@ fn put_network_update(out: &mut [u8], c: NwkNetworkUpdateCommand)
     ];
     octets::copy_at(out, 0, &values);
     octets::put_u64(out, 3, c.epid);
-    octets::put_u8(out, 11, c.update_id);
-    octets::put_u16(out, 12, c.new_pan_id);
+    put_byte(out, 11, c.update_id);
+    octets::put_u16(out, 12, new_pan_id.0);
 }
 
 // 3.4.11 End Device Timeout Request.
@@ -242,7 +249,8 @@ fn put_commissioning_response(out: &mut [u8], c: NwkNetworkCommissioningResponse
     ensures { λ _. ⌜ now (out .exit) ≡ over (now (out .entry)) 0 (fieldBytes (NwkCommand.NetworkCommissioningResponse c)) ⌝ }
 {
     let status = c.status;
-    put_response(out, 15, c.network_address, status.code());
+    let address = c.network_address;
+    put_response(out, 15, address, status.code());
 }
 
 // Write the identifier and the fields of a command over the front of the output.
@@ -255,7 +263,7 @@ fn put_own_fields(out: &mut [u8], command: NwkCommand)
         NwkCommand::RouteReply(c) => put_route_reply(out, c),
         NwkCommand::NetworkStatus(c) => put_network_status(out, c),
         NwkCommand::Leave(c) => put_leave(out, c),
-        NwkCommand::RouteRecord => octets::put_u8(out, 0, 5),
+        NwkCommand::RouteRecord => put_byte(out, 0, 5),
         NwkCommand::RejoinRequest(c) => put_rejoin_request(out, c),
         NwkCommand::RejoinResponse(c) => put_rejoin_response(out, c),
         NwkCommand::LinkStatus(c) => put_link_status(out, c),
@@ -266,7 +274,7 @@ fn put_own_fields(out: &mut [u8], command: NwkCommand)
         NwkCommand::LinkPowerDelta(c) => put_link_power_delta(out, c),
         NwkCommand::NetworkCommissioningRequest(c) => put_commissioning_request(out, c),
         NwkCommand::NetworkCommissioningResponse(c) => put_commissioning_response(out, c),
-        NwkCommand::Unparsed => octets::put_u8(out, 0, 0),
+        NwkCommand::Unparsed => put_byte(out, 0, 0),
     }
 }
 

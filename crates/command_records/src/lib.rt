@@ -31,20 +31,10 @@ pub fn put_command(out: &mut [u8], f: NwkCommandWithLists)
     let power_list = f.power_list;
     let unparsed = f.unparsed;
     fields::put_fields(out, command);
-    lists::put_routing(
-        out,
-        f.relay_count,
-        relays,
-        f.link_statuses_len,
-        link_statuses,
-    );
-    lists::put_network(
-        out,
-        f.report_information_count,
-        pan_ids,
-        f.list_count,
-        power_list,
-    );
+    lists::put_relays(out, f.relay_count, relays);
+    lists::put_link_statuses(out, f.link_statuses_len, link_statuses);
+    lists::put_pan_ids(out, f.report_information_count, pan_ids);
+    lists::put_power_list(out, f.list_count, power_list);
     lists::put_unparsed(out, f.unparsed_len, unparsed);
 }
 

@@ -10,18 +10,19 @@ ghost use Rattle.commands.specs.Commands.{addressOf, capabilityOf};
 ghost use Rattle.commands.specs.Reading.{commandOf};
 ghost use Rattle.command_records.specs.Fields.{recordValues, areFlags, flagsFit, said};
 use commands::*;
+use types::Nwk;
 use types::OptionEui64;
+use types::PanId;
 
 // The optional address whose presence byte stands at place i.
 fn address_at(bytes: &[u8], i: usize) -> OptionEui64
     requires { ⌜ i < 1000 ⌝ }
     ensures { λ r. ⌜ r ≡ addressOf (getD (now (bytes .entry)) i 0) (leAt 8 (now (bytes .entry)) (i + 1)) ⌝ }
 {
-    if octets::byte_at(bytes, i) == 1 {
-        OptionEui64::Present(octets::read_u64(bytes, i + 1))
-    } else {
-        OptionEui64::Absent
-    }
+    OptionEui64::when(
+        octets::byte_at(bytes, i) == 1,
+        octets::read_u64(bytes, i + 1),
+    )
 }
 
 // The capability information of the eight bytes from place i.
@@ -57,7 +58,7 @@ fn route_request_at(bytes: &[u8]) -> TypedBody
     TypedBody::Typed(NwkCommand::RouteRequest(NwkRouteRequestCommand {
         many_to_one,
         route_request_identifier: octets::byte_at(bytes, 2),
-        destination_address: octets::read_u16(bytes, 3),
+        destination_address: Nwk(octets::read_u16(bytes, 3)),
         path_cost: octets::byte_at(bytes, 5),
         destination_eui64,
     }))
@@ -71,8 +72,8 @@ fn route_reply_at(bytes: &[u8]) -> TypedBody
     let responder_eui64 = address_at(bytes, 16);
     TypedBody::Typed(NwkCommand::RouteReply(NwkRouteReplyCommand {
         route_request_identifier: octets::byte_at(bytes, 1),
-        originator_nwk: octets::read_u16(bytes, 2),
-        responder_nwk: octets::read_u16(bytes, 4),
+        originator_nwk: Nwk(octets::read_u16(bytes, 2)),
+        responder_nwk: Nwk(octets::read_u16(bytes, 4)),
         path_cost: octets::byte_at(bytes, 6),
         originator_eui64,
         responder_eui64,
@@ -91,7 +92,7 @@ fn network_status_at(bytes: &[u8]) -> TypedBody
     };
     TypedBody::Typed(NwkCommand::NetworkStatus(NwkNetworkStatusCommand {
         status_code,
-        network_address: octets::read_u16(bytes, 2),
+        network_address: Nwk(octets::read_u16(bytes, 2)),
     }))
 }
 
@@ -125,7 +126,7 @@ fn rejoin_response_at(bytes: &[u8]) -> TypedBody
         return TypedBody::NotTyped;
     };
     TypedBody::Typed(NwkCommand::RejoinResponse(NwkRejoinResponseCommand {
-        network_address: octets::read_u16(bytes, 1),
+        network_address: Nwk(octets::read_u16(bytes, 1)),
         rejoin_status,
     }))
 }
@@ -167,7 +168,7 @@ fn network_update_at(bytes: &[u8]) -> TypedBody
         update_command_identifier,
         epid: octets::read_u64(bytes, 3),
         update_id: octets::byte_at(bytes, 11),
-        new_pan_id: octets::read_u16(bytes, 12),
+        new_pan_id: PanId(octets::read_u16(bytes, 12)),
     }))
 }
 
@@ -236,7 +237,7 @@ fn commissioning_response_at(bytes: &[u8]) -> TypedBody
         return TypedBody::NotTyped;
     };
     TypedBody::Typed(NwkCommand::NetworkCommissioningResponse(NwkNetworkCommissioningResponseCommand {
-        network_address: octets::read_u16(bytes, 1),
+        network_address: Nwk(octets::read_u16(bytes, 1)),
         status,
     }))
 }

@@ -10,6 +10,7 @@ use commands::NwkCommand;
 use commands::NwkCommandWithLists;
 use commands::NwkLinkStatus;
 use commands::lists;
+use types::Nwk;
 
 // The link status at place i.
 fn link_at(bytes: &[u8], i: usize) -> NwkLinkStatus
@@ -17,7 +18,7 @@ fn link_at(bytes: &[u8], i: usize) -> NwkLinkStatus
     ensures { λ r. ⌜ r ≡ linkRecordAt (now (bytes .entry)) i ⌝ }
 {
     NwkLinkStatus {
-        address: octets::read_u16(bytes, i),
+        address: Nwk(octets::read_u16(bytes, i)),
         incoming_cost: octets::byte_at(bytes, i + 2),
         outgoing_cost: octets::byte_at(bytes, i + 3),
     }
@@ -25,12 +26,12 @@ fn link_at(bytes: &[u8], i: usize) -> NwkLinkStatus
 
 // The 31 link statuses.
 fn links_at(bytes: &[u8]) -> [NwkLinkStatus; 31]
-    ensures { λ r. ⌜ r ≡ tab (λ (k : ℕ). linkRecordAt (now (bytes .entry)) (133 + 4 * k)) 31 ⌝ }
+    ensures { λ r. ⌜ r ≡ tab (λ (k : ℕ). linkRecordAt (now (bytes .entry)) (133 + k * 4)) 31 ⌝ }
 {
     let mut links = [NO_LINK; 31];
     let mut i = 0;
     while i < 31 {
-        links[i] = link_at(bytes, 133 + 4 * i);
+        links[i] = link_at(bytes, 133 + i * 4);
         i += 1;
     }
     links

@@ -8,15 +8,16 @@ use native.Mathlib.Omega.{arith}
 use native.Mathlib.Nat.{not-suc-le-zero}
 use lib.ListN.{length, getD}
 use Rattle.octets.specs.Strings.{tab}
-use Rattle.octets.proofs.Strings.{length-tab, getD-tab}
+use Rattle.octets.proofs.Strings.{length-tab, getD-tab, tab-ext}
 use Rattle.commands.specs.Format.{Field, Values, partSizes, keptCount, size, width, sizes, widths, plus, summed, values}
-use Rattle.commands.specs.Commands.{routeRequestFormat, routeRequestOf, routeRequestValues, routeReplyFormat, routeReplyOf, routeReplyValues, networkStatusFormat, networkStatusOf, networkStatusValues, leaveFormat, leaveOf, leaveValues, routeRecordFormat, routeRecordOf, routeRecordValues, rejoinRequestFormat, rejoinRequestOf, rejoinRequestValues, rejoinResponseFormat, rejoinResponseOf, rejoinResponseValues, linkStatusFormat, linkStatusOf, linkStatusValues, networkReportFormat, networkReportOf, networkReportValues, networkUpdateFormat, networkUpdateOf, networkUpdateValues, timeoutRequestFormat, timeoutRequestOf, timeoutRequestValues, timeoutResponseFormat, timeoutResponseOf, timeoutResponseValues, linkPowerDeltaFormat, linkPowerDeltaOf, linkPowerDeltaValues, commissioningRequestFormat, commissioningRequestOf, commissioningRequestValues, commissioningResponseFormat, commissioningResponseOf, commissioningResponseValues, routeRequestBy, networkStatusBy, rejoinResponseBy, networkReportBy, networkUpdateBy, timeoutRequestBy, timeoutResponseBy, linkPowerDeltaBy, commissioningRequestBy, commissioningResponseBy, capabilityField, capabilityOf, capabilityValues, has, addressEntry, addressOf, firsts, relayOf, relayEntry, linkOf, linkEntry, noLink, powerOf, powerEntry, noPower}
+use Rattle.commands.specs.Commands.{routeRequestFormat, routeRequestOf, routeRequestValues, routeReplyFormat, routeReplyOf, routeReplyValues, networkStatusFormat, networkStatusOf, networkStatusValues, leaveFormat, leaveOf, leaveValues, routeRecordFormat, routeRecordOf, routeRecordValues, rejoinRequestFormat, rejoinRequestOf, rejoinRequestValues, rejoinResponseFormat, rejoinResponseOf, rejoinResponseValues, linkStatusFormat, linkStatusOf, linkStatusValues, networkReportFormat, networkReportOf, networkReportValues, networkUpdateFormat, networkUpdateOf, networkUpdateValues, timeoutRequestFormat, timeoutRequestOf, timeoutRequestValues, timeoutResponseFormat, timeoutResponseOf, timeoutResponseValues, linkPowerDeltaFormat, linkPowerDeltaOf, linkPowerDeltaValues, commissioningRequestFormat, commissioningRequestOf, commissioningRequestValues, commissioningResponseFormat, commissioningResponseOf, commissioningResponseValues, routeRequestBy, networkStatusBy, rejoinResponseBy, networkReportBy, networkUpdateBy, timeoutRequestBy, timeoutResponseBy, linkPowerDeltaBy, commissioningRequestBy, commissioningResponseBy, capabilityField, capabilityOf, capabilityValues, has, addressEntry, addressOf, firsts, relayOf, relayEntry, linkOf, linkEntry, noLink, powerOf, powerEntry, noPower, entriesOf, noRelay, panIdOf, panIdEntry, noPanId}
 use Rattle.commands.specs.Reading.{formatOf, commandOf, withLists, listOf, listed, clearedBy}
 use Rattle.commands.specs.Writing.{Wire, wireOf}
 use Rattle.commands.specs.Writing.Wire.{body, raw}
 use Rattle.commands.proofs.Format.{Fit, Shaped}
 use Rattle.commands.proofs.CodeLaws.{manyToOne-back, status-back, associationStatus-back, reportIdentifier-back, updateIdentifier-back, timeout-back, timeoutStatus-back, powerType-back, commissioningType-back, isSet-bit, deviceType-back, powerSource-back}
-use Rattle.types.specs.declared.OptionEui64.{OptionEui64}
+use Rattle.types.specs.Addresses.{nwk, panId}
+use Rattle.types.specs.declared.{Nwk.Nwk, OptionEui64.OptionEui64, PanId.PanId}
 use Rattle.commands.specs.declared.{NwkCommandId.NwkCommandId, NwkCommand.NwkCommand, NwkCommandWithLists.NwkCommandWithLists, TypedBody.TypedBody, NwkRejoinCapabilityInformation.NwkRejoinCapabilityInformation, NwkRouteRequestCommand.NwkRouteRequestCommand, NwkRouteReplyCommand.NwkRouteReplyCommand, NwkLeaveCommand.NwkLeaveCommand, NwkLinkStatusCommand.NwkLinkStatusCommand, NwkNetworkReportCommand.NwkNetworkReportCommand, NwkLinkPowerDeltaCommand.NwkLinkPowerDeltaCommand, NwkLinkStatus.NwkLinkStatus, NwkPowerListEntry.NwkPowerListEntry, NwkNetworkStatusCommand.NwkNetworkStatusCommand, NwkRejoinRequestCommand.NwkRejoinRequestCommand, NwkRejoinResponseCommand.NwkRejoinResponseCommand, NwkNetworkUpdateCommand.NwkNetworkUpdateCommand, NwkEndDeviceTimeoutRequestCommand.NwkEndDeviceTimeoutRequestCommand, NwkNetworkCommissioningRequestCommand.NwkNetworkCommissioningRequestCommand, NwkNetworkCommissioningResponseCommand.NwkNetworkCommissioningResponseCommand, NwkEndDeviceTimeoutResponseCommand.NwkEndDeviceTimeoutResponseCommand}
 
 -- ---- lists
@@ -34,8 +35,21 @@ map-tab f g (suc n) = map-append f (tab g n) (g n ∷ []) ∙ ap (λ (l : List _
 none-shaped : (fs : List Field) → Shaped fs []
 none-shaped fs k h = absurd (not-suc-le-zero h)
 
-tab-shaped : (fs : List Field) (g : ℕ → List ℕ) (n : ℕ) → ((k : ℕ) → length (g k) ≡ widths fs) → Shaped fs (tab g n)
-tab-shaped fs g n h k l = ap length (getD-tab g n k [] (rw (length-tab g n) at l)) ∙ h k
+-- the first n entries of an array: how many they are, their shape, and what they mean
+module _ {A : Type 0} (entry : A → List ℕ) (d : A) (xs : List A) (n : ℕ) where
+  entries-count : n ≡ length (entriesOf entry d xs n)
+  entries-count = sym (length-tab (λ (k : ℕ). entry (getD xs k d)) n)
+
+  pub entries-shaped : (fs : List Field) → ((x : A) → length (entry x) ≡ widths fs) → Shaped fs (entriesOf entry d xs n)
+  entries-shaped fs h k l =
+      ap length (getD-tab (λ (j : ℕ). entry (getD xs j d)) n k [] (rw (length-tab (λ (j : ℕ). entry (getD xs j d)) n) at l)) ∙ h (getD xs k d)
+
+  entries-mean : (of : List ℕ → A) → ((x : A) → of (entry x) ≡ x) → (head : List ℕ) {v : Values}
+      → v ≡ record { head = head; entries = entriesOf entry d xs n } → map of (v .entries) ≡ firsts d xs n
+  unfolding firsts
+  entries-mean of h head e =
+      ap (λ (w : Values). map of (w .entries)) e ∙ map-tab of (λ (k : ℕ). entry (getD xs k d)) n
+      ∙ tab-ext _ _ n (λ k l. h (getD xs k d))
 
 -- ---- optional IEEE addresses
 
@@ -104,59 +118,91 @@ abbrev pub WireBack : NwkCommand → NwkCommandWithLists → Wire → Type 0
 WireBack c f (body id v) = Back c f id v
 WireBack c f (raw bs) = c ≡ NwkCommand.Unparsed
 
-routeRequest-back : (c : NwkRouteRequestCommand) (f : NwkCommandWithLists) → Back (NwkCommand.RouteRequest c) f NwkCommandId.RouteRequest (routeRequestValues c)
-unfolding formatOf commandOf listed clearedBy routeRequestFormat routeRequestOf routeRequestValues routeRequestBy partSizes keptCount size width sizes widths summed plus
+routeRequest-back : (c : NwkRouteRequestCommand) (f : NwkCommandWithLists)
+    → Back (NwkCommand.RouteRequest c) f NwkCommandId.RouteRequest (routeRequestValues c)
+unfolding formatOf commandOf listed clearedBy routeRequestFormat routeRequestOf routeRequestValues routeRequestBy
+    partSizes keptCount size width sizes widths summed plus
 routeRequest-back c f =
+    let a = c .«destination_eui64» in
     record {
-      fit = record { head = refl; count = address-count (c .«destination_eui64»); entries = address-shaped (routeRequestFormat .entry) (c .«destination_eui64») refl };
+      fit = record { head = refl; count = address-count a; entries = address-shaped (routeRequestFormat .entry) a refl };
       command =
           ap (λ k. routeRequestBy k (routeRequestValues c)) (manyToOne-back (c .«many_to_one»))
-          ∙ (λ i. TypedBody.Typed (NwkCommand.RouteRequest (record { «many_to_one» = c .«many_to_one»; «route_request_identifier» = c .«route_request_identifier»; «destination_address» = c .«destination_address»; «path_cost» = c .«path_cost»; «destination_eui64» = only-address (c .«destination_eui64») i })));
+          ∙ (λ i. TypedBody.Typed (NwkCommand.RouteRequest (record {
+            «many_to_one» = c .«many_to_one»;
+            «route_request_identifier» = c .«route_request_identifier»;
+            «destination_address» = c .«destination_address»;
+            «path_cost» = c .«path_cost»;
+            «destination_eui64» = only-address a i;
+          })));
       list = λ s e. refl;
     }
 
-routeReply-back : (c : NwkRouteReplyCommand) (f : NwkCommandWithLists) → Back (NwkCommand.RouteReply c) f NwkCommandId.RouteReply (routeReplyValues c)
-unfolding formatOf commandOf listed clearedBy routeReplyFormat routeReplyOf routeReplyValues partSizes keptCount size width sizes widths summed plus
+routeReply-back : (c : NwkRouteReplyCommand) (f : NwkCommandWithLists)
+    → Back (NwkCommand.RouteReply c) f NwkCommandId.RouteReply (routeReplyValues c)
+unfolding formatOf commandOf listed clearedBy routeReplyFormat routeReplyOf routeReplyValues
+    partSizes keptCount size width sizes widths summed plus
 routeReply-back c f =
+    let a = c .«originator_eui64» in
+    let b = c .«responder_eui64» in
     record {
-      fit = record { head = refl; count = addresses-count (c .«originator_eui64») (c .«responder_eui64»); entries = addresses-shaped (routeReplyFormat .entry) (c .«originator_eui64») (c .«responder_eui64») refl };
+      fit = record { head = refl; count = addresses-count a b; entries = addresses-shaped (routeReplyFormat .entry) a b refl };
       command =
-          (λ i. TypedBody.Typed (NwkCommand.RouteReply (record { «route_request_identifier» = c .«route_request_identifier»; «originator_nwk» = c .«originator_nwk»; «responder_nwk» = c .«responder_nwk»; «path_cost» = c .«path_cost»; «originator_eui64» = first-address (c .«originator_eui64») (addressEntry (c .«responder_eui64»)) i; «responder_eui64» = second-address (c .«originator_eui64») (c .«responder_eui64») i })));
+          λ i. TypedBody.Typed (NwkCommand.RouteReply (record {
+            «route_request_identifier» = c .«route_request_identifier»;
+            «originator_nwk» = c .«originator_nwk»;
+            «responder_nwk» = c .«responder_nwk»;
+            «path_cost» = c .«path_cost»;
+            «originator_eui64» = first-address a (addressEntry b) i;
+            «responder_eui64» = second-address a b i;
+          }));
       list = λ s e. refl;
     }
 
-networkStatus-back : (c : NwkNetworkStatusCommand) (f : NwkCommandWithLists) → Back (NwkCommand.NetworkStatus c) f NwkCommandId.NetworkStatus (networkStatusValues c)
-unfolding formatOf commandOf listed clearedBy networkStatusFormat networkStatusOf networkStatusValues networkStatusBy partSizes keptCount size width sizes widths summed plus
+networkStatus-back : (c : NwkNetworkStatusCommand) (f : NwkCommandWithLists)
+    → Back (NwkCommand.NetworkStatus c) f NwkCommandId.NetworkStatus (networkStatusValues c)
+unfolding formatOf commandOf listed clearedBy networkStatusFormat networkStatusOf networkStatusValues networkStatusBy
+    partSizes keptCount size width sizes widths summed plus
 networkStatus-back c f =
     record {
       fit = record { head = refl; count = refl; entries = none-shaped (networkStatusFormat .entry) };
-      command =
-          ap (λ k. networkStatusBy k (networkStatusValues c)) (status-back (c .«status_code»));
+      command = ap (λ k. networkStatusBy k (networkStatusValues c)) (status-back (c .«status_code»));
       list = λ s e. refl;
     }
 
-leave-back : (c : NwkLeaveCommand) (f : NwkCommandWithLists) → Back (NwkCommand.Leave c) f NwkCommandId.Leave (leaveValues c)
-unfolding formatOf commandOf listed clearedBy leaveFormat leaveOf leaveValues partSizes keptCount size width sizes widths summed plus
+leave-back : (c : NwkLeaveCommand) (f : NwkCommandWithLists)
+    → Back (NwkCommand.Leave c) f NwkCommandId.Leave (leaveValues c)
+unfolding formatOf commandOf listed clearedBy leaveFormat leaveOf leaveValues
+    partSizes keptCount size width sizes widths summed plus
 leave-back c f =
     record {
       fit = record { head = refl; count = refl; entries = none-shaped (leaveFormat .entry) };
       command =
-          λ i. TypedBody.Typed (NwkCommand.Leave (record { rejoin = isSet-bit (c .rejoin) i; request = isSet-bit (c .request) i; «remove_children» = isSet-bit (c .«remove_children») i }));
+          λ i. TypedBody.Typed (NwkCommand.Leave (record {
+            rejoin = isSet-bit (c .rejoin) i;
+            request = isSet-bit (c .request) i;
+            «remove_children» = isSet-bit (c .«remove_children») i;
+          }));
       list = λ s e. refl;
     }
 
-routeRecord-back : (f : NwkCommandWithLists) → Back NwkCommand.RouteRecord f NwkCommandId.RouteRecord (routeRecordValues (f .relays) (f .«relay_count»))
-unfolding formatOf commandOf listed clearedBy routeRecordFormat routeRecordOf routeRecordValues relayOf relayEntry firsts partSizes keptCount size width sizes widths summed plus
+routeRecord-back : (f : NwkCommandWithLists)
+    → Back NwkCommand.RouteRecord f NwkCommandId.RouteRecord (routeRecordValues (f .relays) (f .«relay_count»))
+unfolding formatOf commandOf listed clearedBy routeRecordFormat routeRecordOf routeRecordValues relayOf relayEntry
+    partSizes keptCount size width sizes widths summed plus
 routeRecord-back f =
+    let xs = f .relays in
+    let n = f .«relay_count» in
     record {
-      fit = record { head = refl; count = sym (length-tab (λ (k : ℕ). relayEntry (getD (f .relays) k 0)) (f .«relay_count»)); entries = tab-shaped (routeRecordFormat .entry) (λ (k : ℕ). relayEntry (getD (f .relays) k 0)) (f .«relay_count») (λ k. refl) };
-      command =
-          refl;
-      list = λ s e. ap (λ (x : List ℕ). withLists NwkCommand.RouteRecord x [] [] [] []) (ap (λ (v : Values). map relayOf (v .entries)) e ∙ map-tab relayOf (λ (k : ℕ). relayEntry (getD (f .relays) k 0)) (f .«relay_count»));
+      fit = record { head = refl; count = entries-count relayEntry noRelay xs n; entries = entries-shaped relayEntry noRelay xs n (routeRecordFormat .entry) (λ x. refl) };
+      command = refl;
+      list = λ s e. ap (λ (x : List Nwk). withLists NwkCommand.RouteRecord x [] [] [] []) (entries-mean relayEntry noRelay xs n relayOf (λ x. refl) _ e);
     }
 
-rejoinRequest-back : (c : NwkRejoinRequestCommand) (f : NwkCommandWithLists) → Back (NwkCommand.RejoinRequest c) f NwkCommandId.RejoinRequest (rejoinRequestValues c)
-unfolding formatOf commandOf listed clearedBy rejoinRequestFormat rejoinRequestOf rejoinRequestValues capabilityField capabilityValues partSizes keptCount size width sizes widths summed plus
+rejoinRequest-back : (c : NwkRejoinRequestCommand) (f : NwkCommandWithLists)
+    → Back (NwkCommand.RejoinRequest c) f NwkCommandId.RejoinRequest (rejoinRequestValues c)
+unfolding formatOf commandOf listed clearedBy rejoinRequestFormat rejoinRequestOf rejoinRequestValues capabilityField capabilityValues
+    partSizes keptCount size width sizes widths summed plus
 rejoinRequest-back c f =
     record {
       fit = record { head = refl; count = refl; entries = none-shaped (rejoinRequestFormat .entry) };
@@ -165,95 +211,124 @@ rejoinRequest-back c f =
       list = λ s e. refl;
     }
 
-rejoinResponse-back : (c : NwkRejoinResponseCommand) (f : NwkCommandWithLists) → Back (NwkCommand.RejoinResponse c) f NwkCommandId.RejoinResponse (rejoinResponseValues c)
-unfolding formatOf commandOf listed clearedBy rejoinResponseFormat rejoinResponseOf rejoinResponseValues rejoinResponseBy partSizes keptCount size width sizes widths summed plus
+rejoinResponse-back : (c : NwkRejoinResponseCommand) (f : NwkCommandWithLists)
+    → Back (NwkCommand.RejoinResponse c) f NwkCommandId.RejoinResponse (rejoinResponseValues c)
+unfolding formatOf commandOf listed clearedBy rejoinResponseFormat rejoinResponseOf rejoinResponseValues rejoinResponseBy
+    partSizes keptCount size width sizes widths summed plus
 rejoinResponse-back c f =
     record {
       fit = record { head = refl; count = refl; entries = none-shaped (rejoinResponseFormat .entry) };
-      command =
-          ap (λ k. rejoinResponseBy k (rejoinResponseValues c)) (associationStatus-back (c .«rejoin_status»));
+      command = ap (λ k. rejoinResponseBy k (rejoinResponseValues c)) (associationStatus-back (c .«rejoin_status»));
       list = λ s e. refl;
     }
 
-linkStatus-back : (c : NwkLinkStatusCommand) (f : NwkCommandWithLists) → Back (NwkCommand.LinkStatus c) f NwkCommandId.LinkStatus (linkStatusValues c (f .«link_statuses») (f .«link_statuses_len»))
-unfolding formatOf commandOf listed clearedBy linkStatusFormat linkStatusOf linkStatusValues linkOf linkEntry firsts partSizes keptCount size width sizes widths summed plus
+linkStatus-back : (c : NwkLinkStatusCommand) (f : NwkCommandWithLists)
+    → Back (NwkCommand.LinkStatus c) f NwkCommandId.LinkStatus (linkStatusValues c (f .«link_statuses») (f .«link_statuses_len»))
+unfolding formatOf commandOf listed clearedBy linkStatusFormat linkStatusOf linkStatusValues linkOf linkEntry
+    partSizes keptCount size width sizes widths summed plus
 linkStatus-back c f =
+    let xs = f .«link_statuses» in
+    let n = f .«link_statuses_len» in
     record {
-      fit = record { head = refl; count = sym (length-tab (λ (k : ℕ). linkEntry (getD (f .«link_statuses») k noLink)) (f .«link_statuses_len»)); entries = tab-shaped (linkStatusFormat .entry) (λ (k : ℕ). linkEntry (getD (f .«link_statuses») k noLink)) (f .«link_statuses_len») (λ k. refl) };
+      fit = record { head = refl; count = entries-count linkEntry noLink xs n; entries = entries-shaped linkEntry noLink xs n (linkStatusFormat .entry) (λ x. refl) };
       command =
-          λ i. TypedBody.Typed (NwkCommand.LinkStatus (record { «is_first_frame» = isSet-bit (c .«is_first_frame») i; «is_last_frame» = isSet-bit (c .«is_last_frame») i }));
-      list = λ s e. ap (λ (x : List NwkLinkStatus). withLists (NwkCommand.LinkStatus c) [] x [] [] []) (ap (λ (v : Values). map linkOf (v .entries)) e ∙ map-tab linkOf (λ (k : ℕ). linkEntry (getD (f .«link_statuses») k noLink)) (f .«link_statuses_len»));
+          λ i. TypedBody.Typed (NwkCommand.LinkStatus (record {
+            «is_first_frame» = isSet-bit (c .«is_first_frame») i;
+            «is_last_frame» = isSet-bit (c .«is_last_frame») i;
+          }));
+      list = λ s e. ap (λ (x : List NwkLinkStatus). withLists (NwkCommand.LinkStatus c) [] x [] [] []) (entries-mean linkEntry noLink xs n linkOf (λ x. refl) _ e);
     }
 
-networkReport-back : (c : NwkNetworkReportCommand) (f : NwkCommandWithLists) → Back (NwkCommand.NetworkReport c) f NwkCommandId.NetworkReport (networkReportValues c (f .«pan_ids») (f .«report_information_count»))
-unfolding formatOf commandOf listed clearedBy networkReportFormat networkReportOf networkReportValues networkReportBy relayOf relayEntry firsts partSizes keptCount size width sizes widths summed plus
+networkReport-back : (c : NwkNetworkReportCommand) (f : NwkCommandWithLists)
+    → Back (NwkCommand.NetworkReport c) f NwkCommandId.NetworkReport (networkReportValues c (f .«pan_ids») (f .«report_information_count»))
+unfolding formatOf commandOf listed clearedBy networkReportFormat networkReportOf networkReportValues networkReportBy panIdOf panIdEntry
+    partSizes keptCount size width sizes widths summed plus
 networkReport-back c f =
+    let xs = f .«pan_ids» in
+    let n = f .«report_information_count» in
     record {
-      fit = record { head = refl; count = sym (length-tab (λ (k : ℕ). relayEntry (getD (f .«pan_ids») k 0)) (f .«report_information_count»)); entries = tab-shaped (networkReportFormat .entry) (λ (k : ℕ). relayEntry (getD (f .«pan_ids») k 0)) (f .«report_information_count») (λ k. refl) };
-      command =
-          ap (λ k. networkReportBy k (networkReportValues c (f .«pan_ids») (f .«report_information_count»))) (reportIdentifier-back (c .«report_command_identifier»));
-      list = λ s e. ap (λ (x : List ℕ). withLists (NwkCommand.NetworkReport c) [] [] x [] []) (ap (λ (v : Values). map relayOf (v .entries)) e ∙ map-tab relayOf (λ (k : ℕ). relayEntry (getD (f .«pan_ids») k 0)) (f .«report_information_count»));
+      fit = record { head = refl; count = entries-count panIdEntry noPanId xs n; entries = entries-shaped panIdEntry noPanId xs n (networkReportFormat .entry) (λ x. refl) };
+      command = ap (λ k. networkReportBy k (networkReportValues c xs n)) (reportIdentifier-back (c .«report_command_identifier»));
+      list = λ s e. ap (λ (x : List PanId). withLists (NwkCommand.NetworkReport c) [] [] x [] []) (entries-mean panIdEntry noPanId xs n panIdOf (λ x. refl) _ e);
     }
 
-networkUpdate-back : (c : NwkNetworkUpdateCommand) (f : NwkCommandWithLists) → Back (NwkCommand.NetworkUpdate c) f NwkCommandId.NetworkUpdate (networkUpdateValues c)
-unfolding formatOf commandOf listed clearedBy networkUpdateFormat networkUpdateOf networkUpdateValues networkUpdateBy partSizes keptCount size width sizes widths summed plus
+networkUpdate-back : (c : NwkNetworkUpdateCommand) (f : NwkCommandWithLists)
+    → Back (NwkCommand.NetworkUpdate c) f NwkCommandId.NetworkUpdate (networkUpdateValues c)
+unfolding formatOf commandOf listed clearedBy networkUpdateFormat networkUpdateOf networkUpdateValues networkUpdateBy
+    partSizes keptCount size width sizes widths summed plus
 networkUpdate-back c f =
     record {
       fit = record { head = refl; count = refl; entries = none-shaped (networkUpdateFormat .entry) };
-      command =
-          ap (λ k. networkUpdateBy k (networkUpdateValues c)) (updateIdentifier-back (c .«update_command_identifier»));
+      command = ap (λ k. networkUpdateBy k (networkUpdateValues c)) (updateIdentifier-back (c .«update_command_identifier»));
       list = λ s e. refl;
     }
 
-timeoutRequest-back : (c : NwkEndDeviceTimeoutRequestCommand) (f : NwkCommandWithLists) → Back (NwkCommand.EndDeviceTimeoutRequest c) f NwkCommandId.EndDeviceTimeoutRequest (timeoutRequestValues c)
-unfolding formatOf commandOf listed clearedBy timeoutRequestFormat timeoutRequestOf timeoutRequestValues timeoutRequestBy partSizes keptCount size width sizes widths summed plus
+timeoutRequest-back : (c : NwkEndDeviceTimeoutRequestCommand) (f : NwkCommandWithLists)
+    → Back (NwkCommand.EndDeviceTimeoutRequest c) f NwkCommandId.EndDeviceTimeoutRequest (timeoutRequestValues c)
+unfolding formatOf commandOf listed clearedBy timeoutRequestFormat timeoutRequestOf timeoutRequestValues timeoutRequestBy
+    partSizes keptCount size width sizes widths summed plus
 timeoutRequest-back c f =
     record {
       fit = record { head = refl; count = refl; entries = none-shaped (timeoutRequestFormat .entry) };
-      command =
-          ap (λ k. timeoutRequestBy k (timeoutRequestValues c)) (timeout-back (c .«request_timeout_enum»));
+      command = ap (λ k. timeoutRequestBy k (timeoutRequestValues c)) (timeout-back (c .«request_timeout_enum»));
       list = λ s e. refl;
     }
 
-timeoutResponse-back : (c : NwkEndDeviceTimeoutResponseCommand) (f : NwkCommandWithLists) → Back (NwkCommand.EndDeviceTimeoutResponse c) f NwkCommandId.EndDeviceTimeoutResponse (timeoutResponseValues c)
-unfolding formatOf commandOf listed clearedBy timeoutResponseFormat timeoutResponseOf timeoutResponseValues timeoutResponseBy partSizes keptCount size width sizes widths summed plus
+timeoutResponse-back : (c : NwkEndDeviceTimeoutResponseCommand) (f : NwkCommandWithLists)
+    → Back (NwkCommand.EndDeviceTimeoutResponse c) f NwkCommandId.EndDeviceTimeoutResponse (timeoutResponseValues c)
+unfolding formatOf commandOf listed clearedBy timeoutResponseFormat timeoutResponseOf timeoutResponseValues timeoutResponseBy
+    partSizes keptCount size width sizes widths summed plus
 timeoutResponse-back c f =
     record {
       fit = record { head = refl; count = refl; entries = none-shaped (timeoutResponseFormat .entry) };
       command =
           ap (λ k. timeoutResponseBy k (timeoutResponseValues c)) (timeoutStatus-back (c .status))
-          ∙ (λ i. TypedBody.Typed (NwkCommand.EndDeviceTimeoutResponse (record { status = c .status; «mac_data_poll_keepalive_supported» = isSet-bit (c .«mac_data_poll_keepalive_supported») i; «end_device_timeout_request_keepalive_supported» = isSet-bit (c .«end_device_timeout_request_keepalive_supported») i; «power_negotation_support» = isSet-bit (c .«power_negotation_support») i })));
+          ∙ (λ i. TypedBody.Typed (NwkCommand.EndDeviceTimeoutResponse (record {
+            status = c .status;
+            «mac_data_poll_keepalive_supported» = isSet-bit (c .«mac_data_poll_keepalive_supported») i;
+            «end_device_timeout_request_keepalive_supported» = isSet-bit (c .«end_device_timeout_request_keepalive_supported») i;
+            «power_negotation_support» = isSet-bit (c .«power_negotation_support») i;
+          })));
       list = λ s e. refl;
     }
 
-linkPowerDelta-back : (c : NwkLinkPowerDeltaCommand) (f : NwkCommandWithLists) → Back (NwkCommand.LinkPowerDelta c) f NwkCommandId.LinkPowerDelta (linkPowerDeltaValues c (f .«power_list») (f .«list_count»))
-unfolding formatOf commandOf listed clearedBy linkPowerDeltaFormat linkPowerDeltaOf linkPowerDeltaValues linkPowerDeltaBy powerOf powerEntry firsts partSizes keptCount size width sizes widths summed plus
+linkPowerDelta-back : (c : NwkLinkPowerDeltaCommand) (f : NwkCommandWithLists)
+    → Back (NwkCommand.LinkPowerDelta c) f NwkCommandId.LinkPowerDelta (linkPowerDeltaValues c (f .«power_list») (f .«list_count»))
+unfolding formatOf commandOf listed clearedBy linkPowerDeltaFormat linkPowerDeltaOf linkPowerDeltaValues linkPowerDeltaBy powerOf powerEntry
+    partSizes keptCount size width sizes widths summed plus
 linkPowerDelta-back c f =
+    let xs = f .«power_list» in
+    let n = f .«list_count» in
     record {
-      fit = record { head = refl; count = sym (length-tab (λ (k : ℕ). powerEntry (getD (f .«power_list») k noPower)) (f .«list_count»)); entries = tab-shaped (linkPowerDeltaFormat .entry) (λ (k : ℕ). powerEntry (getD (f .«power_list») k noPower)) (f .«list_count») (λ k. refl) };
-      command =
-          ap (λ k. linkPowerDeltaBy k (linkPowerDeltaValues c (f .«power_list») (f .«list_count»))) (powerType-back (c .«command_type»));
-      list = λ s e. ap (λ (x : List NwkPowerListEntry). withLists (NwkCommand.LinkPowerDelta c) [] [] [] x []) (ap (λ (v : Values). map powerOf (v .entries)) e ∙ map-tab powerOf (λ (k : ℕ). powerEntry (getD (f .«power_list») k noPower)) (f .«list_count»));
+      fit = record { head = refl; count = entries-count powerEntry noPower xs n; entries = entries-shaped powerEntry noPower xs n (linkPowerDeltaFormat .entry) (λ x. refl) };
+      command = ap (λ k. linkPowerDeltaBy k (linkPowerDeltaValues c xs n)) (powerType-back (c .«command_type»));
+      list = λ s e. ap (λ (x : List NwkPowerListEntry). withLists (NwkCommand.LinkPowerDelta c) [] [] [] x []) (entries-mean powerEntry noPower xs n powerOf (λ x. refl) _ e);
     }
 
-commissioningRequest-back : (c : NwkNetworkCommissioningRequestCommand) (f : NwkCommandWithLists) → Back (NwkCommand.NetworkCommissioningRequest c) f NwkCommandId.NetworkCommissioningRequest (commissioningRequestValues c)
-unfolding formatOf commandOf listed clearedBy commissioningRequestFormat commissioningRequestOf commissioningRequestValues commissioningRequestBy capabilityField capabilityValues partSizes keptCount size width sizes widths summed plus
+commissioningRequest-back : (c : NwkNetworkCommissioningRequestCommand) (f : NwkCommandWithLists)
+    → Back (NwkCommand.NetworkCommissioningRequest c) f NwkCommandId.NetworkCommissioningRequest (commissioningRequestValues c)
+unfolding formatOf commandOf listed clearedBy commissioningRequestFormat commissioningRequestOf commissioningRequestValues commissioningRequestBy capabilityField capabilityValues
+    partSizes keptCount size width sizes widths summed plus
 commissioningRequest-back c f =
     record {
       fit = record { head = refl; count = refl; entries = none-shaped (commissioningRequestFormat .entry) };
       command =
           ap (λ k. commissioningRequestBy k (commissioningRequestValues c)) (commissioningType-back (c .«commissioning_type»))
-          ∙ (λ i. TypedBody.Typed (NwkCommand.NetworkCommissioningRequest (record { «commissioning_type» = c .«commissioning_type»; «capability_information» = capability-back (c .«capability_information») i })));
+          ∙ (λ i. TypedBody.Typed (NwkCommand.NetworkCommissioningRequest (record {
+            «commissioning_type» = c .«commissioning_type»;
+            «capability_information» = capability-back (c .«capability_information») i;
+          })));
       list = λ s e. refl;
     }
 
-commissioningResponse-back : (c : NwkNetworkCommissioningResponseCommand) (f : NwkCommandWithLists) → Back (NwkCommand.NetworkCommissioningResponse c) f NwkCommandId.NetworkCommissioningResponse (commissioningResponseValues c)
-unfolding formatOf commandOf listed clearedBy commissioningResponseFormat commissioningResponseOf commissioningResponseValues commissioningResponseBy partSizes keptCount size width sizes widths summed plus
+commissioningResponse-back : (c : NwkNetworkCommissioningResponseCommand) (f : NwkCommandWithLists)
+    → Back (NwkCommand.NetworkCommissioningResponse c) f NwkCommandId.NetworkCommissioningResponse (commissioningResponseValues c)
+unfolding formatOf commandOf listed clearedBy commissioningResponseFormat commissioningResponseOf commissioningResponseValues commissioningResponseBy
+    partSizes keptCount size width sizes widths summed plus
 commissioningResponse-back c f =
     record {
       fit = record { head = refl; count = refl; entries = none-shaped (commissioningResponseFormat .entry) };
-      command =
-          ap (λ k. commissioningResponseBy k (commissioningResponseValues c)) (associationStatus-back (c .status));
+      command = ap (λ k. commissioningResponseBy k (commissioningResponseValues c)) (associationStatus-back (c .status));
       list = λ s e. refl;
     }
 

@@ -36,6 +36,44 @@ first a b e = and-eq-true-iff a b .0 e .0
 pub second : (a b : Bool) → (a && b) ≡ true → b ≡ true
 second a b e = and-eq-true-iff a b .0 e .1
 
+-- ---- each value below what its field holds, as a product that computes
+
+infixr 4 _&_
+-- one fact and the rest of such a product
+pub _&_ : {A B : Type 0} → A → B → A × B
+a & b = (a, b)
+
+abbrev HoldParts : List Part → List ℕ → Type 0
+HoldParts [] vs = Unit {0}
+HoldParts (keep k ∷ ps) vs = (getD vs 0 0 < 2 ^ k) × HoldParts ps (drop 1 vs)
+HoldParts (skip k ∷ ps) vs = HoldParts ps vs
+
+abbrev HoldField : Field → List ℕ → Type 0
+HoldField byte vs = getD vs 0 0 < 256
+HoldField (number n) vs = getD vs 0 0 < 256 ^ n
+HoldField (bits ps) vs = HoldParts ps vs
+
+abbrev pub HoldFields : List Field → List ℕ → Type 0
+HoldFields [] vs = Unit {0}
+HoldFields (f ∷ fs) vs = HoldField f vs × HoldFields fs (drop (width f) vs)
+
+parts-hold : (ps : List Part) (vs : List ℕ) → HoldParts ps vs → heldParts ps vs ≡ true
+unfolding heldParts
+parts-hold [] vs h = refl
+parts-hold (keep k ∷ ps) vs h = both (lt-ltb _ _ (h .0)) (parts-hold ps (drop 1 vs) (h .1))
+parts-hold (skip k ∷ ps) vs h = parts-hold ps vs h
+
+field-holds : (f : Field) (vs : List ℕ) → HoldField f vs → heldField f vs ≡ true
+unfolding heldField
+field-holds byte vs h = lt-ltb _ _ h
+field-holds (number n) vs h = lt-ltb _ _ h
+field-holds (bits ps) vs h = parts-hold ps vs h
+
+pub fields-hold : (fs : List Field) (vs : List ℕ) → HoldFields fs vs → heldFields fs vs ≡ true
+unfolding heldFields
+fields-hold [] vs h = refl
+fields-hold (f ∷ fs) vs h = both (field-holds f vs (h .0)) (fields-hold fs (drop (width f) vs) (h .1))
+
 -- ---- the parts of a byte
 
 filled-held : (ps : List Part) (vs : List ℕ) → heldParts ps vs ≡ true → Held (partSizes ps) (filled ps vs)
@@ -159,7 +197,7 @@ length-writeEntries fs (e ∷ es) =
     length-append (writeFields fs e) _
     ∙ rw (length-writeFields fs e, length-writeEntries fs es, suc-mul (length es) (sizes fs)) (add-comm (sizes fs) (length es * sizes fs))
 
-entry-back : (fs : List Field) (es : List (List ℕ)) (k : ℕ) (p rest : List ℕ) → k < length es → Shaped fs es → heldEntries fs es ≡ true
+pub entry-back : (fs : List Field) (es : List (List ℕ)) (k : ℕ) (p rest : List ℕ) → k < length es → Shaped fs es → heldEntries fs es ≡ true
     → readFields fs (p ++ (writeEntries fs es ++ rest)) (length p + k * sizes fs) ≡ getD es k []
 unfolding writeEntries heldEntries
 entry-back fs [] k p rest h sh e = absurd (omega arith)
@@ -272,7 +310,13 @@ module _ (f : Format) (v : Values) (id : ℕ) (rest : List ℕ) (fit : Fit f v) 
   end-back =
       let a : announced f bytes ≡ length (v .entries) = announced-back in
       let n : ℕ = length (v .entries) * sizes (f .entry) in
-      rw (a, length-append (writeFields (f .head) (v .head) ++ writeEntries (f .entry) (v .entries)) rest, length-append (writeFields (f .head) (v .head)) (writeEntries (f .entry) (v .entries)), length-writeFields (f .head) (v .head), length-writeEntries (f .entry) (v .entries))
+      rw (
+        a,
+        length-append (bodyBytes f v) rest,
+        length-append (writeFields (f .head) (v .head)) (writeEntries (f .entry) (v .entries)),
+        length-writeFields (f .head) (v .head),
+        length-writeEntries (f .entry) (v .entries),
+      )
       (omega arith)
 
 -- how long a body is

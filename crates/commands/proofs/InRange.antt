@@ -6,19 +6,20 @@ use Prim.Native.Nat.{ℕ, zero, suc, _<_}
 use native.Mathlib.Omega.{arith}
 use lib.ListN.{length, getD}
 use borrow.Author.Needs.{needs}
-use mir.Syntax.{w16}
-use mir.Val.{Val, Fits}
+use mir.Val.{Val}
 use denote.Shadow.{shadow}
 use denote.Array.{each}
-use Rattle.commands.specs.Commands.{noPower}
+use Rattle.commands.specs.Commands.{noRelay, noPanId, noPower}
 use Rattle.commands.specs.Reading.{listOf}
 use Rattle.commands.specs.Writing.{wire, misfits}
-use Rattle.commands.proofs.Ranges.{InAddress, Ranged, RangedList, tooBig, misfits-is}
+use Rattle.commands.proofs.Ranges.{InAddress, InPower, Ranged, RangedList, tooBig, misfits-is}
+use Rattle.types.proofs.Nwk as nwk
 use Rattle.types.proofs.OptionEui64 as option-eui64
+use Rattle.types.proofs.PanId as pan-id
 use Rattle.commands.proofs.NwkCommand as nwk-command
 use Rattle.commands.proofs.NwkCommandWithLists as nwk-command-with-lists
 use Rattle.commands.proofs.NwkPowerListEntry as nwk-power-list-entry
-use Rattle.types.specs.declared.OptionEui64.{OptionEui64}
+use Rattle.types.specs.declared.{Nwk.Nwk, OptionEui64.OptionEui64, PanId.PanId}
 use Rattle.commands.specs.declared.{NwkCommand.NwkCommand, NwkCommandWithLists.NwkCommandWithLists, NwkCommandList.NwkCommandList, NwkPowerListEntry.NwkPowerListEntry}
 
 address-in : (a : OptionEui64) (vs : List Val) → shadow (option-eui64.the-row .own a vs) → InAddress a
@@ -43,10 +44,27 @@ command-in (NwkCommand.NetworkCommissioningRequest c) vs s = tt
 command-in (NwkCommand.NetworkCommissioningResponse c) vs s = omega arith
 command-in NwkCommand.Unparsed vs s = tt
 
+-- each relay, noRelay past the end
+relays-in : (xs : List Nwk) (us : List Val) → shadow (each (nwk.the-field .row .Denot) (nwk.the-field .row .own) (map (nwk.the-field .into) xs) us)
+    → (k : ℕ) → getD xs k noRelay .0 < 65536
+relays-in [] us s k = omega arith
+relays-in (x ∷ xs) [] s k = absurd s
+relays-in (x ∷ xs) (u ∷ us) s zero = omega arith
+relays-in (x ∷ xs) (u ∷ us) s (suc k) = relays-in xs us (s .1) k
+
+-- each PAN id, noPanId past the end
+panIds-in : (xs : List PanId) (us : List Val)
+    → shadow (each (pan-id.the-field .row .Denot) (pan-id.the-field .row .own) (map (pan-id.the-field .into) xs) us)
+    → (k : ℕ) → getD xs k noPanId .0 < 65536
+panIds-in [] us s k = omega arith
+panIds-in (x ∷ xs) [] s k = absurd s
+panIds-in (x ∷ xs) (u ∷ us) s zero = omega arith
+panIds-in (x ∷ xs) (u ∷ us) s (suc k) = panIds-in xs us (s .1) k
+
 -- each entry of the power list, noPower past the end
 powers-in : (xs : List NwkPowerListEntry) (us : List Val)
     → shadow (each (nwk-power-list-entry.the-field .row .Denot) (nwk-power-list-entry.the-field .row .own) (map (nwk-power-list-entry.the-field .into) xs) us)
-    → (k : ℕ) → (getD xs k noPower .«device_address» < 65536) × (getD xs k noPower .«power_delta» < 256)
+    → (k : ℕ) → InPower (getD xs k noPower)
 powers-in [] us s k = omega arith
 powers-in (x ∷ xs) [] s k = absurd s
 powers-in (x ∷ xs) (u ∷ us) s zero = omega arith
@@ -55,17 +73,17 @@ powers-in (x ∷ xs) (u ∷ us) s (suc k) = powers-in xs us (s .1) k
 -- a command's numbers and lists are within their types
 pub record InRange (f : NwkCommandWithLists) : Type 0 where
   pub command : Ranged (f .command)
-  pub relays : (k : ℕ) → getD (f .relays) k 0 < 65536
-  pub panIds : (k : ℕ) → getD (f .«pan_ids») k 0 < 65536
-  pub powers : (k : ℕ) → (getD (f .«power_list») k noPower .«device_address» < 65536) × (getD (f .«power_list») k noPower .«power_delta» < 256)
+  pub relays : (k : ℕ) → getD (f .relays) k noRelay .0 < 65536
+  pub panIds : (k : ℕ) → getD (f .«pan_ids») k noPanId .0 < 65536
+  pub powers : (k : ℕ) → InPower (getD (f .«power_list») k noPower)
   pub bytes : length (f .unparsed) ≡ 108
 
 pub in-range : (f : NwkCommandWithLists) (vs : List Val) → shadow (nwk-command-with-lists.the-row .own f vs) → InRange f
 in-range f vs s =
     record {
       command = search command-in;
-      relays = λ k. let h : Fits w16 (getD (f .relays) k 0) = search needs in h .fits;
-      panIds = λ k. let h : Fits w16 (getD (f .«pan_ids») k 0) = search needs in h .fits;
+      relays = relays-in (f .relays) _ (s .1 .1 .1 .1 .0 .1 .1);
+      panIds = panIds-in (f .«pan_ids») _ (s .1 .1 .1 .1 .1 .1 .1 .1 .0 .1 .1);
       powers = powers-in (f .«power_list») _ (s .1 .1 .1 .1 .1 .1 .1 .1 .1 .1 .0 .1 .1);
       bytes = search needs;
     }

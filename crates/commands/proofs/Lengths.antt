@@ -8,11 +8,10 @@ use Prim.Native.Nat.{ℕ, _+_, _*_, _≤_}
 use native.Mathlib.Omega.{arith}
 use borrow.Author.Tests.{ltb-false}
 use lib.Dec.{ltb}
-use lib.ListN.{length, getD, length-append}
+use lib.ListN.{length, length-append}
 use Rattle.octets.proofs.Conditions.{or-false}
-use Rattle.octets.specs.Strings.{tab}
 use Rattle.commands.specs.Format.{Values, size, sizes}
-use Rattle.commands.specs.Commands.{routeRequestFormat, routeRequestValues, routeReplyFormat, routeReplyValues, networkStatusFormat, networkStatusValues, leaveFormat, leaveValues, routeRecordFormat, routeRecordValues, rejoinRequestFormat, rejoinRequestValues, rejoinResponseFormat, rejoinResponseValues, linkStatusFormat, linkStatusValues, networkReportFormat, networkReportValues, networkUpdateFormat, networkUpdateValues, timeoutRequestFormat, timeoutRequestValues, timeoutResponseFormat, timeoutResponseValues, linkPowerDeltaFormat, linkPowerDeltaValues, commissioningRequestFormat, commissioningRequestValues, commissioningResponseFormat, commissioningResponseValues, capabilityField, addressEntry, relayEntry, linkEntry, noLink, powerEntry, noPower}
+use Rattle.commands.specs.Commands.{routeRequestFormat, routeRequestValues, routeReplyFormat, routeReplyValues, networkStatusFormat, networkStatusValues, leaveFormat, leaveValues, routeRecordFormat, routeRecordValues, rejoinRequestFormat, rejoinRequestValues, rejoinResponseFormat, rejoinResponseValues, linkStatusFormat, linkStatusValues, networkReportFormat, networkReportValues, networkUpdateFormat, networkUpdateValues, timeoutRequestFormat, timeoutRequestValues, timeoutResponseFormat, timeoutResponseValues, linkPowerDeltaFormat, linkPowerDeltaValues, commissioningRequestFormat, commissioningRequestValues, commissioningResponseFormat, commissioningResponseValues, capabilityField, addressEntry, relayEntries, linkEntries, panIdEntries, powerEntries}
 use Rattle.commands.specs.Reading.{formatOf, listOf}
 use Rattle.commands.specs.Writing.{wireOf, wireBytes, overPlaces, misfits}
 use Rattle.commands.specs.Writing.Wire.{body}
@@ -48,22 +47,36 @@ Typed NwkCommandList.PanIds = Unit {0}
 Typed NwkCommandList.PowerList = Unit {0}
 Typed NwkCommandList.Bytes = ⊥
 
+-- so many bytes behind the identifier
+short : (id : NwkCommandId) (v : Values) → wireLength id v ≤ 108 → length (wireBytes (body id v)) ≤ 108
+short id v h = rw (length-wire id v) h
+
 pub typed-short : (c : NwkCommand) (f : NwkCommandWithLists) → Typed (listOf c) → misfits (listOf c) (wireOf c f) ≡ false
     → length (wireBytes (wireOf c f)) ≤ 108
-unfolding wireOf misfits overPlaces formatOf size sizes routeRequestFormat routeRequestValues routeReplyFormat routeReplyValues networkStatusFormat networkStatusValues leaveFormat leaveValues routeRecordFormat routeRecordValues rejoinRequestFormat rejoinRequestValues rejoinResponseFormat rejoinResponseValues linkStatusFormat linkStatusValues networkReportFormat networkReportValues networkUpdateFormat networkUpdateValues timeoutRequestFormat timeoutRequestValues timeoutResponseFormat timeoutResponseValues linkPowerDeltaFormat linkPowerDeltaValues commissioningRequestFormat commissioningRequestValues commissioningResponseFormat commissioningResponseValues capabilityField
-typed-short (NwkCommand.RouteRequest c) f t e = rw (length-wire NwkCommandId.RouteRequest _) (let p = address-few (c .«destination_eui64») in omega arith)
-typed-short (NwkCommand.RouteReply c) f t e = rw (length-wire NwkCommandId.RouteReply _) (let p = addresses-few (c .«originator_eui64») (c .«responder_eui64») in omega arith)
-typed-short (NwkCommand.NetworkStatus c) f t e = rw (length-wire NwkCommandId.NetworkStatus _) (omega arith)
-typed-short (NwkCommand.Leave c) f t e = rw (length-wire NwkCommandId.Leave _) (omega arith)
-typed-short NwkCommand.RouteRecord f t e = rw (length-wire NwkCommandId.RouteRecord _) (let p = within 53 (length (tab (λ (k : ℕ). relayEntry (getD (f .relays) k 0)) (f .«relay_count»))) _ e in omega arith)
-typed-short (NwkCommand.RejoinRequest c) f t e = rw (length-wire NwkCommandId.RejoinRequest _) (omega arith)
-typed-short (NwkCommand.RejoinResponse c) f t e = rw (length-wire NwkCommandId.RejoinResponse _) (omega arith)
-typed-short (NwkCommand.LinkStatus c) f t e = rw (length-wire NwkCommandId.LinkStatus _) (let p = within 31 (length (tab (λ (k : ℕ). linkEntry (getD (f .«link_statuses») k noLink)) (f .«link_statuses_len»))) _ e in omega arith)
-typed-short (NwkCommand.NetworkReport c) f t e = rw (length-wire NwkCommandId.NetworkReport _) (let p = within 31 (length (tab (λ (k : ℕ). relayEntry (getD (f .«pan_ids») k 0)) (f .«report_information_count»))) _ e in omega arith)
-typed-short (NwkCommand.NetworkUpdate c) f t e = rw (length-wire NwkCommandId.NetworkUpdate _) (omega arith)
-typed-short (NwkCommand.EndDeviceTimeoutRequest c) f t e = rw (length-wire NwkCommandId.EndDeviceTimeoutRequest _) (omega arith)
-typed-short (NwkCommand.EndDeviceTimeoutResponse c) f t e = rw (length-wire NwkCommandId.EndDeviceTimeoutResponse _) (omega arith)
-typed-short (NwkCommand.LinkPowerDelta c) f t e = rw (length-wire NwkCommandId.LinkPowerDelta _) (let p = within 35 (length (tab (λ (k : ℕ). powerEntry (getD (f .«power_list») k noPower)) (f .«list_count»))) _ e in omega arith)
-typed-short (NwkCommand.NetworkCommissioningRequest c) f t e = rw (length-wire NwkCommandId.NetworkCommissioningRequest _) (omega arith)
-typed-short (NwkCommand.NetworkCommissioningResponse c) f t e = rw (length-wire NwkCommandId.NetworkCommissioningResponse _) (omega arith)
+unfolding wireOf misfits overPlaces formatOf size sizes capabilityField
+    routeRequestFormat routeRequestValues routeReplyFormat routeReplyValues networkStatusFormat networkStatusValues leaveFormat leaveValues
+    routeRecordFormat routeRecordValues rejoinRequestFormat rejoinRequestValues rejoinResponseFormat rejoinResponseValues
+    linkStatusFormat linkStatusValues networkReportFormat networkReportValues networkUpdateFormat networkUpdateValues
+    timeoutRequestFormat timeoutRequestValues timeoutResponseFormat timeoutResponseValues linkPowerDeltaFormat linkPowerDeltaValues
+    commissioningRequestFormat commissioningRequestValues commissioningResponseFormat commissioningResponseValues
+typed-short (NwkCommand.RouteRequest c) f t e = short NwkCommandId.RouteRequest _ (let p = address-few (c .«destination_eui64») in omega arith)
+typed-short (NwkCommand.RouteReply c) f t e =
+    short NwkCommandId.RouteReply _ (let p = addresses-few (c .«originator_eui64») (c .«responder_eui64») in omega arith)
+typed-short (NwkCommand.NetworkStatus c) f t e = short NwkCommandId.NetworkStatus _ (omega arith)
+typed-short (NwkCommand.Leave c) f t e = short NwkCommandId.Leave _ (omega arith)
+typed-short NwkCommand.RouteRecord f t e =
+    short NwkCommandId.RouteRecord _ (let p = within 53 (length (relayEntries (f .relays) (f .«relay_count»))) _ e in omega arith)
+typed-short (NwkCommand.RejoinRequest c) f t e = short NwkCommandId.RejoinRequest _ (omega arith)
+typed-short (NwkCommand.RejoinResponse c) f t e = short NwkCommandId.RejoinResponse _ (omega arith)
+typed-short (NwkCommand.LinkStatus c) f t e =
+    short NwkCommandId.LinkStatus _ (let p = within 31 (length (linkEntries (f .«link_statuses») (f .«link_statuses_len»))) _ e in omega arith)
+typed-short (NwkCommand.NetworkReport c) f t e =
+    short NwkCommandId.NetworkReport _ (let p = within 31 (length (panIdEntries (f .«pan_ids») (f .«report_information_count»))) _ e in omega arith)
+typed-short (NwkCommand.NetworkUpdate c) f t e = short NwkCommandId.NetworkUpdate _ (omega arith)
+typed-short (NwkCommand.EndDeviceTimeoutRequest c) f t e = short NwkCommandId.EndDeviceTimeoutRequest _ (omega arith)
+typed-short (NwkCommand.EndDeviceTimeoutResponse c) f t e = short NwkCommandId.EndDeviceTimeoutResponse _ (omega arith)
+typed-short (NwkCommand.LinkPowerDelta c) f t e =
+    short NwkCommandId.LinkPowerDelta _ (let p = within 35 (length (powerEntries (f .«power_list») (f .«list_count»))) _ e in omega arith)
+typed-short (NwkCommand.NetworkCommissioningRequest c) f t e = short NwkCommandId.NetworkCommissioningRequest _ (omega arith)
+typed-short (NwkCommand.NetworkCommissioningResponse c) f t e = short NwkCommandId.NetworkCommissioningResponse _ (omega arith)
 typed-short NwkCommand.Unparsed f t e = absurd t

@@ -17,13 +17,13 @@ use Rattle.octets.specs.Fields.{fields}
 use Rattle.octets.proofs.Strings.{length-tab, getD-tab, tab-ext, tab-getD}
 use Rattle.octets.proofs.Numbers.{leAt-lt}
 use Rattle.commands.specs.Format.{Format, partSizes, kept, size, sizes, readField, readFields, summed, plus, headEnd, announced, bodyEnd, values, heldEntries, heldFields, heldValues}
-use Rattle.commands.specs.Commands.{routeRequestFormat, routeRequestOf, routeReplyFormat, routeReplyOf, networkStatusFormat, networkStatusOf, leaveFormat, leaveOf, routeRecordFormat, routeRecordOf, rejoinRequestFormat, rejoinRequestOf, rejoinResponseFormat, rejoinResponseOf, linkStatusFormat, linkStatusOf, networkReportFormat, networkReportOf, networkUpdateFormat, networkUpdateOf, timeoutRequestFormat, timeoutRequestOf, timeoutResponseFormat, timeoutResponseOf, linkPowerDeltaFormat, linkPowerDeltaOf, commissioningRequestFormat, commissioningRequestOf, commissioningResponseFormat, commissioningResponseOf, routeRequestBy, networkStatusBy, rejoinResponseBy, networkReportBy, networkUpdateBy, timeoutRequestBy, timeoutResponseBy, linkPowerDeltaBy, commissioningRequestBy, commissioningResponseBy, addressOf, firsts, relayOf, linkOf, linkEntry, noLink, powerOf, noPower}
+use Rattle.commands.specs.Commands.{routeRequestFormat, routeRequestOf, routeReplyFormat, routeReplyOf, networkStatusFormat, networkStatusOf, leaveFormat, leaveOf, routeRecordFormat, routeRecordOf, rejoinRequestFormat, rejoinRequestOf, rejoinResponseFormat, rejoinResponseOf, linkStatusFormat, linkStatusOf, networkReportFormat, networkReportOf, networkUpdateFormat, networkUpdateOf, timeoutRequestFormat, timeoutRequestOf, timeoutResponseFormat, timeoutResponseOf, linkPowerDeltaFormat, linkPowerDeltaOf, commissioningRequestFormat, commissioningRequestOf, commissioningResponseFormat, commissioningResponseOf, routeRequestBy, networkStatusBy, rejoinResponseBy, networkReportBy, networkUpdateBy, timeoutRequestBy, timeoutResponseBy, linkPowerDeltaBy, commissioningRequestBy, commissioningResponseBy, addressOf, firsts, relayOf, noRelay, linkOf, linkEntry, linkEntries, noLink, panIdOf, noPanId, powerOf, noPower}
 use Rattle.commands.specs.Reading.{formatOf, commandOf, places, withLists, listOf, listed, clearedBy}
 use Rattle.commands.proofs.Format.{values-held, length-entries, second}
 use Rattle.commands.proofs.Commands.{map-tab}
-use Rattle.commands.proofs.Ranges.{InAddress, Ranged, RangedList, linkEntries, tooBig}
+use Rattle.commands.proofs.Ranges.{InAddress, InPower, Ranged, RangedList, linksHeld, tooBig}
 use Rattle.commands.proofs.Lengths.{Typed}
-use Rattle.types.specs.declared.OptionEui64.{OptionEui64}
+use Rattle.types.specs.declared.{Nwk.Nwk, OptionEui64.OptionEui64, PanId.PanId}
 use Rattle.commands.specs.declared.{NwkCommandId.NwkCommandId, NwkCommand.NwkCommand, NwkCommandList.NwkCommandList, TypedBody.TypedBody, NwkLinkStatus.NwkLinkStatus, NwkPowerListEntry.NwkPowerListEntry, NwkRouteRequestManyToOneCode.NwkRouteRequestManyToOneCode, NwkNetworkStatusCode.NwkNetworkStatusCode, Nwk802154AssociationStatusCode.Nwk802154AssociationStatusCode, NwkReportCommandIdentifierCode.NwkReportCommandIdentifierCode, NwkUpdateCommandIdentifierCode.NwkUpdateCommandIdentifierCode, EndDeviceTimeoutCode.EndDeviceTimeoutCode, NwkEndDeviceTimeoutResponseStatusCode.NwkEndDeviceTimeoutResponseStatusCode, NwkLinkPowerDeltaTypeCode.NwkLinkPowerDeltaTypeCode, NwkCommissioningTypeCode.NwkCommissioningTypeCode}
 
 -- ---- the places of an array
@@ -54,11 +54,11 @@ pub cleared-read : (k : NwkCommandList) (c : NwkCommand) (s : List ℕ) → clea
 unfolding clearedBy listed withLists firsts tab
 cleared-read NwkCommandList.NoList c s = refl
 cleared-read NwkCommandList.Relays c s =
-    ap (λ (x : List ℕ). withLists c x [] [] [] []) (firsts-places 0 53 (map relayOf (values routeRecordFormat s .entries)))
+    ap (λ (x : List Nwk). withLists c x [] [] [] []) (firsts-places noRelay 53 (map relayOf (values routeRecordFormat s .entries)))
 cleared-read NwkCommandList.LinkStatuses c s =
     ap (λ (x : List NwkLinkStatus). withLists c [] x [] [] []) (firsts-places noLink 31 (map linkOf (values linkStatusFormat s .entries)))
 cleared-read NwkCommandList.PanIds c s =
-    ap (λ (x : List ℕ). withLists c [] [] x [] []) (firsts-places 0 31 (map relayOf (values networkReportFormat s .entries)))
+    ap (λ (x : List PanId). withLists c [] [] x [] []) (firsts-places noPanId 31 (map panIdOf (values networkReportFormat s .entries)))
 cleared-read NwkCommandList.PowerList c s =
     ap (λ (x : List NwkPowerListEntry). withLists c [] [] [] x []) (firsts-places noPower 35 (map powerOf (values linkPowerDeltaFormat s .entries)))
 cleared-read NwkCommandList.Bytes c s = refl
@@ -69,13 +69,15 @@ cleared-read NwkCommandList.Bytes c s = refl
 abbrev pub entryAt : Format → List ℕ → ℕ → List ℕ
 entryAt f s k = readFields (f .entry) s (headEnd f + k * sizes (f .entry))
 
--- its first value is a number of two bytes
-number-read : (f : Format) (s : List ℕ) (k : ℕ) → Below 256 s → (f .entry ≡ routeRecordFormat .entry) → relayOf (entryAt f s k) < 65536
+relay-read : (s : List ℕ) (k : ℕ) → Below 256 s → relayOf (entryAt routeRecordFormat s k) .0 < 65536
 unfolding relayOf routeRecordFormat readFields readField
-number-read f s k b e = rw e (leAt-lt 2 s _ b)
+relay-read s k b = leAt-lt 2 s _ b
 
-power-read : (s : List ℕ) (k : ℕ) → Below 256 s
-    → (powerOf (entryAt linkPowerDeltaFormat s k) .«device_address» < 65536) × (powerOf (entryAt linkPowerDeltaFormat s k) .«power_delta» < 256)
+panId-read : (s : List ℕ) (k : ℕ) → Below 256 s → panIdOf (entryAt networkReportFormat s k) .0 < 65536
+unfolding panIdOf networkReportFormat readFields readField
+panId-read s k b = leAt-lt 2 s _ b
+
+power-read : (s : List ℕ) (k : ℕ) → Below 256 s → InPower (powerOf (entryAt linkPowerDeltaFormat s k))
 unfolding powerOf linkPowerDeltaFormat readFields readField
 power-read s k b = (leAt-lt 2 s _ b, b _)
 
@@ -108,15 +110,15 @@ Good k c s = RangedList k (listed k c s) × (tooBig k c (listed k c s) ≡ false
 relays-read : (c : NwkCommand) (s : List ℕ) → Below 256 s → length s ≤ 108 → bodyEnd routeRecordFormat s ≤ length s → Good NwkCommandList.Relays c s
 unfolding listed withLists values tooBig
 relays-read c s b short whole = (
-  (λ k h. rw (entry-read relayOf (entryAt routeRecordFormat s) (announced routeRecordFormat s) 0 53 k h) (number-read routeRecordFormat s k b refl)),
+  (λ k h. rw (entry-read relayOf (entryAt routeRecordFormat s) (announced routeRecordFormat s) noRelay 53 k h) (relay-read s k b)),
   rw (length-read relayOf routeRecordFormat s) (le-ltb 53 _ (few-relays s whole short)),
 )
 
 panIds-read : (c : NwkCommand) (s : List ℕ) → Below 256 s → Good NwkCommandList.PanIds c s
-unfolding listed withLists values tooBig networkReportFormat routeRecordFormat
+unfolding listed withLists values tooBig
 panIds-read c s b = (
-  (λ k h. rw (entry-read relayOf (entryAt networkReportFormat s) (announced networkReportFormat s) 0 31 k h) (number-read networkReportFormat s k b refl)),
-  rw (length-read relayOf networkReportFormat s) (le-ltb 31 _ (few-panIds s)),
+  (λ k h. rw (entry-read panIdOf (entryAt networkReportFormat s) (announced networkReportFormat s) noPanId 31 k h) (panId-read s k b)),
+  rw (length-read panIdOf networkReportFormat s) (le-ltb 31 _ (few-panIds s)),
 )
 
 powers-read : (c : NwkCommand) (s : List ℕ) → Below 256 s → length s ≤ 108 → bodyEnd linkPowerDeltaFormat s ≤ length s → Good NwkCommandList.PowerList c s
@@ -127,7 +129,8 @@ powers-read c s b short whole = (
 )
 
 -- the entries to write are those that were read
-links-same : (c : NwkCommand) (s : List ℕ) → linkEntries (listed NwkCommandList.LinkStatuses c s) ≡ values linkStatusFormat s .entries
+links-same : (c : NwkCommand) (s : List ℕ) → let f = listed NwkCommandList.LinkStatuses c s in
+    linkEntries (f .«link_statuses») (f .«link_statuses_len») ≡ values linkStatusFormat s .entries
 unfolding listed withLists values
 links-same c s =
     tab-ext _ (entryAt linkStatusFormat s) (length (map linkOf (tab (entryAt linkStatusFormat s) (announced linkStatusFormat s))))
@@ -191,7 +194,9 @@ routeRequest-writable NwkRouteRequestManyToOneCode.Unknown s b = tt
 
 routeReply-writable : (s : List ℕ) → Below 256 s → Writable s (routeReplyOf (values routeReplyFormat s))
 unfolding routeReplyOf routeReplyFormat routeRequestFormat tooBig values readFields readField kept partSizes fields size
-routeReply-writable s b = (tt, (b 2, leAt-lt 2 s 3 b, leAt-lt 2 s 5 b, b 7, addressOf-in _ _ (address-read routeReplyFormat s 0 b refl), addressOf-in _ _ (address-read routeReplyFormat s _ b refl)), (tt, refl))
+routeReply-writable s b =
+    let first = addressOf-in _ _ (address-read routeReplyFormat s 0 b refl) in
+    (tt, (b 2, leAt-lt 2 s 3 b, leAt-lt 2 s 5 b, b 7, first, addressOf-in _ _ (address-read routeReplyFormat s _ b refl)), (tt, refl))
 
 networkStatus-writable : (k : NwkNetworkStatusCode) (s : List ℕ) → Below 256 s → Writable s (networkStatusBy k (values networkStatusFormat s))
 unfolding networkStatusBy networkStatusFormat tooBig values readFields readField kept partSizes fields size
@@ -239,7 +244,8 @@ unfolding timeoutResponseBy timeoutResponseFormat tooBig values readFields readF
 timeoutResponse-writable (NwkEndDeviceTimeoutResponseStatusCode.Known k) s b = (tt, tt, (tt, refl))
 timeoutResponse-writable NwkEndDeviceTimeoutResponseStatusCode.Unknown s b = tt
 
-linkPowerDelta-writable : (k : NwkLinkPowerDeltaTypeCode) (s : List ℕ) → Below 256 s → length s ≤ 108 → bodyEnd linkPowerDeltaFormat s ≤ length s → Writable s (linkPowerDeltaBy k (values linkPowerDeltaFormat s))
+linkPowerDelta-writable : (k : NwkLinkPowerDeltaTypeCode) (s : List ℕ) → Below 256 s → length s ≤ 108
+    → bodyEnd linkPowerDeltaFormat s ≤ length s → Writable s (linkPowerDeltaBy k (values linkPowerDeltaFormat s))
 unfolding linkPowerDeltaBy linkPowerDeltaFormat values readFields readField kept partSizes fields size
 linkPowerDelta-writable (NwkLinkPowerDeltaTypeCode.Known k) s b short whole = (tt, tt, powers-read _ s b short whole)
 linkPowerDelta-writable NwkLinkPowerDeltaTypeCode.Unknown s b short whole = tt
@@ -256,7 +262,8 @@ commissioningResponse-writable Nwk802154AssociationStatusCode.Unknown s b = tt
 
 pub writable : (id : NwkCommandId) (s : List ℕ) → Below 256 s → length s ≤ 108 → bodyEnd (formatOf id) s ≤ length s
     → Writable s (commandOf id (values (formatOf id) s))
-unfolding formatOf commandOf routeRequestOf networkStatusOf rejoinResponseOf networkReportOf networkUpdateOf timeoutRequestOf timeoutResponseOf linkPowerDeltaOf commissioningRequestOf commissioningResponseOf
+unfolding formatOf commandOf routeRequestOf networkStatusOf rejoinResponseOf networkReportOf networkUpdateOf timeoutRequestOf
+    timeoutResponseOf linkPowerDeltaOf commissioningRequestOf commissioningResponseOf
 writable NwkCommandId.RouteRequest s b short whole = routeRequest-writable _ s b
 writable NwkCommandId.RouteReply s b short whole = routeReply-writable s b
 writable NwkCommandId.NetworkStatus s b short whole = networkStatus-writable _ s b

@@ -28,7 +28,11 @@ commandIdCode NwkCommandId.NetworkCommissioningResponse = 0x0F
 
 unfoldable pub commandIds : List NwkCommandId
 commandIds =
-    NwkCommandId.RouteRequest ∷ NwkCommandId.RouteReply ∷ NwkCommandId.NetworkStatus ∷ NwkCommandId.Leave ∷ NwkCommandId.RouteRecord ∷ NwkCommandId.RejoinRequest ∷ NwkCommandId.RejoinResponse ∷ NwkCommandId.LinkStatus ∷ NwkCommandId.NetworkReport ∷ NwkCommandId.NetworkUpdate ∷ NwkCommandId.EndDeviceTimeoutRequest ∷ NwkCommandId.EndDeviceTimeoutResponse ∷ NwkCommandId.LinkPowerDelta ∷ NwkCommandId.NetworkCommissioningRequest ∷ NwkCommandId.NetworkCommissioningResponse ∷ []
+    NwkCommandId.RouteRequest ∷ NwkCommandId.RouteReply ∷ NwkCommandId.NetworkStatus ∷ NwkCommandId.Leave
+    ∷ NwkCommandId.RouteRecord ∷ NwkCommandId.RejoinRequest ∷ NwkCommandId.RejoinResponse ∷ NwkCommandId.LinkStatus
+    ∷ NwkCommandId.NetworkReport ∷ NwkCommandId.NetworkUpdate ∷ NwkCommandId.EndDeviceTimeoutRequest
+    ∷ NwkCommandId.EndDeviceTimeoutResponse ∷ NwkCommandId.LinkPowerDelta ∷ NwkCommandId.NetworkCommissioningRequest
+    ∷ NwkCommandId.NetworkCommissioningResponse ∷ []
 
 unfoldable pub commandIdOf : ℕ → NwkCommandIdCode
 commandIdOf n = cond (eqb n 0) NwkCommandIdCode.Unknown (cond (leb n 15) (NwkCommandIdCode.Known (getD commandIds (n - 1) NwkCommandId.RouteRequest)) NwkCommandIdCode.Unknown)
@@ -42,7 +46,8 @@ manyToOneCode NwkRouteRequestManyToOne.Reserved = 3
 
 unfoldable pub manyToOnes : List NwkRouteRequestManyToOne
 manyToOnes =
-    NwkRouteRequestManyToOne.NotManyToOne ∷ NwkRouteRequestManyToOne.ManyToOneSenderSupportsRouteRecordTable ∷ NwkRouteRequestManyToOne.ManyToOneSenderDoesntSupportRouteRecordTable ∷ NwkRouteRequestManyToOne.Reserved ∷ []
+    NwkRouteRequestManyToOne.NotManyToOne ∷ NwkRouteRequestManyToOne.ManyToOneSenderSupportsRouteRecordTable
+    ∷ NwkRouteRequestManyToOne.ManyToOneSenderDoesntSupportRouteRecordTable ∷ NwkRouteRequestManyToOne.Reserved ∷ []
 
 unfoldable pub manyToOneOf : ℕ → NwkRouteRequestManyToOneCode
 manyToOneOf n = cond (ltb n 4) (NwkRouteRequestManyToOneCode.Known (getD manyToOnes n NwkRouteRequestManyToOne.NotManyToOne)) NwkRouteRequestManyToOneCode.Unknown
@@ -73,7 +78,14 @@ statusCode NwkNetworkStatus.PanIdConflictReport = 0x14
 
 unfoldable pub statuses : List NwkNetworkStatus
 statuses =
-    NwkNetworkStatus.LegacyNoRouteAvailable ∷ NwkNetworkStatus.LegacyLinkFailure ∷ NwkNetworkStatus.LinkFailure ∷ NwkNetworkStatus.LowBatteryLevel ∷ NwkNetworkStatus.NoRoutingCapacity ∷ NwkNetworkStatus.NoIndirectCapacity ∷ NwkNetworkStatus.IndirectTransactionExpiry ∷ NwkNetworkStatus.TargetDeviceUnavailable ∷ NwkNetworkStatus.TargetAddressUnallocated ∷ NwkNetworkStatus.ParentLinkFailure ∷ NwkNetworkStatus.ValidateRoute ∷ NwkNetworkStatus.SourceRouteFailure ∷ NwkNetworkStatus.ManyToOneRouteFailure ∷ NwkNetworkStatus.AddressConflict ∷ NwkNetworkStatus.VerifyAddresses ∷ NwkNetworkStatus.PanIdentifierUpdate ∷ NwkNetworkStatus.NetworkAddressUpdate ∷ NwkNetworkStatus.BadFrameCounter ∷ NwkNetworkStatus.BadKeySequenceNumber ∷ NwkNetworkStatus.UnknownCommand ∷ NwkNetworkStatus.PanIdConflictReport ∷ []
+    NwkNetworkStatus.LegacyNoRouteAvailable ∷ NwkNetworkStatus.LegacyLinkFailure ∷ NwkNetworkStatus.LinkFailure
+    ∷ NwkNetworkStatus.LowBatteryLevel ∷ NwkNetworkStatus.NoRoutingCapacity ∷ NwkNetworkStatus.NoIndirectCapacity
+    ∷ NwkNetworkStatus.IndirectTransactionExpiry ∷ NwkNetworkStatus.TargetDeviceUnavailable
+    ∷ NwkNetworkStatus.TargetAddressUnallocated ∷ NwkNetworkStatus.ParentLinkFailure ∷ NwkNetworkStatus.ValidateRoute
+    ∷ NwkNetworkStatus.SourceRouteFailure ∷ NwkNetworkStatus.ManyToOneRouteFailure ∷ NwkNetworkStatus.AddressConflict
+    ∷ NwkNetworkStatus.VerifyAddresses ∷ NwkNetworkStatus.PanIdentifierUpdate ∷ NwkNetworkStatus.NetworkAddressUpdate
+    ∷ NwkNetworkStatus.BadFrameCounter ∷ NwkNetworkStatus.BadKeySequenceNumber ∷ NwkNetworkStatus.UnknownCommand
+    ∷ NwkNetworkStatus.PanIdConflictReport ∷ []
 
 unfoldable pub statusOf : ℕ → NwkNetworkStatusCode
 statusOf n = cond (ltb n 21) (NwkNetworkStatusCode.Known (getD statuses n NwkNetworkStatus.LegacyNoRouteAvailable)) NwkNetworkStatusCode.Unknown
@@ -89,12 +101,15 @@ associationStatusCode Nwk802154AssociationStatus.ZigbeeAddressConflict = 0xF0
 
 unfoldable pub associationStatuses : List Nwk802154AssociationStatus
 associationStatuses =
-    Nwk802154AssociationStatus.AssociationSuccessful ∷ Nwk802154AssociationStatus.PanAtCapacity ∷ Nwk802154AssociationStatus.PanAccessDenied ∷ Nwk802154AssociationStatus.HoppingSequenceOffsetDuplication ∷ []
+    Nwk802154AssociationStatus.AssociationSuccessful ∷ Nwk802154AssociationStatus.PanAtCapacity
+    ∷ Nwk802154AssociationStatus.PanAccessDenied ∷ Nwk802154AssociationStatus.HoppingSequenceOffsetDuplication ∷ []
 
 unfoldable pub associationStatusOf : ℕ → Nwk802154AssociationStatusCode
 associationStatusOf n =
     cond (ltb n 4) (Nwk802154AssociationStatusCode.Known (getD associationStatuses n Nwk802154AssociationStatus.AssociationSuccessful))
-    (cond (eqb n 0x80) (Nwk802154AssociationStatusCode.Known Nwk802154AssociationStatus.FastAssociationSuccessful) (cond (eqb n 0xF0) (Nwk802154AssociationStatusCode.Known Nwk802154AssociationStatus.ZigbeeAddressConflict) Nwk802154AssociationStatusCode.Unknown))
+    (cond (eqb n 0x80) (Nwk802154AssociationStatusCode.Known Nwk802154AssociationStatus.FastAssociationSuccessful)
+    (cond (eqb n 0xF0) (Nwk802154AssociationStatusCode.Known Nwk802154AssociationStatus.ZigbeeAddressConflict)
+    Nwk802154AssociationStatusCode.Unknown))
 
 -- 3.4.9: report command identifier
 abbrev pub reportIdentifierCode : NwkReportCommandIdentifier → ℕ
@@ -130,7 +145,10 @@ timeoutCode EndDeviceTimeout.Minutes16384 = 14
 
 unfoldable pub timeouts : List EndDeviceTimeout
 timeouts =
-    EndDeviceTimeout.Seconds10 ∷ EndDeviceTimeout.Minutes2 ∷ EndDeviceTimeout.Minutes4 ∷ EndDeviceTimeout.Minutes8 ∷ EndDeviceTimeout.Minutes16 ∷ EndDeviceTimeout.Minutes32 ∷ EndDeviceTimeout.Minutes64 ∷ EndDeviceTimeout.Minutes128 ∷ EndDeviceTimeout.Minutes256 ∷ EndDeviceTimeout.Minutes512 ∷ EndDeviceTimeout.Minutes1024 ∷ EndDeviceTimeout.Minutes2048 ∷ EndDeviceTimeout.Minutes4096 ∷ EndDeviceTimeout.Minutes8192 ∷ EndDeviceTimeout.Minutes16384 ∷ []
+    EndDeviceTimeout.Seconds10 ∷ EndDeviceTimeout.Minutes2 ∷ EndDeviceTimeout.Minutes4 ∷ EndDeviceTimeout.Minutes8
+    ∷ EndDeviceTimeout.Minutes16 ∷ EndDeviceTimeout.Minutes32 ∷ EndDeviceTimeout.Minutes64 ∷ EndDeviceTimeout.Minutes128
+    ∷ EndDeviceTimeout.Minutes256 ∷ EndDeviceTimeout.Minutes512 ∷ EndDeviceTimeout.Minutes1024 ∷ EndDeviceTimeout.Minutes2048
+    ∷ EndDeviceTimeout.Minutes4096 ∷ EndDeviceTimeout.Minutes8192 ∷ EndDeviceTimeout.Minutes16384 ∷ []
 
 unfoldable pub timeoutOf : ℕ → EndDeviceTimeoutCode
 timeoutOf n = cond (ltb n 15) (EndDeviceTimeoutCode.Known (getD timeouts n EndDeviceTimeout.Seconds10)) EndDeviceTimeoutCode.Unknown
@@ -143,7 +161,8 @@ timeoutStatusCode NwkEndDeviceTimeoutResponseStatus.UnsupportedFeature = 2
 
 unfoldable pub timeoutStatuses : List NwkEndDeviceTimeoutResponseStatus
 timeoutStatuses =
-    NwkEndDeviceTimeoutResponseStatus.Success ∷ NwkEndDeviceTimeoutResponseStatus.IncorrectValue ∷ NwkEndDeviceTimeoutResponseStatus.UnsupportedFeature ∷ []
+    NwkEndDeviceTimeoutResponseStatus.Success ∷ NwkEndDeviceTimeoutResponseStatus.IncorrectValue
+    ∷ NwkEndDeviceTimeoutResponseStatus.UnsupportedFeature ∷ []
 
 unfoldable pub timeoutStatusOf : ℕ → NwkEndDeviceTimeoutResponseStatusCode
 timeoutStatusOf n = cond (ltb n 3) (NwkEndDeviceTimeoutResponseStatusCode.Known (getD timeoutStatuses n NwkEndDeviceTimeoutResponseStatus.Success)) NwkEndDeviceTimeoutResponseStatusCode.Unknown

@@ -8,12 +8,14 @@ use mathlib.Core.List.{List, [], _∷_, _++_}
 use lib.ListN.{getD, drop}
 use lib.Dec.{eqb}
 use Rattle.octets.specs.Strings.{tab}
+use Rattle.octets.specs.Numbers.{leAt}
 use Rattle.octets.specs.Fields.{bit}
 use Rattle.commands.specs.Codes.{manyToOneCode, manyToOneOf, statusCode, statusOf, associationStatusCode, associationStatusOf, reportIdentifierCode, reportIdentifierOf, updateIdentifierCode, updateIdentifierOf, timeoutCode, timeoutOf, timeoutStatusCode, timeoutStatusOf, powerTypeCode, powerTypeOf, commissioningTypeCode, commissioningTypeOf, isSet, deviceTypeBit, deviceTypeOf, powerSourceBit, powerSourceOf}
 use Rattle.commands.specs.Format.{Field, Format, Values, readFields}
 use Rattle.commands.specs.Format.Part.{keep, skip}
 use Rattle.commands.specs.Format.Field.{byte, number, bits}
-use Rattle.types.specs.declared.OptionEui64.{OptionEui64}
+use Rattle.types.specs.Addresses.{nwk, panId}
+use Rattle.types.specs.declared.{Nwk.Nwk, OptionEui64.OptionEui64, PanId.PanId}
 use Rattle.commands.specs.declared.{NwkRouteRequestCommand.NwkRouteRequestCommand, NwkRouteReplyCommand.NwkRouteReplyCommand, NwkNetworkStatusCommand.NwkNetworkStatusCommand, NwkLeaveCommand.NwkLeaveCommand, NwkRejoinCapabilityInformation.NwkRejoinCapabilityInformation, NwkRejoinRequestCommand.NwkRejoinRequestCommand, NwkRejoinResponseCommand.NwkRejoinResponseCommand, NwkLinkStatusCommand.NwkLinkStatusCommand, NwkLinkStatus.NwkLinkStatus, NwkNetworkReportCommand.NwkNetworkReportCommand, NwkNetworkUpdateCommand.NwkNetworkUpdateCommand, NwkEndDeviceTimeoutRequestCommand.NwkEndDeviceTimeoutRequestCommand, NwkEndDeviceTimeoutResponseCommand.NwkEndDeviceTimeoutResponseCommand, NwkLinkPowerDeltaCommand.NwkLinkPowerDeltaCommand, NwkPowerListEntry.NwkPowerListEntry, NwkNetworkCommissioningRequestCommand.NwkNetworkCommissioningRequestCommand, NwkNetworkCommissioningResponseCommand.NwkNetworkCommissioningResponseCommand, NwkRouteRequestManyToOneCode.NwkRouteRequestManyToOneCode, NwkNetworkStatusCode.NwkNetworkStatusCode, Nwk802154AssociationStatusCode.Nwk802154AssociationStatusCode, NwkReportCommandIdentifierCode.NwkReportCommandIdentifierCode, NwkUpdateCommandIdentifierCode.NwkUpdateCommandIdentifierCode, EndDeviceTimeoutCode.EndDeviceTimeoutCode, NwkEndDeviceTimeoutResponseStatusCode.NwkEndDeviceTimeoutResponseStatusCode, NwkLinkPowerDeltaTypeCode.NwkLinkPowerDeltaTypeCode, NwkCommissioningTypeCode.NwkCommissioningTypeCode, NwkCommand.NwkCommand, TypedBody.TypedBody}
 
 -- a body without entries
@@ -47,6 +49,10 @@ addressOf b x = cond (eqb b 1) (OptionEui64.Present x) OptionEui64.Absent
 unfoldable pub firsts : {A : Type 0} → A → List A → ℕ → List A
 firsts d xs n = tab (λ (k : ℕ). getD xs k d) n
 
+-- the values of the first n entries of an array, each by its own function
+abbrev pub entriesOf : {A : Type 0} → (A → List ℕ) → A → List A → ℕ → List (List ℕ)
+entriesOf entry d xs n = tab (λ (k : ℕ). entry (getD xs k d)) n
+
 -- ---- 3.4.1 Route Request
 
 unfoldable pub routeRequestFormat : Format
@@ -60,7 +66,13 @@ routeRequestFormat =
 -- the values: many-to-one, has destination IEEE, route request identifier, destination address, path cost
 unfoldable pub routeRequestBy : NwkRouteRequestManyToOneCode → Values → TypedBody
 routeRequestBy (NwkRouteRequestManyToOneCode.Known code) v =
-    TypedBody.Typed (NwkCommand.RouteRequest (record { «many_to_one» = code; «route_request_identifier» = at v 2; «destination_address» = at v 3; «path_cost» = at v 4; «destination_eui64» = addressOf (at v 1) (entryAt v 0) }))
+    TypedBody.Typed (NwkCommand.RouteRequest (record {
+      «many_to_one» = code;
+      «route_request_identifier» = at v 2;
+      «destination_address» = nwk (at v 3);
+      «path_cost» = at v 4;
+      «destination_eui64» = addressOf (at v 1) (entryAt v 0);
+    }))
 routeRequestBy NwkRouteRequestManyToOneCode.Unknown v = TypedBody.NotTyped
 
 unfoldable pub routeRequestOf : Values → TypedBody
@@ -70,7 +82,7 @@ unfoldable pub routeRequestValues : NwkRouteRequestCommand → Values
 routeRequestValues c =
     record {
       head =
-          manyToOneCode (c .«many_to_one») ∷ has (c .«destination_eui64») ∷ c .«route_request_identifier» ∷ c .«destination_address»
+          manyToOneCode (c .«many_to_one») ∷ has (c .«destination_eui64») ∷ c .«route_request_identifier» ∷ c .«destination_address» .0
           ∷ c .«path_cost» ∷ [];
       entries = addressEntry (c .«destination_eui64»);
     }
@@ -88,14 +100,21 @@ routeReplyFormat =
 -- the values: has originator IEEE, has responder IEEE, route request identifier, originator, responder, path cost
 unfoldable pub routeReplyOf : Values → TypedBody
 routeReplyOf v =
-    TypedBody.Typed (NwkCommand.RouteReply (record { «route_request_identifier» = at v 2; «originator_nwk» = at v 3; «responder_nwk» = at v 4; «path_cost» = at v 5; «originator_eui64» = addressOf (at v 0) (entryAt v 0); «responder_eui64» = addressOf (at v 1) (entryAt v (at v 0)) }))
+    TypedBody.Typed (NwkCommand.RouteReply (record {
+      «route_request_identifier» = at v 2;
+      «originator_nwk» = nwk (at v 3);
+      «responder_nwk» = nwk (at v 4);
+      «path_cost» = at v 5;
+      «originator_eui64» = addressOf (at v 0) (entryAt v 0);
+      «responder_eui64» = addressOf (at v 1) (entryAt v (at v 0));
+    }))
 
 unfoldable pub routeReplyValues : NwkRouteReplyCommand → Values
 routeReplyValues c =
     record {
       head =
-          has (c .«originator_eui64») ∷ has (c .«responder_eui64») ∷ c .«route_request_identifier» ∷ c .«originator_nwk»
-          ∷ c .«responder_nwk» ∷ c .«path_cost» ∷ [];
+          has (c .«originator_eui64») ∷ has (c .«responder_eui64») ∷ c .«route_request_identifier» ∷ c .«originator_nwk» .0
+          ∷ c .«responder_nwk» .0 ∷ c .«path_cost» ∷ [];
       entries = addressEntry (c .«originator_eui64») ++ addressEntry (c .«responder_eui64»);
     }
 
@@ -107,14 +126,14 @@ networkStatusFormat = plain (byte ∷ number 2 ∷ [])
 -- the values: status code, network address
 unfoldable pub networkStatusBy : NwkNetworkStatusCode → Values → TypedBody
 networkStatusBy (NwkNetworkStatusCode.Known code) v =
-    TypedBody.Typed (NwkCommand.NetworkStatus (record { «status_code» = code; «network_address» = at v 1 }))
+    TypedBody.Typed (NwkCommand.NetworkStatus (record { «status_code» = code; «network_address» = nwk (at v 1) }))
 networkStatusBy NwkNetworkStatusCode.Unknown v = TypedBody.NotTyped
 
 unfoldable pub networkStatusOf : Values → TypedBody
 networkStatusOf v = networkStatusBy (statusOf (at v 0)) v
 
 unfoldable pub networkStatusValues : NwkNetworkStatusCommand → Values
-networkStatusValues c = only (statusCode (c .«status_code») ∷ c .«network_address» ∷ [])
+networkStatusValues c = only (statusCode (c .«status_code») ∷ c .«network_address» .0 ∷ [])
 
 -- ---- 3.4.4 Leave
 
@@ -138,14 +157,24 @@ routeRecordFormat = record { head = byte ∷ []; counts = 0 ∷ []; entry = numb
 unfoldable pub routeRecordOf : Values → TypedBody
 routeRecordOf v = TypedBody.Typed NwkCommand.RouteRecord
 
-unfoldable pub relayOf : List ℕ → ℕ
-relayOf e = getD e 0 0
+unfoldable pub relayOf : List ℕ → Nwk
+relayOf e = nwk (getD e 0 0)
 
-unfoldable pub relayEntry : ℕ → List ℕ
-relayEntry r = r ∷ []
+unfoldable pub relayEntry : Nwk → List ℕ
+relayEntry r = r .0 ∷ []
 
-unfoldable pub routeRecordValues : List ℕ → ℕ → Values
-routeRecordValues relays n = record { head = n ∷ []; entries = tab (λ (k : ℕ). relayEntry (getD relays k 0)) n }
+abbrev pub noRelay : Nwk
+noRelay = nwk 0
+
+-- the relay at place i of the bytes s
+abbrev pub relayAt : List ℕ → ℕ → Nwk
+relayAt s i = nwk (leAt 2 s i)
+
+abbrev pub relayEntries : List Nwk → ℕ → List (List ℕ)
+relayEntries = entriesOf relayEntry noRelay
+
+unfoldable pub routeRecordValues : List Nwk → ℕ → Values
+routeRecordValues relays n = record { head = n ∷ []; entries = relayEntries relays n }
 
 -- ---- 3.4.6 Rejoin Request
 
@@ -189,14 +218,14 @@ rejoinResponseFormat = plain (number 2 ∷ byte ∷ [])
 -- the values: network address, rejoin status
 unfoldable pub rejoinResponseBy : Nwk802154AssociationStatusCode → Values → TypedBody
 rejoinResponseBy (Nwk802154AssociationStatusCode.Known code) v =
-    TypedBody.Typed (NwkCommand.RejoinResponse (record { «network_address» = at v 0; «rejoin_status» = code }))
+    TypedBody.Typed (NwkCommand.RejoinResponse (record { «network_address» = nwk (at v 0); «rejoin_status» = code }))
 rejoinResponseBy Nwk802154AssociationStatusCode.Unknown v = TypedBody.NotTyped
 
 unfoldable pub rejoinResponseOf : Values → TypedBody
 rejoinResponseOf v = rejoinResponseBy (associationStatusOf (at v 1)) v
 
 unfoldable pub rejoinResponseValues : NwkRejoinResponseCommand → Values
-rejoinResponseValues c = only (c .«network_address» ∷ associationStatusCode (c .«rejoin_status») ∷ [])
+rejoinResponseValues c = only (c .«network_address» .0 ∷ associationStatusCode (c .«rejoin_status») ∷ [])
 
 -- ---- 3.4.8 Link Status
 
@@ -214,23 +243,26 @@ linkStatusOf v =
     TypedBody.Typed (NwkCommand.LinkStatus (record { «is_first_frame» = isSet (at v 1); «is_last_frame» = isSet (at v 2) }))
 
 unfoldable pub linkOf : List ℕ → NwkLinkStatus
-linkOf e = record { address = getD e 0 0; «incoming_cost» = getD e 1 0; «outgoing_cost» = getD e 2 0 }
+linkOf e = record { address = nwk (getD e 0 0); «incoming_cost» = getD e 1 0; «outgoing_cost» = getD e 2 0 }
 
 unfoldable pub linkEntry : NwkLinkStatus → List ℕ
-linkEntry l = l .address ∷ l .«incoming_cost» ∷ l .«outgoing_cost» ∷ []
+linkEntry l = l .address .0 ∷ l .«incoming_cost» ∷ l .«outgoing_cost» ∷ []
 
 -- the entry at place i of the bytes s
 unfoldable pub linkAt : List ℕ → ℕ → NwkLinkStatus
 linkAt s i = linkOf (readFields (linkStatusFormat .entry) s i)
 
 abbrev pub noLink : NwkLinkStatus
-noLink = record { address = 0; «incoming_cost» = 0; «outgoing_cost» = 0 }
+noLink = record { address = noRelay; «incoming_cost» = 0; «outgoing_cost» = 0 }
+
+abbrev pub linkEntries : List NwkLinkStatus → ℕ → List (List ℕ)
+linkEntries = entriesOf linkEntry noLink
 
 unfoldable pub linkStatusValues : NwkLinkStatusCommand → List NwkLinkStatus → ℕ → Values
 linkStatusValues c links n =
     record {
       head = n ∷ bit (c .«is_first_frame») ∷ bit (c .«is_last_frame») ∷ [];
-      entries = tab (λ (k : ℕ). linkEntry (getD links k noLink)) n;
+      entries = linkEntries links n;
     }
 
 -- ---- 3.4.9 Network Report
@@ -248,11 +280,27 @@ networkReportBy NwkReportCommandIdentifierCode.Unknown v = TypedBody.NotTyped
 unfoldable pub networkReportOf : Values → TypedBody
 networkReportOf v = networkReportBy (reportIdentifierOf (at v 1)) v
 
-unfoldable pub networkReportValues : NwkNetworkReportCommand → List ℕ → ℕ → Values
+unfoldable pub panIdOf : List ℕ → PanId
+panIdOf e = panId (getD e 0 0)
+
+unfoldable pub panIdEntry : PanId → List ℕ
+panIdEntry p = p .0 ∷ []
+
+abbrev pub noPanId : PanId
+noPanId = panId 0
+
+-- the PAN id at place i of the bytes s
+abbrev pub panIdAt : List ℕ → ℕ → PanId
+panIdAt s i = panId (leAt 2 s i)
+
+abbrev pub panIdEntries : List PanId → ℕ → List (List ℕ)
+panIdEntries = entriesOf panIdEntry noPanId
+
+unfoldable pub networkReportValues : NwkNetworkReportCommand → List PanId → ℕ → Values
 networkReportValues c panIds n =
     record {
       head = n ∷ reportIdentifierCode (c .«report_command_identifier») ∷ c .epid ∷ [];
-      entries = tab (λ (k : ℕ). relayEntry (getD panIds k 0)) n;
+      entries = panIdEntries panIds n;
     }
 
 -- ---- 3.4.10 Network Update
@@ -263,7 +311,13 @@ networkUpdateFormat = plain (bits (keep 5 ∷ keep 3 ∷ []) ∷ number 8 ∷ by
 -- the values: the stored count, update command identifier, extended PAN id, update id, new PAN id
 unfoldable pub networkUpdateBy : NwkUpdateCommandIdentifierCode → Values → TypedBody
 networkUpdateBy (NwkUpdateCommandIdentifierCode.Known code) v =
-    TypedBody.Typed (NwkCommand.NetworkUpdate (record { «update_information_count» = at v 0; «update_command_identifier» = code; epid = at v 2; «update_id» = at v 3; «new_pan_id» = at v 4 }))
+    TypedBody.Typed (NwkCommand.NetworkUpdate (record {
+      «update_information_count» = at v 0;
+      «update_command_identifier» = code;
+      epid = at v 2;
+      «update_id» = at v 3;
+      «new_pan_id» = panId (at v 4);
+    }))
 networkUpdateBy NwkUpdateCommandIdentifierCode.Unknown v = TypedBody.NotTyped
 
 unfoldable pub networkUpdateOf : Values → TypedBody
@@ -273,7 +327,7 @@ unfoldable pub networkUpdateValues : NwkNetworkUpdateCommand → Values
 networkUpdateValues c =
     only
     (c .«update_information_count» ∷ updateIdentifierCode (c .«update_command_identifier») ∷ c .epid ∷ c .«update_id»
-    ∷ c .«new_pan_id» ∷ [])
+    ∷ c .«new_pan_id» .0 ∷ [])
 
 -- ---- 3.4.11 End Device Timeout Request
 
@@ -300,7 +354,12 @@ timeoutResponseFormat = plain (byte ∷ bits (keep 1 ∷ keep 1 ∷ keep 1 ∷ s
 -- the values: status, MAC data poll keepalive, timeout request keepalive, power negotiation
 unfoldable pub timeoutResponseBy : NwkEndDeviceTimeoutResponseStatusCode → Values → TypedBody
 timeoutResponseBy (NwkEndDeviceTimeoutResponseStatusCode.Known code) v =
-    TypedBody.Typed (NwkCommand.EndDeviceTimeoutResponse (record { status = code; «mac_data_poll_keepalive_supported» = isSet (at v 1); «end_device_timeout_request_keepalive_supported» = isSet (at v 2); «power_negotation_support» = isSet (at v 3) }))
+    TypedBody.Typed (NwkCommand.EndDeviceTimeoutResponse (record {
+      status = code;
+      «mac_data_poll_keepalive_supported» = isSet (at v 1);
+      «end_device_timeout_request_keepalive_supported» = isSet (at v 2);
+      «power_negotation_support» = isSet (at v 3);
+    }))
 timeoutResponseBy NwkEndDeviceTimeoutResponseStatusCode.Unknown v = TypedBody.NotTyped
 
 unfoldable pub timeoutResponseOf : Values → TypedBody
@@ -328,23 +387,26 @@ unfoldable pub linkPowerDeltaOf : Values → TypedBody
 linkPowerDeltaOf v = linkPowerDeltaBy (powerTypeOf (at v 0)) v
 
 unfoldable pub powerOf : List ℕ → NwkPowerListEntry
-powerOf e = record { «device_address» = getD e 0 0; «power_delta» = getD e 1 0 }
+powerOf e = record { «device_address» = nwk (getD e 0 0); «power_delta» = getD e 1 0 }
 
 unfoldable pub powerEntry : NwkPowerListEntry → List ℕ
-powerEntry p = p .«device_address» ∷ p .«power_delta» ∷ []
+powerEntry p = p .«device_address» .0 ∷ p .«power_delta» ∷ []
 
 -- the entry at place i of the bytes s
 unfoldable pub powerAt : List ℕ → ℕ → NwkPowerListEntry
 powerAt s i = powerOf (readFields (linkPowerDeltaFormat .entry) s i)
 
 abbrev pub noPower : NwkPowerListEntry
-noPower = record { «device_address» = 0; «power_delta» = 0 }
+noPower = record { «device_address» = noRelay; «power_delta» = 0 }
+
+abbrev pub powerEntries : List NwkPowerListEntry → ℕ → List (List ℕ)
+powerEntries = entriesOf powerEntry noPower
 
 unfoldable pub linkPowerDeltaValues : NwkLinkPowerDeltaCommand → List NwkPowerListEntry → ℕ → Values
 linkPowerDeltaValues c powers n =
     record {
       head = powerTypeCode (c .«command_type») ∷ n ∷ [];
-      entries = tab (λ (k : ℕ). powerEntry (getD powers k noPower)) n;
+      entries = powerEntries powers n;
     }
 
 -- ---- 3.4.14 Network Commissioning Request
@@ -373,11 +435,11 @@ commissioningResponseFormat = plain (number 2 ∷ byte ∷ [])
 -- the values: network address, status
 unfoldable pub commissioningResponseBy : Nwk802154AssociationStatusCode → Values → TypedBody
 commissioningResponseBy (Nwk802154AssociationStatusCode.Known code) v =
-    TypedBody.Typed (NwkCommand.NetworkCommissioningResponse (record { «network_address» = at v 0; status = code }))
+    TypedBody.Typed (NwkCommand.NetworkCommissioningResponse (record { «network_address» = nwk (at v 0); status = code }))
 commissioningResponseBy Nwk802154AssociationStatusCode.Unknown v = TypedBody.NotTyped
 
 unfoldable pub commissioningResponseOf : Values → TypedBody
 commissioningResponseOf v = commissioningResponseBy (associationStatusOf (at v 1)) v
 
 unfoldable pub commissioningResponseValues : NwkNetworkCommissioningResponseCommand → Values
-commissioningResponseValues c = only (c .«network_address» ∷ associationStatusCode (c .status) ∷ [])
+commissioningResponseValues c = only (c .«network_address» .0 ∷ associationStatusCode (c .status) ∷ [])

@@ -10,7 +10,8 @@ use lib.Dec.{ltb, leb}
 use Rattle.octets.specs.Refusals.{on, firstOf, unless}
 use Rattle.commands.specs.Codes.{commandIdOf}
 use Rattle.commands.specs.Format.{Format, Values, bodyEnd, values}
-use Rattle.commands.specs.Commands.{routeRequestFormat, routeRequestOf, routeReplyFormat, routeReplyOf, networkStatusFormat, networkStatusOf, leaveFormat, leaveOf, routeRecordFormat, routeRecordOf, rejoinRequestFormat, rejoinRequestOf, rejoinResponseFormat, rejoinResponseOf, linkStatusFormat, linkStatusOf, networkReportFormat, networkReportOf, networkUpdateFormat, networkUpdateOf, timeoutRequestFormat, timeoutRequestOf, timeoutResponseFormat, timeoutResponseOf, linkPowerDeltaFormat, linkPowerDeltaOf, commissioningRequestFormat, commissioningRequestOf, commissioningResponseFormat, commissioningResponseOf, relayOf, linkOf, noLink, powerOf, noPower, firsts}
+use Rattle.commands.specs.Commands.{routeRequestFormat, routeRequestOf, routeReplyFormat, routeReplyOf, networkStatusFormat, networkStatusOf, leaveFormat, leaveOf, routeRecordFormat, routeRecordOf, rejoinRequestFormat, rejoinRequestOf, rejoinResponseFormat, rejoinResponseOf, linkStatusFormat, linkStatusOf, networkReportFormat, networkReportOf, networkUpdateFormat, networkUpdateOf, timeoutRequestFormat, timeoutRequestOf, timeoutResponseFormat, timeoutResponseOf, linkPowerDeltaFormat, linkPowerDeltaOf, commissioningRequestFormat, commissioningRequestOf, commissioningResponseFormat, commissioningResponseOf, relayOf, noRelay, linkOf, noLink, panIdOf, noPanId, powerOf, noPower, firsts}
+use Rattle.types.specs.declared.{Nwk.Nwk, PanId.PanId}
 use Rattle.commands.specs.declared.{NwkCommandId.NwkCommandId, NwkCommandIdCode.NwkCommandIdCode, NwkCommand.NwkCommand, NwkCommandWithLists.NwkCommandWithLists, NwkCommandList.NwkCommandList, NwkCommandRead.NwkCommandRead, TypedBody.TypedBody, NwkLinkStatus.NwkLinkStatus, NwkPowerListEntry.NwkPowerListEntry}
 
 -- the most bytes that a command has
@@ -60,16 +61,16 @@ unfoldable pub places : {A : Type 0} → A → ℕ → List A → List A
 places d m xs = xs ++ drop (length xs) (replicate m d)
 
 -- a command with its five lists
-unfoldable pub withLists : NwkCommand → List ℕ → List NwkLinkStatus → List ℕ → List NwkPowerListEntry → List ℕ → NwkCommandWithLists
+unfoldable pub withLists : NwkCommand → List Nwk → List NwkLinkStatus → List PanId → List NwkPowerListEntry → List ℕ → NwkCommandWithLists
 withLists c relays links panIds powers bytes =
     record {
       command = c;
       «relay_count» = length relays;
-      relays = places 0 53 relays;
+      relays = places noRelay 53 relays;
       «link_statuses_len» = length links;
       «link_statuses» = places noLink 31 links;
       «report_information_count» = length panIds;
-      «pan_ids» = places 0 31 panIds;
+      «pan_ids» = places noPanId 31 panIds;
       «list_count» = length powers;
       «power_list» = places noPower 35 powers;
       «unparsed_len» = length bytes;
@@ -100,16 +101,16 @@ unfoldable pub listed : NwkCommandList → NwkCommand → List ℕ → NwkComman
 listed NwkCommandList.NoList c s = withLists c [] [] [] [] []
 listed NwkCommandList.Relays c s = withLists c (map relayOf (values routeRecordFormat s .entries)) [] [] [] []
 listed NwkCommandList.LinkStatuses c s = withLists c [] (map linkOf (values linkStatusFormat s .entries)) [] [] []
-listed NwkCommandList.PanIds c s = withLists c [] [] (map relayOf (values networkReportFormat s .entries)) [] []
+listed NwkCommandList.PanIds c s = withLists c [] [] (map panIdOf (values networkReportFormat s .entries)) [] []
 listed NwkCommandList.PowerList c s = withLists c [] [] [] (map powerOf (values linkPowerDeltaFormat s .entries)) []
 listed NwkCommandList.Bytes c s = withLists c [] [] [] [] []
 
 -- the same command with the same list, the places past its count and the other lists cleared
 unfoldable pub clearedBy : NwkCommandList → NwkCommand → NwkCommandWithLists → NwkCommandWithLists
 clearedBy NwkCommandList.NoList c f = withLists c [] [] [] [] []
-clearedBy NwkCommandList.Relays c f = withLists c (firsts 0 (f .relays) (f .«relay_count»)) [] [] [] []
+clearedBy NwkCommandList.Relays c f = withLists c (firsts noRelay (f .relays) (f .«relay_count»)) [] [] [] []
 clearedBy NwkCommandList.LinkStatuses c f = withLists c [] (firsts noLink (f .«link_statuses») (f .«link_statuses_len»)) [] [] []
-clearedBy NwkCommandList.PanIds c f = withLists c [] [] (firsts 0 (f .«pan_ids») (f .«report_information_count»)) [] []
+clearedBy NwkCommandList.PanIds c f = withLists c [] [] (firsts noPanId (f .«pan_ids») (f .«report_information_count»)) [] []
 clearedBy NwkCommandList.PowerList c f = withLists c [] [] [] (firsts noPower (f .«power_list») (f .«list_count»)) []
 clearedBy NwkCommandList.Bytes c f = withLists c [] [] [] [] (firsts 0 (f .unparsed) (f .«unparsed_len»))
 

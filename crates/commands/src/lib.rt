@@ -10,7 +10,9 @@ ghost use Prim.Native.Nat.{_≤_};
 ghost use Rattle.commands.specs.Commands.{has};
 ghost use Rattle.commands.specs.Reading.{listOf, withLists};
 ghost use Rattle.commands.specs.Writing.{typedId, commandId};
+use types::Nwk;
 use types::OptionEui64;
+use types::PanId;
 
 // Zigbee 3.4: the command identifier, the first byte of a command.
 pub enum NwkCommandId {
@@ -43,7 +45,7 @@ pub enum NwkRouteRequestManyToOne {
 pub struct NwkRouteRequestCommand {
     pub many_to_one: NwkRouteRequestManyToOne,
     pub route_request_identifier: u8,
-    pub destination_address: u16,
+    pub destination_address: Nwk,
     pub path_cost: u8,
     pub destination_eui64: OptionEui64,
 }
@@ -51,8 +53,8 @@ pub struct NwkRouteRequestCommand {
 // Zigbee 3.4.2: Route Reply.
 pub struct NwkRouteReplyCommand {
     pub route_request_identifier: u8,
-    pub originator_nwk: u16,
-    pub responder_nwk: u16,
+    pub originator_nwk: Nwk,
+    pub responder_nwk: Nwk,
     pub path_cost: u8,
     pub originator_eui64: OptionEui64,
     pub responder_eui64: OptionEui64,
@@ -86,7 +88,7 @@ pub enum NwkNetworkStatus {
 // Zigbee 3.4.3: Network Status.
 pub struct NwkNetworkStatusCommand {
     pub status_code: NwkNetworkStatus,
-    pub network_address: u16,
+    pub network_address: Nwk,
 }
 
 // Zigbee 3.4.4: Leave.
@@ -137,7 +139,7 @@ pub enum Nwk802154AssociationStatus {
 
 // Zigbee 3.4.7: Rejoin Response.
 pub struct NwkRejoinResponseCommand {
-    pub network_address: u16,
+    pub network_address: Nwk,
     pub rejoin_status: Nwk802154AssociationStatus,
 }
 
@@ -149,7 +151,7 @@ pub struct NwkLinkStatusCommand {
 
 // Zigbee 3.4.8: an entry of the link status list. Each cost has 3 bits.
 pub struct NwkLinkStatus {
-    pub address: u16,
+    pub address: Nwk,
     pub incoming_cost: u8,
     pub outgoing_cost: u8,
 }
@@ -176,7 +178,7 @@ pub struct NwkNetworkUpdateCommand {
     pub update_command_identifier: NwkUpdateCommandIdentifier,
     pub epid: u64,
     pub update_id: u8,
-    pub new_pan_id: u16,
+    pub new_pan_id: PanId,
 }
 
 // Zigbee 3.4.11: the requested timeout (Table 3-58).
@@ -228,7 +230,7 @@ pub enum NwkLinkPowerDeltaType {
 
 // Zigbee 3.4.13: an entry of the power list.
 pub struct NwkPowerListEntry {
-    pub device_address: u16,
+    pub device_address: Nwk,
     pub power_delta: u8,
 }
 
@@ -251,7 +253,7 @@ pub struct NwkNetworkCommissioningRequestCommand {
 
 // Zigbee 3.4.15: Network Commissioning Response.
 pub struct NwkNetworkCommissioningResponseCommand {
-    pub network_address: u16,
+    pub network_address: Nwk,
     pub status: Nwk802154AssociationStatus,
 }
 
@@ -281,11 +283,11 @@ pub enum NwkCommand {
 pub struct NwkCommandWithLists {
     pub command: NwkCommand,
     pub relay_count: u8,
-    pub relays: [u16; 53],
+    pub relays: [Nwk; 53],
     pub link_statuses_len: u8,
     pub link_statuses: [NwkLinkStatus; 31],
     pub report_information_count: u8,
-    pub pan_ids: [u16; 31],
+    pub pan_ids: [PanId; 31],
     pub list_count: u8,
     pub power_list: [NwkPowerListEntry; 35],
     pub unparsed_len: u8,
@@ -430,14 +432,19 @@ impl NwkCommand {
     }
 }
 
+// What stands past the count in each list.
+pub const NO_RELAY: Nwk = Nwk(0);
+
+pub const NO_PAN_ID: PanId = PanId(0);
+
 pub const NO_LINK: NwkLinkStatus = NwkLinkStatus {
-    address: 0,
+    address: NO_RELAY,
     incoming_cost: 0,
     outgoing_cost: 0,
 };
 
 pub const NO_POWER: NwkPowerListEntry = NwkPowerListEntry {
-    device_address: 0,
+    device_address: NO_RELAY,
     power_delta: 0,
 };
 
@@ -456,9 +463,9 @@ impl NwkCommandWithLists {
     pub fn blank(command: NwkCommand) -> Self
         ensures { λ r. ⌜ r ≡ withLists command [] [] [] [] [] ⌝ }
     {
-        let relays = [0u16; 53];
+        let relays = [NO_RELAY; 53];
         let link_statuses = [NO_LINK; 31];
-        let pan_ids = [0u16; 31];
+        let pan_ids = [NO_PAN_ID; 31];
         let power_list = [NO_POWER; 35];
         let unparsed = [0u8; 108];
         NwkCommandWithLists {

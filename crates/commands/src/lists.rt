@@ -1,17 +1,17 @@
-// The lists that stand alike in a command's bytes and in its record: 16-bit numbers and power list entries, written from a
+// The lists that stand alike in a command's bytes and in its record: relays, PAN ids and power list entries, written from a
 // place on and read into an array, with 0 past the count.
 
 ghost use mathlib.Core.Path.{_≡_};
 ghost use mathlib.Core.List.{[], _∷_};
 ghost use Prim.Native.Nat.{ℕ, _+_, _*_, _≤_};
-ghost use lib.ListN.{length, getD};
+ghost use lib.ListN.{length};
 ghost use Rattle.octets.specs.Strings.{over, tab};
-ghost use Rattle.octets.specs.Numbers.{leAt};
 ghost use Rattle.commands.specs.Format.{writeFields, writeEntries};
-ghost use Rattle.commands.specs.Commands.{routeRecordFormat, linkPowerDeltaFormat, relayEntry, powerEntry, powerAt, noPower};
+ghost use Rattle.commands.specs.Commands.{routeRecordFormat, networkReportFormat, linkPowerDeltaFormat, relayEntries, relayAt, noRelay, panIdEntries, panIdAt, noPanId, powerEntry, powerEntries, powerAt, noPower};
 ghost use Rattle.commands.specs.Reading.{places};
-use crate::NO_POWER;
-use crate::NwkPowerListEntry;
+use crate::*;
+use types::Nwk;
+use types::PanId;
 
 // One byte.
 pub fn put_byte(out: &mut [u8], i: usize, x: u8)
@@ -21,14 +21,28 @@ pub fn put_byte(out: &mut [u8], i: usize, x: u8)
     out[i] = x;
 }
 
-// The first n of a list of 16-bit numbers.
-pub fn put_numbers(out: &mut [u8], i: usize, xs: &[u16], n: usize)
-    requires { ⌜ (n ≤ length (now xs)) × (i + n * 2 ≤ length (now out)) ⌝ }
-    ensures { λ _. ⌜ now (out .exit) ≡ over (now (out .entry)) i (writeEntries (routeRecordFormat .entry) (tab (λ (k : ℕ). relayEntry (getD (now (xs .entry)) k 0)) n)) ⌝ }
+// The first n relays.
+pub fn put_relays(out: &mut [u8], i: usize, relays: [Nwk; 53], n: usize)
+    requires { ⌜ (n ≤ 53) × (i + n * 2 ≤ length (now out)) ⌝ }
+    ensures { λ _. ⌜ now (out .exit) ≡ over (now (out .entry)) i (writeEntries (routeRecordFormat .entry) (relayEntries relays n)) ⌝ }
 {
     let mut k = 0;
     while k < n {
-        octets::put_u16(out, i + k * 2, xs[k]);
+        let relay = relays[k];
+        octets::put_u16(out, i + k * 2, relay.0);
+        k += 1;
+    }
+}
+
+// The first n PAN ids.
+pub fn put_pan_ids(out: &mut [u8], i: usize, pan_ids: [PanId; 31], n: usize)
+    requires { ⌜ (n ≤ 31) × (i + n * 2 ≤ length (now out)) ⌝ }
+    ensures { λ _. ⌜ now (out .exit) ≡ over (now (out .entry)) i (writeEntries (networkReportFormat .entry) (panIdEntries «pan_ids» n)) ⌝ }
+{
+    let mut k = 0;
+    while k < n {
+        let pan_id = pan_ids[k];
+        octets::put_u16(out, i + k * 2, pan_id.0);
         k += 1;
     }
 }
@@ -38,14 +52,15 @@ fn put_power(out: &mut [u8], i: usize, power: NwkPowerListEntry)
     requires { ⌜ i + 3 ≤ length (now out) ⌝ }
     ensures { λ _. ⌜ now (out .exit) ≡ over (now (out .entry)) i (writeFields (linkPowerDeltaFormat .entry) (powerEntry power)) ⌝ }
 {
-    octets::put_u16(out, i, power.device_address);
+    let address = power.device_address;
+    octets::put_u16(out, i, address.0);
     put_byte(out, i + 2, power.power_delta);
 }
 
 // The first n power list entries.
 pub fn put_powers(out: &mut [u8], i: usize, powers: [NwkPowerListEntry; 35], n: usize)
     requires { ⌜ (n ≤ 35) × (i + n * 3 ≤ length (now out)) ⌝ }
-    ensures { λ _. ⌜ now (out .exit) ≡ over (now (out .entry)) i (writeEntries (linkPowerDeltaFormat .entry) (tab (λ (k : ℕ). powerEntry (getD powers k noPower)) n)) ⌝ }
+    ensures { λ _. ⌜ now (out .exit) ≡ over (now (out .entry)) i (writeEntries (linkPowerDeltaFormat .entry) (powerEntries powers n)) ⌝ }
 {
     let mut k = 0;
     while k < n {
@@ -56,28 +71,28 @@ pub fn put_powers(out: &mut [u8], i: usize, powers: [NwkPowerListEntry; 35], n: 
 }
 
 // n relays from place i on.
-pub fn read_relays(s: &[u8], i: usize, n: usize) -> [u16; 53]
+pub fn read_relays(s: &[u8], i: usize, n: usize) -> [Nwk; 53]
     requires { ⌜ (n ≤ 53) × (i ≤ 1000) ⌝ }
-    ensures { λ r. ⌜ r ≡ places 0 53 (tab (λ (k : ℕ). leAt 2 (now (s .entry)) (i + k * 2)) n) ⌝ }
+    ensures { λ r. ⌜ r ≡ places noRelay 53 (tab (λ (k : ℕ). relayAt (now (s .entry)) (i + k * 2)) n) ⌝ }
 {
-    let mut relays = [0u16; 53];
+    let mut relays = [NO_RELAY; 53];
     let mut k = 0;
     while k < n {
-        relays[k] = octets::read_u16(s, i + k * 2);
+        relays[k] = Nwk(octets::read_u16(s, i + k * 2));
         k += 1;
     }
     relays
 }
 
 // n PAN ids from place i on.
-pub fn read_pan_ids(s: &[u8], i: usize, n: usize) -> [u16; 31]
+pub fn read_pan_ids(s: &[u8], i: usize, n: usize) -> [PanId; 31]
     requires { ⌜ (n ≤ 31) × (i ≤ 1000) ⌝ }
-    ensures { λ r. ⌜ r ≡ places 0 31 (tab (λ (k : ℕ). leAt 2 (now (s .entry)) (i + k * 2)) n) ⌝ }
+    ensures { λ r. ⌜ r ≡ places noPanId 31 (tab (λ (k : ℕ). panIdAt (now (s .entry)) (i + k * 2)) n) ⌝ }
 {
-    let mut pan_ids = [0u16; 31];
+    let mut pan_ids = [NO_PAN_ID; 31];
     let mut k = 0;
     while k < n {
-        pan_ids[k] = octets::read_u16(s, i + k * 2);
+        pan_ids[k] = PanId(octets::read_u16(s, i + k * 2));
         k += 1;
     }
     pan_ids
@@ -89,7 +104,7 @@ fn power_at(s: &[u8], i: usize) -> NwkPowerListEntry
     ensures { λ r. ⌜ r ≡ powerAt (now (s .entry)) i ⌝ }
 {
     NwkPowerListEntry {
-        device_address: octets::read_u16(s, i),
+        device_address: Nwk(octets::read_u16(s, i)),
         power_delta: octets::byte_at(s, i + 2),
     }
 }

@@ -1,23 +1,25 @@
 -- `put_address` meets its contract: the presence byte, and the address behind it. Assumes nothing.
 use borrow.Author.Needs.{needs}
-use mathlib.Core.Path.{sym, ap, _∙_}
+use mathlib.Core.Path.{refl, ap, _∙_}
 use native.Mathlib.Omega.{arith}
+use mathlib.Core.List.{[], _∷_}
 use Prim.Native.Nat.{ℕ, _+_}
+use Rattle.octets.specs.Numbers.{le}
+use Rattle.octets.proofs.Strings.{over-then}
 use Rattle.command_records.proofs.fields.put_address.Statement.{statement}
 use Rattle.command_records.proofs.fields.put_address.Tie as tie
 use Rattle.octets.specs.Strings.{over}
-use Rattle.octets.specs.Numbers.{le}
-use Rattle.octets.proofs.Strings.{over-then}
-use Rattle.octets.proofs.Numbers.{length-le}
 use Rattle.command_records.specs.Fields.{addressRecord}
 
 returns : tie.Need-returns
 unfolding addressRecord
 returns c =
-    let a = c .before .before .before .before .before .before .before .before .before .before .before .args in
-    over-then (a .out .now) _ _ (a .i) (a .i + 1) _ _ (omega (arith, c .before .before .before .before .before .before .before .before .before .before .before .pre)) (ap (λ (n : ℕ). a .i + n) (sym (length-le 1 _)))
-    (c .before .before .before .before .before .before .before .put-u8 .ensures ∙ ap (λ (x : ℕ). over (a .out .now) (a .i) (le 1 x)) (c .before .before .before .before .before .before .before .before .has-address .ensures .0))
-    (c .before .before .put-u64 .ensures ∙ ap (λ (x : ℕ). over (c .before .before .before .before .before .before .before .put-u8 .last .0) (a .i + 1) (le 8 x)) (c .before .before .before .address-value .ensures))
+    let address = c .before .before in
+    let presence = address .before .before .before .before .before in
+    let a = presence .before .before .before .before .args in
+    over-then (a .out .now) _ _ (a .i) (a .i + 1) _ _ (omega arith) refl
+    (presence .put-byte .ensures ∙ ap (λ (x : ℕ). over (a .out .now) (a .i) (x ∷ [])) (presence .before .has-address .ensures .0))
+    (address .put-u64 .ensures ∙ ap (λ (x : ℕ). over (presence .put-byte .last .0) (a .i + 1) (le 8 x)) (address .before .address-value .ensures))
 
 pub put-address-spec : {M : Type 1} → statement M
 put-address-spec =

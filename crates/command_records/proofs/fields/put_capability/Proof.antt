@@ -11,11 +11,18 @@ use Rattle.commands.specs.Commands.{capabilityValues}
 returns : tie.Need-returns
 unfolding capabilityValues
 returns c =
-    let a = c .before .before .before .before .before .before .before .before .before .before .before .before .before .before .before .before .args in
-    c .before .before .copy-at .ensures
+    let copied = c .before .before in
+    let last = copied .before .before .before in
+    let idle = last .before .before .before .before in
+    let source = idle .before in
+    let device = source .before .before in
+    let a = device .before .before .before .before .args in
+    copied .copy-at .ensures
     ∙ (λ i. over (a .out .now) (a .i)
-    (c .before .before .before .before .before .before .before .before .before .before .before .before .before .before .bit-of .ensures .0 i ∷ (c .before .before .before .before .before .before .before .before .before .before .before .before .bit-of2 .ensures .0 ∙ ap bit (c .before .before .before .before .before .before .before .before .before .before .before .before .before .bit .ensures)) i ∷ (c .before .before .before .before .before .before .before .before .before .before .bit-of3 .ensures .0 ∙ ap bit (c .before .before .before .before .before .before .before .before .before .before .before .bit2 .ensures)) i ∷ c .before .before .before .before .before .before .before .before .before .bit-of4 .ensures .0 i
-    ∷ c .before .before .before .before .before .before .before .before .bit-of5 .ensures .0 i ∷ c .before .before .before .before .before .before .before .bit-of6 .ensures .0 i ∷ c .before .before .before .before .before .before .bit-of7 .ensures .0 i ∷ c .before .before .before .before .before .bit-of8 .ensures .0 i ∷ []))
+    (device .before .before .bit-of .ensures .0 i ∷ (device .bit-of2 .ensures .0 ∙ ap bit (device .before .bit .ensures)) i
+    ∷ (source .bit-of3 .ensures .0 ∙ ap bit (source .before .bit2 .ensures)) i ∷ idle .bit-of4 .ensures .0 i
+    ∷ last .before .before .before .bit-of5 .ensures .0 i ∷ last .before .before .bit-of6 .ensures .0 i
+    ∷ last .before .bit-of7 .ensures .0 i ∷ last .bit-of8 .ensures .0 i ∷ []))
 
 pub put-capability-spec : {M : Type 1} → statement M
 put-capability-spec =

@@ -10,8 +10,10 @@ use Rattle.command_records.proofs.Lengths.{length-fields, over-places}
 returns : tie.Need-returns
 unfolding fieldsRecord
 returns c =
-    let a = c .before .before .before .before .before .before .before .before .before .before .args in
-    c .before .before .put-own-fields .ensures ∙ ap (λ o. over o 0 (fieldBytes (a .command))) (c .before .before .before .before .before .before .copy-at .ensures)
+    let own = c .before .before in
+    let blank = own .before .before .before .before in
+    let a = blank .before .before .before .before .args in
+    own .put-own-fields .ensures ∙ ap (λ o. over o 0 (fieldBytes (a .command))) (blank .copy-at .ensures)
     ∙ over-places 25 (a .out .now) (fieldBytes (a .command)) (length-fields (a .command))
 
 pub put-fields-spec : {M : Type 1} → statement M

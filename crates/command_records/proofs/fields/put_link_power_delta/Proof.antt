@@ -10,9 +10,13 @@ use Rattle.command_records.specs.Fields.{fieldBytes}
 returns : tie.Need-returns
 unfolding fieldBytes
 returns c =
-    let a = c .before .before .before .before .before .before .before .args in
-    c .before .before .copy-at .ensures ∙ (λ i. over (a .out .now) 0 (13 ∷ c .before .before .before .before .before .code .ensures i ∷ []))
+    let copied = c .before .before in
+    let told = copied .before .before .before in
+    let a = told .before .before .args in
+    copied .copy-at .ensures
+    ∙ (λ i. over (a .out .now) 0 (13 ∷ told .code .ensures i ∷ []))
 
 pub put-link-power-delta-spec : {M : Type 1} → statement M
 put-link-power-delta-spec =
-    tie.close (tie.spec (λ c κs. search needs) (λ c. search needs) (λ c κs. search needs) (λ c. search needs) returns)
+    tie.close
+    (tie.spec (λ c κs. search needs) (λ c. search needs) (λ c κs. search needs) (λ c. search needs) returns)

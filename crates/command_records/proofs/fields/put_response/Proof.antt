@@ -2,19 +2,20 @@
 use borrow.Author.Needs.{needs}
 use mathlib.Core.Path.{refl}
 use native.Mathlib.Omega.{arith}
+use Rattle.octets.specs.Numbers.{le}
+use Rattle.octets.proofs.Strings.{over-then}
 use Rattle.command_records.proofs.fields.put_response.Statement.{statement}
 use Rattle.command_records.proofs.fields.put_response.Tie as tie
-use Rattle.octets.specs.Numbers.{le}
-use Rattle.octets.proofs.Strings.{over-three}
-use Rattle.octets.proofs.Numbers.{length-le}
 
 returns : tie.Need-returns
+unfolding le
 returns c =
-    let a = c .before .before .before .before .before .before .before .before .before .before .before .before .before .args in
-    over-three (a .out .now) _ _ _ 0 1 3 (le 1 (a .id)) (le 2 (a .address)) _ (omega arith) (rw (length-le 1 (a .id)) refl) (rw (length-le 2 (a .address)) refl)
-    (c .before .before .before .before .before .before .before .before .before .before .put-u8 .ensures)
-    (c .before .before .before .before .before .before .put-u16 .ensures)
-    (c .before .before .put-u82 .ensures)
+    let status = c .before .before in
+    let address = status .before .before .before .before in
+    let id = address .before .before .before .before in
+    over-then _ _ _ 0 3 _ _ (omega arith) refl
+    (over-then _ _ _ 0 1 _ _ (omega arith) refl (id .put-byte .ensures) (address .put-u16 .ensures))
+    (status .put-byte2 .ensures)
 
 pub put-response-spec : {M : Type 1} → statement M
 put-response-spec =

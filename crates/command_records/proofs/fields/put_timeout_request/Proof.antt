@@ -10,9 +10,13 @@ use Rattle.command_records.specs.Fields.{fieldBytes}
 returns : tie.Need-returns
 unfolding fieldBytes
 returns c =
-    let a = c .before .before .before .before .before .before .before .args in
-    c .before .before .copy-at .ensures ∙ (λ i. over (a .out .now) 0 (11 ∷ c .before .before .before .before .before .code .ensures i ∷ a .c .«end_device_configuration» ∷ []))
+    let copied = c .before .before in
+    let told = copied .before .before .before in
+    let a = told .before .before .args in
+    copied .copy-at .ensures
+    ∙ (λ i. over (a .out .now) 0 (11 ∷ told .code .ensures i ∷ a .c .«end_device_configuration» ∷ []))
 
 pub put-timeout-request-spec : {M : Type 1} → statement M
 put-timeout-request-spec =
-    tie.close (tie.spec (λ c κs. search needs) (λ c. search needs) (λ c κs. search needs) (λ c. search needs) returns)
+    tie.close
+    (tie.spec (λ c κs. search needs) (λ c. search needs) (λ c κs. search needs) (λ c. search needs) returns)

@@ -10,8 +10,11 @@ use Rattle.command_records.specs.Fields.{fieldBytes}
 returns : tie.Need-returns
 unfolding fieldBytes
 returns c =
-    let a = c .before .before .before .before .before .before .before .before .before .before .args in
-    c .before .before .copy-at .ensures ∙ (λ i. over (a .out .now) 0 (12 ∷ c .before .before .before .before .before .before .before .before .code .ensures i ∷ c .before .before .before .before .before .before .before .bit-of .ensures .0 i ∷ c .before .before .before .before .before .before .bit-of2 .ensures .0 i ∷ c .before .before .before .before .before .bit-of3 .ensures .0 i ∷ []))
+    let copied = c .before .before in
+    let told = copied .before .before .before in
+    let a = told .before .before .before .before .before .args in
+    copied .copy-at .ensures
+    ∙ (λ i. over (a .out .now) 0 (12 ∷ told .before .before .before .code .ensures i ∷ told .before .before .bit-of .ensures .0 i ∷ told .before .bit-of2 .ensures .0 i ∷ told .bit-of3 .ensures .0 i ∷ []))
 
 pub put-timeout-response-spec : {M : Type 1} → statement M
 put-timeout-response-spec =

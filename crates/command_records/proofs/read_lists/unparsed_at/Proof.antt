@@ -1,41 +1,26 @@
--- `unparsed_at` meets its contract. The loop's invariant: the first i entries stand at their places.
--- The measure is what is left of the places. Assumes nothing.
-use mathlib.Core.Path.{_≡_, refl, ap, _∙_}
+-- `unparsed_at` meets its contract. The loop's invariant: the first i places are filled. Assumes nothing.
+use mathlib.Core.Path.{_∙_}
 use native.Mathlib.Omega.{arith}
-use mathlib.Core.List.{_++_}
-use Prim.Native.Nat.{ℕ, _+_, _-_, _≤_, _<_}
-use lib.ListN.{length, drop, length-set}
+use Prim.Native.Nat.{ℕ, _+_, _-_, _*_}
 use lib.ListN.{getD}
 use Rattle.command_records.proofs.read_lists.unparsed_at.Statement.{statement}
 use Rattle.command_records.proofs.read_lists.unparsed_at.Tie as tie
-use Rattle.octets.specs.Strings.{tab}
-use Rattle.octets.proofs.Strings.{fill-turn, filled}
+use Rattle.commands.proofs.Filling.{Filled, fill-none, fill-next, fill-all, places-whole}
 
 abbrev Inv-loop : tie.InvT-loop
-Inv-loop bytes unparsed₀ i₀ unparsed i =
-    (i ≤ 108) × (length unparsed ≡ 108) × (unparsed ≡ tab (λ (k : ℕ). getD bytes (427 + k) 0) i ++ drop i unparsed₀)
+Inv-loop bytes unparsed₀ i₀ unparsed i = Filled (λ (k : ℕ). getD bytes (427 + k) 0) 108 0 108 i unparsed
 
 abbrev μ-loop : tie.MeasureT-loop
 μ-loop bytes unparsed₀ i₀ unparsed i = 108 - i
 
 loop-holds : tie.Need-loop-holds Inv-loop μ-loop
-unfolding tab
-loop-holds c = (omega arith, refl, refl)
+loop-holds c = fill-none _ 108 0 108
 
 loop-again : tie.Need-loop-again Inv-loop μ-loop
-loop-again c =
-    let l = c .before .before .loop in
-    let below : l .i < 108 = c .before .loop-test .taken in (
-      omega arith,
-      simp length-set (l .inv .1),
-      fill-turn _ (l .i) _ (l .unparsed) (c .byte-at .result) below (c .byte-at .ensures) (l .inv .2),
-    )
+loop-again c = fill-next (c .before .before .loop .inv) (omega arith) (omega arith) (c .byte-at .ensures)
 
 returns : tie.Need-returns Inv-loop μ-loop
-returns c =
-    let l = c .before .loop in
-    let done : l .i ≡ 108 = omega arith in
-    filled _ (l .i) _ (l .unparsed) (omega arith) (l .inv .2) ∙ ap (tab _) done
+returns c = fill-all (c .before .loop .inv) (c .loop-test .left) ∙ places-whole _ 0 108
 
 pub unparsed-at-spec : {M : Type 1} → statement M
 unparsed-at-spec =

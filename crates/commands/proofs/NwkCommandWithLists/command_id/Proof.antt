@@ -38,7 +38,8 @@ by-command (NwkCommand.NetworkCommissioningRequest c) f = refl
 by-command (NwkCommand.NetworkCommissioningResponse c) f = refl
 by-command NwkCommand.Unparsed f = refl
 
-identifier : (c : NwkCommand) (f : NwkCommandWithLists) (k : NwkCommandIdCode) → typedId c ≡ k → wireId (wireOf c f) ≡ known k (commandIdOf (getD (firsts 0 (f .unparsed) (f .«unparsed_len»)) 0 0))
+identifier : (c : NwkCommand) (f : NwkCommandWithLists) (k : NwkCommandIdCode) → typedId c ≡ k
+    → wireId (wireOf c f) ≡ known k (commandIdOf (getD (firsts 0 (f .unparsed) (f .«unparsed_len»)) 0 0))
 identifier c f k e = by-command c f ∙ ap (λ (t : NwkCommandIdCode). known t (commandIdOf (getD (firsts 0 (f .unparsed) (f .«unparsed_len»)) 0 0))) e
 
 none : (f : NwkCommandWithLists) → typedId (f .command) ≡ NwkCommandIdCode.Unknown → f .«unparsed_len» ≡ 0 → commandId f ≡ NwkCommandIdCode.Unknown

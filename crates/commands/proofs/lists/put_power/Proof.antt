@@ -2,7 +2,6 @@
 use borrow.Author.Needs.{needs}
 use native.Mathlib.Omega.{arith}
 use mathlib.Core.Path.{refl}
-use mathlib.Core.List.{[], _∷_}
 use Rattle.octets.proofs.Strings.{over-then}
 use Rattle.commands.proofs.lists.put_power.Statement.{statement}
 use Rattle.commands.proofs.lists.put_power.Tie as tie
@@ -13,8 +12,9 @@ use Rattle.commands.specs.Commands.{linkPowerDeltaFormat, powerEntry}
 returns : tie.Need-returns
 unfolding le width writeField writeFields linkPowerDeltaFormat powerEntry
 returns c =
-    let a = c .before .before .before .before .before .before .before .before .before .args in
-    over-then (a .out .now) (c .before .before .before .before .before .before .put-u16 .last .0) (c .before .before .put-byte .last .0) (a .i) _ (le 2 (a .power .«device_address»)) (a .power .«power_delta» ∷ []) (omega arith) refl (c .before .before .before .before .before .before .put-u16 .ensures) (c .before .before .put-byte .ensures)
+    let delta = c .before .before in
+    let address = delta .before .before .before .before in
+    over-then _ _ _ _ _ _ _ (omega arith) refl (address .put-u16 .ensures) (delta .put-byte .ensures)
 
 pub put-power-spec : {M : Type 1} → statement M
 put-power-spec =
