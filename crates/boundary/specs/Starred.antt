@@ -7,6 +7,7 @@ use mathlib.Core.List.{List, [], _∷_, _++_}
 use Prim.Native.Nat.{ℕ}
 use lib.ListN.{length, drop, take, replicate}
 use Rattle.header.specs.declared.{control.NwkFrameControl.NwkFrameControl, control.NwkFrameType.NwkFrameType, control.NwkRouteDiscovery.NwkRouteDiscovery, optional.OptionMulticast.OptionMulticast, optional.NwkSourceRoute.NwkSourceRoute, nwk.NwkHeader.NwkHeader}
+use Rattle.types.specs.Addresses.{nwk}
 use Rattle.types.specs.declared.OptionEui64.{OptionEui64}
 use Rattle.header.specs.Reading.{readHeader, blankHeader}
 use Rattle.commands.specs.declared.{NwkCommand.NwkCommand, NwkCommandWithLists.NwkCommandWithLists, NwkEndDeviceTimeoutRequestCommand.NwkEndDeviceTimeoutRequestCommand, EndDeviceTimeout.EndDeviceTimeout}
