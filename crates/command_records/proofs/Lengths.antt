@@ -1,13 +1,12 @@
 -- Where the parts of the command record begin, and that fields written over a blank front are filled up with zeros.
 -- Assumes nothing.
 use mathlib.Core.Path.{_≡_, refl, sym, ap, _∙_}
-use mathlib.Core.List.{List, [], _∷_, _++_, append-assoc}
+use mathlib.Core.List.{List, _∷_, _++_, append-assoc}
 use Prim.Native.Nat.{ℕ, suc, _+_, _*_, _≤_}
 use native.Mathlib.Omega.{arith}
 use lib.ListN.{length, getD, drop, replicate, length-append, length-drop, length-replicate}
 use lib.Seq.{drop-append-le}
 use Rattle.octets.specs.Strings.{over}
-use Rattle.octets.specs.Numbers.{le}
 use Rattle.octets.proofs.Strings.{over-front, over-then, length-tab}
 use Rattle.octets.proofs.Numbers.{length-le}
 use Rattle.commands.specs.Format.{Field, size, sizes}

@@ -1,15 +1,14 @@
 -- The lists that a command's record says are the command's own: each stands with its count behind parts of known
 -- length, and its entries are read back by the one inverse law of the formats.
 -- Assumes nothing.
-use mathlib.Core.Path.{_≡_, refl, sym, ap, subst, _∙_}
+use mathlib.Core.Path.{_≡_, refl, sym, ap, _∙_}
 use mathlib.Core.List.{List, [], _∷_, _++_, append-assoc}
 use Prim.Native.Nat.{ℕ, _+_, _*_, _<_}
-use native.Mathlib.Omega.{arith}
 use lib.ListN.{length, getD, length-append}
 use lib.Seq.{getD-at, getD-append-add}
 use Rattle.octets.specs.Strings.{tab}
 use Rattle.octets.proofs.Strings.{length-tab, getD-tab, tab-ext}
-use Rattle.commands.specs.Format.{Field, keptCount, size, width, sizes, widths, readField, readFields, writeEntries}
+use Rattle.commands.specs.Format.{Field, size, width, sizes, widths, readField, readFields, writeEntries}
 use Rattle.commands.specs.Commands.{entriesOf, routeRecordFormat, relayOf, relayEntry, noRelay, linkOf, linkEntry, noLink, networkReportFormat, panIdOf, panIdEntry, noPanId, linkPowerDeltaFormat, powerOf, powerEntry, powerAt, noPower}
 use Rattle.commands.proofs.Format.{HoldFields, entry-back}
 use Rattle.commands.proofs.Commands.{entries-shaped}

@@ -1,7 +1,7 @@
 -- Laws of the codes: a value's number means that value, and fits its field; a timeout code is known up to 14, and then
 -- its seconds are those of its number. Value by value, the timeouts by one computed test.
 -- Assumes nothing.
-use mathlib.Core.Path.{_≡_, refl, sym, ap, _∙_}
+use mathlib.Core.Path.{_≡_, refl, ap, _∙_}
 use mathlib.Core.Bool.{Bool, true, false, _&&_}
 use Prim.Native.Nat.{ℕ, zero, suc, _≤_, _<_}
 use native.Mathlib.Decide.{decLt}
@@ -12,9 +12,8 @@ use lib.ListN.{getD}
 use Rattle.octets.specs.Fields.{bit}
 use Rattle.commands.specs.Codes.{commandIdCode, commandIdOf, commandIds, manyToOneCode, manyToOneOf, manyToOnes, statusCode, statusOf, statuses, associationStatusCode, associationStatusOf, associationStatuses, reportIdentifierCode, reportIdentifierOf, updateIdentifierCode, updateIdentifierOf, timeoutCode, timeoutOf, timeouts, timeoutStatusCode, timeoutStatusOf, timeoutStatuses, powerTypeCode, powerTypeOf, powerTypes, commissioningTypeCode, commissioningTypeOf, commissioningTypes, isSet, deviceTypeBit, deviceTypeOf, powerSourceBit, powerSourceOf}
 use Rattle.commands.specs.Writing.{seconds, timeoutSeconds}
-use Rattle.commands.specs.Format.{Values}
 use Rattle.commands.proofs.Format.{first, second}
-use Rattle.commands.specs.declared.{TypedBody.TypedBody, NwkCommandId.NwkCommandId, NwkCommandIdCode.NwkCommandIdCode, NwkRouteRequestManyToOne.NwkRouteRequestManyToOne, NwkRouteRequestManyToOneCode.NwkRouteRequestManyToOneCode, NwkNetworkStatus.NwkNetworkStatus, NwkNetworkStatusCode.NwkNetworkStatusCode, Nwk802154AssociationStatus.Nwk802154AssociationStatus, Nwk802154AssociationStatusCode.Nwk802154AssociationStatusCode, NwkReportCommandIdentifier.NwkReportCommandIdentifier, NwkReportCommandIdentifierCode.NwkReportCommandIdentifierCode, NwkUpdateCommandIdentifier.NwkUpdateCommandIdentifier, NwkUpdateCommandIdentifierCode.NwkUpdateCommandIdentifierCode, EndDeviceTimeout.EndDeviceTimeout, EndDeviceTimeoutCode.EndDeviceTimeoutCode, NwkEndDeviceTimeoutResponseStatus.NwkEndDeviceTimeoutResponseStatus, NwkEndDeviceTimeoutResponseStatusCode.NwkEndDeviceTimeoutResponseStatusCode, NwkLinkPowerDeltaType.NwkLinkPowerDeltaType, NwkLinkPowerDeltaTypeCode.NwkLinkPowerDeltaTypeCode, NwkCommissioningType.NwkCommissioningType, NwkCommissioningTypeCode.NwkCommissioningTypeCode, NwkRejoinCapabilityInformationDeviceType.NwkRejoinCapabilityInformationDeviceType, NwkRejoinCapabilityInformationPowerSource.NwkRejoinCapabilityInformationPowerSource, EndDeviceTimeoutSeconds.EndDeviceTimeoutSeconds}
+use Rattle.commands.specs.declared.{NwkCommandId.NwkCommandId, NwkCommandIdCode.NwkCommandIdCode, NwkRouteRequestManyToOne.NwkRouteRequestManyToOne, NwkRouteRequestManyToOneCode.NwkRouteRequestManyToOneCode, NwkNetworkStatus.NwkNetworkStatus, NwkNetworkStatusCode.NwkNetworkStatusCode, Nwk802154AssociationStatus.Nwk802154AssociationStatus, Nwk802154AssociationStatusCode.Nwk802154AssociationStatusCode, NwkReportCommandIdentifier.NwkReportCommandIdentifier, NwkReportCommandIdentifierCode.NwkReportCommandIdentifierCode, NwkUpdateCommandIdentifier.NwkUpdateCommandIdentifier, NwkUpdateCommandIdentifierCode.NwkUpdateCommandIdentifierCode, EndDeviceTimeout.EndDeviceTimeout, EndDeviceTimeoutCode.EndDeviceTimeoutCode, NwkEndDeviceTimeoutResponseStatus.NwkEndDeviceTimeoutResponseStatus, NwkEndDeviceTimeoutResponseStatusCode.NwkEndDeviceTimeoutResponseStatusCode, NwkLinkPowerDeltaType.NwkLinkPowerDeltaType, NwkLinkPowerDeltaTypeCode.NwkLinkPowerDeltaTypeCode, NwkCommissioningType.NwkCommissioningType, NwkCommissioningTypeCode.NwkCommissioningTypeCode, NwkRejoinCapabilityInformationDeviceType.NwkRejoinCapabilityInformationDeviceType, NwkRejoinCapabilityInformationPowerSource.NwkRejoinCapabilityInformationPowerSource, EndDeviceTimeoutSeconds.EndDeviceTimeoutSeconds}
 
 -- ---- NwkCommandId
 
@@ -264,7 +263,3 @@ undeclared n h = rw (le-ltb n 15 h, lt-ltb 14 n (omega arith)) refl
 
 pub seconds-by : (n : ℕ) → secondsBy (timeoutOf n) ≡ timeoutSeconds n
 seconds-by n = elim (decLt n 15) [ yes l ↦ declared n l | no l ↦ undeclared n (omega arith) ]
-
--- what a code means where a number was taken for it, at the place where the number stands
-pub by-code : {K : Type 0} {t k : K} {x y : ℕ} (by : K → Values → TypedBody) (of : ℕ → K) {v : Values} → t ≡ of x → x ≡ y → t ≡ k → by k v ≡ by (of y) v
-by-code by of {v} e f g = ap (λ (j : _). by j v) (sym g ∙ e ∙ ap of f)

@@ -10,15 +10,14 @@ use lib.ListN.{length, getD}
 use Rattle.octets.specs.Strings.{tab}
 use Rattle.octets.proofs.Strings.{length-tab, getD-tab, tab-ext}
 use Rattle.commands.specs.Format.{Field, Values, partSizes, keptCount, size, width, sizes, widths, plus, summed, values}
-use Rattle.commands.specs.Commands.{routeRequestFormat, routeRequestOf, routeRequestValues, routeReplyFormat, routeReplyOf, routeReplyValues, networkStatusFormat, networkStatusOf, networkStatusValues, leaveFormat, leaveOf, leaveValues, routeRecordFormat, routeRecordOf, routeRecordValues, rejoinRequestFormat, rejoinRequestOf, rejoinRequestValues, rejoinResponseFormat, rejoinResponseOf, rejoinResponseValues, linkStatusFormat, linkStatusOf, linkStatusValues, networkReportFormat, networkReportOf, networkReportValues, networkUpdateFormat, networkUpdateOf, networkUpdateValues, timeoutRequestFormat, timeoutRequestOf, timeoutRequestValues, timeoutResponseFormat, timeoutResponseOf, timeoutResponseValues, linkPowerDeltaFormat, linkPowerDeltaOf, linkPowerDeltaValues, commissioningRequestFormat, commissioningRequestOf, commissioningRequestValues, commissioningResponseFormat, commissioningResponseOf, commissioningResponseValues, routeRequestBy, networkStatusBy, rejoinResponseBy, networkReportBy, networkUpdateBy, timeoutRequestBy, timeoutResponseBy, linkPowerDeltaBy, commissioningRequestBy, commissioningResponseBy, capabilityField, capabilityOf, capabilityValues, has, addressEntry, addressOf, firsts, relayOf, relayEntry, linkOf, linkEntry, noLink, powerOf, powerEntry, noPower, entriesOf, noRelay, panIdOf, panIdEntry, noPanId}
+use Rattle.commands.specs.Commands.{only, routeRequestFormat, routeRequestOf, routeRequestValues, routeReplyFormat, routeReplyOf, routeReplyValues, networkStatusFormat, networkStatusOf, networkStatusValues, leaveFormat, leaveOf, leaveValues, routeRecordFormat, routeRecordOf, routeRecordValues, rejoinRequestFormat, rejoinRequestOf, rejoinRequestValues, rejoinResponseFormat, rejoinResponseOf, rejoinResponseValues, linkStatusFormat, linkStatusOf, linkStatusValues, networkReportFormat, networkReportOf, networkReportValues, networkUpdateFormat, networkUpdateOf, networkUpdateValues, timeoutRequestFormat, timeoutRequestOf, timeoutRequestValues, timeoutResponseFormat, timeoutResponseOf, timeoutResponseValues, linkPowerDeltaFormat, linkPowerDeltaOf, linkPowerDeltaValues, commissioningRequestFormat, commissioningRequestOf, commissioningRequestValues, commissioningResponseFormat, commissioningResponseOf, commissioningResponseValues, routeRequestBy, networkStatusBy, rejoinResponseBy, networkReportBy, networkUpdateBy, timeoutRequestBy, timeoutResponseBy, linkPowerDeltaBy, commissioningRequestBy, commissioningResponseBy, capabilityField, capabilityOf, capabilityValues, has, addressEntry, addressOf, firsts, relayOf, relayEntry, linkOf, linkEntry, noLink, powerOf, powerEntry, noPower, entriesOf, noRelay, panIdOf, panIdEntry, noPanId}
 use Rattle.commands.specs.Reading.{formatOf, commandOf, withLists, listOf, listed, clearedBy}
 use Rattle.commands.specs.Writing.{Wire, wireOf}
 use Rattle.commands.specs.Writing.Wire.{body, raw}
 use Rattle.commands.proofs.Format.{Fit, Shaped}
 use Rattle.commands.proofs.CodeLaws.{manyToOne-back, status-back, associationStatus-back, reportIdentifier-back, updateIdentifier-back, timeout-back, timeoutStatus-back, powerType-back, commissioningType-back, isSet-bit, deviceType-back, powerSource-back}
-use Rattle.types.specs.Addresses.{nwk, panId}
 use Rattle.types.specs.declared.{Nwk.Nwk, OptionEui64.OptionEui64, PanId.PanId}
-use Rattle.commands.specs.declared.{NwkCommandId.NwkCommandId, NwkCommand.NwkCommand, NwkCommandWithLists.NwkCommandWithLists, TypedBody.TypedBody, NwkRejoinCapabilityInformation.NwkRejoinCapabilityInformation, NwkRouteRequestCommand.NwkRouteRequestCommand, NwkRouteReplyCommand.NwkRouteReplyCommand, NwkLeaveCommand.NwkLeaveCommand, NwkLinkStatusCommand.NwkLinkStatusCommand, NwkNetworkReportCommand.NwkNetworkReportCommand, NwkLinkPowerDeltaCommand.NwkLinkPowerDeltaCommand, NwkLinkStatus.NwkLinkStatus, NwkPowerListEntry.NwkPowerListEntry, NwkNetworkStatusCommand.NwkNetworkStatusCommand, NwkRejoinRequestCommand.NwkRejoinRequestCommand, NwkRejoinResponseCommand.NwkRejoinResponseCommand, NwkNetworkUpdateCommand.NwkNetworkUpdateCommand, NwkEndDeviceTimeoutRequestCommand.NwkEndDeviceTimeoutRequestCommand, NwkNetworkCommissioningRequestCommand.NwkNetworkCommissioningRequestCommand, NwkNetworkCommissioningResponseCommand.NwkNetworkCommissioningResponseCommand, NwkEndDeviceTimeoutResponseCommand.NwkEndDeviceTimeoutResponseCommand}
+use Rattle.commands.specs.declared.{NwkCommandId.NwkCommandId, NwkCommand.NwkCommand, NwkCommandWithLists.NwkCommandWithLists, NwkCommandList.NwkCommandList, TypedBody.TypedBody, NwkRejoinCapabilityInformation.NwkRejoinCapabilityInformation, NwkRouteRequestCommand.NwkRouteRequestCommand, NwkRouteReplyCommand.NwkRouteReplyCommand, NwkLeaveCommand.NwkLeaveCommand, NwkLinkStatusCommand.NwkLinkStatusCommand, NwkNetworkReportCommand.NwkNetworkReportCommand, NwkLinkPowerDeltaCommand.NwkLinkPowerDeltaCommand, NwkLinkStatus.NwkLinkStatus, NwkPowerListEntry.NwkPowerListEntry, NwkNetworkStatusCommand.NwkNetworkStatusCommand, NwkRejoinRequestCommand.NwkRejoinRequestCommand, NwkRejoinResponseCommand.NwkRejoinResponseCommand, NwkNetworkUpdateCommand.NwkNetworkUpdateCommand, NwkEndDeviceTimeoutRequestCommand.NwkEndDeviceTimeoutRequestCommand, NwkNetworkCommissioningRequestCommand.NwkNetworkCommissioningRequestCommand, NwkNetworkCommissioningResponseCommand.NwkNetworkCommissioningResponseCommand, NwkEndDeviceTimeoutResponseCommand.NwkEndDeviceTimeoutResponseCommand}
 
 -- ---- lists
 
@@ -118,6 +117,17 @@ abbrev pub WireBack : NwkCommand → NwkCommandWithLists → Wire → Type 0
 WireBack c f (body id v) = Back c f id v
 WireBack c f (raw bs) = c ≡ NwkCommand.Unparsed
 
+-- a command without entries: its values are as many as its format has, and mean it
+plain-back : {c : NwkCommand} {id : NwkCommandId} (f : NwkCommandWithLists) (hs : List ℕ) → listOf c ≡ NwkCommandList.NoList → formatOf id .counts ≡ []
+    → length hs ≡ widths (formatOf id .head) → commandOf id (only hs) ≡ TypedBody.Typed c → Back c f id (only hs)
+unfolding listed clearedBy summed
+plain-back {c} {id} f hs none uncounted whole means =
+    record {
+      fit = record { head = whole; count = rw uncounted refl; entries = none-shaped (formatOf id .entry) };
+      command = means;
+      list = λ s e. rw none refl;
+    }
+
 routeRequest-back : (c : NwkRouteRequestCommand) (f : NwkCommandWithLists)
     → Back (NwkCommand.RouteRequest c) f NwkCommandId.RouteRequest (routeRequestValues c)
 unfolding formatOf commandOf listed clearedBy routeRequestFormat routeRequestOf routeRequestValues routeRequestBy
@@ -161,30 +171,20 @@ routeReply-back c f =
 
 networkStatus-back : (c : NwkNetworkStatusCommand) (f : NwkCommandWithLists)
     → Back (NwkCommand.NetworkStatus c) f NwkCommandId.NetworkStatus (networkStatusValues c)
-unfolding formatOf commandOf listed clearedBy networkStatusFormat networkStatusOf networkStatusValues networkStatusBy
-    partSizes keptCount size width sizes widths summed plus
+unfolding formatOf commandOf networkStatusFormat networkStatusOf networkStatusValues networkStatusBy keptCount width widths
 networkStatus-back c f =
-    record {
-      fit = record { head = refl; count = refl; entries = none-shaped (networkStatusFormat .entry) };
-      command = ap (λ k. networkStatusBy k (networkStatusValues c)) (status-back (c .«status_code»));
-      list = λ s e. refl;
-    }
+    plain-back f _ refl refl refl
+    (ap (λ k. networkStatusBy k (networkStatusValues c)) (status-back (c .«status_code»)))
 
-leave-back : (c : NwkLeaveCommand) (f : NwkCommandWithLists)
-    → Back (NwkCommand.Leave c) f NwkCommandId.Leave (leaveValues c)
-unfolding formatOf commandOf listed clearedBy leaveFormat leaveOf leaveValues
-    partSizes keptCount size width sizes widths summed plus
+leave-back : (c : NwkLeaveCommand) (f : NwkCommandWithLists) → Back (NwkCommand.Leave c) f NwkCommandId.Leave (leaveValues c)
+unfolding formatOf commandOf leaveFormat leaveOf leaveValues keptCount width widths
 leave-back c f =
-    record {
-      fit = record { head = refl; count = refl; entries = none-shaped (leaveFormat .entry) };
-      command =
-          λ i. TypedBody.Typed (NwkCommand.Leave (record {
-            rejoin = isSet-bit (c .rejoin) i;
-            request = isSet-bit (c .request) i;
-            «remove_children» = isSet-bit (c .«remove_children») i;
-          }));
-      list = λ s e. refl;
-    }
+    plain-back f _ refl refl refl
+    (λ i. TypedBody.Typed (NwkCommand.Leave (record {
+      rejoin = isSet-bit (c .rejoin) i;
+      request = isSet-bit (c .request) i;
+      «remove_children» = isSet-bit (c .«remove_children») i;
+    })))
 
 routeRecord-back : (f : NwkCommandWithLists)
     → Back NwkCommand.RouteRecord f NwkCommandId.RouteRecord (routeRecordValues (f .relays) (f .«relay_count»))
@@ -201,26 +201,17 @@ routeRecord-back f =
 
 rejoinRequest-back : (c : NwkRejoinRequestCommand) (f : NwkCommandWithLists)
     → Back (NwkCommand.RejoinRequest c) f NwkCommandId.RejoinRequest (rejoinRequestValues c)
-unfolding formatOf commandOf listed clearedBy rejoinRequestFormat rejoinRequestOf rejoinRequestValues capabilityField capabilityValues
-    partSizes keptCount size width sizes widths summed plus
+unfolding formatOf commandOf rejoinRequestFormat rejoinRequestOf rejoinRequestValues capabilityField capabilityValues keptCount width widths
 rejoinRequest-back c f =
-    record {
-      fit = record { head = refl; count = refl; entries = none-shaped (rejoinRequestFormat .entry) };
-      command =
-          λ i. TypedBody.Typed (NwkCommand.RejoinRequest (record { «capability_information» = capability-back (c .«capability_information») i }));
-      list = λ s e. refl;
-    }
+    plain-back f _ refl refl refl
+    (λ i. TypedBody.Typed (NwkCommand.RejoinRequest (record { «capability_information» = capability-back (c .«capability_information») i })))
 
 rejoinResponse-back : (c : NwkRejoinResponseCommand) (f : NwkCommandWithLists)
     → Back (NwkCommand.RejoinResponse c) f NwkCommandId.RejoinResponse (rejoinResponseValues c)
-unfolding formatOf commandOf listed clearedBy rejoinResponseFormat rejoinResponseOf rejoinResponseValues rejoinResponseBy
-    partSizes keptCount size width sizes widths summed plus
+unfolding formatOf commandOf rejoinResponseFormat rejoinResponseOf rejoinResponseValues rejoinResponseBy keptCount width widths
 rejoinResponse-back c f =
-    record {
-      fit = record { head = refl; count = refl; entries = none-shaped (rejoinResponseFormat .entry) };
-      command = ap (λ k. rejoinResponseBy k (rejoinResponseValues c)) (associationStatus-back (c .«rejoin_status»));
-      list = λ s e. refl;
-    }
+    plain-back f _ refl refl refl
+    (ap (λ k. rejoinResponseBy k (rejoinResponseValues c)) (associationStatus-back (c .«rejoin_status»)))
 
 linkStatus-back : (c : NwkLinkStatusCommand) (f : NwkCommandWithLists)
     → Back (NwkCommand.LinkStatus c) f NwkCommandId.LinkStatus (linkStatusValues c (f .«link_statuses») (f .«link_statuses_len»))
@@ -254,43 +245,30 @@ networkReport-back c f =
 
 networkUpdate-back : (c : NwkNetworkUpdateCommand) (f : NwkCommandWithLists)
     → Back (NwkCommand.NetworkUpdate c) f NwkCommandId.NetworkUpdate (networkUpdateValues c)
-unfolding formatOf commandOf listed clearedBy networkUpdateFormat networkUpdateOf networkUpdateValues networkUpdateBy
-    partSizes keptCount size width sizes widths summed plus
+unfolding formatOf commandOf networkUpdateFormat networkUpdateOf networkUpdateValues networkUpdateBy keptCount width widths
 networkUpdate-back c f =
-    record {
-      fit = record { head = refl; count = refl; entries = none-shaped (networkUpdateFormat .entry) };
-      command = ap (λ k. networkUpdateBy k (networkUpdateValues c)) (updateIdentifier-back (c .«update_command_identifier»));
-      list = λ s e. refl;
-    }
+    plain-back f _ refl refl refl
+    (ap (λ k. networkUpdateBy k (networkUpdateValues c)) (updateIdentifier-back (c .«update_command_identifier»)))
 
 timeoutRequest-back : (c : NwkEndDeviceTimeoutRequestCommand) (f : NwkCommandWithLists)
     → Back (NwkCommand.EndDeviceTimeoutRequest c) f NwkCommandId.EndDeviceTimeoutRequest (timeoutRequestValues c)
-unfolding formatOf commandOf listed clearedBy timeoutRequestFormat timeoutRequestOf timeoutRequestValues timeoutRequestBy
-    partSizes keptCount size width sizes widths summed plus
+unfolding formatOf commandOf timeoutRequestFormat timeoutRequestOf timeoutRequestValues timeoutRequestBy keptCount width widths
 timeoutRequest-back c f =
-    record {
-      fit = record { head = refl; count = refl; entries = none-shaped (timeoutRequestFormat .entry) };
-      command = ap (λ k. timeoutRequestBy k (timeoutRequestValues c)) (timeout-back (c .«request_timeout_enum»));
-      list = λ s e. refl;
-    }
+    plain-back f _ refl refl refl
+    (ap (λ k. timeoutRequestBy k (timeoutRequestValues c)) (timeout-back (c .«request_timeout_enum»)))
 
 timeoutResponse-back : (c : NwkEndDeviceTimeoutResponseCommand) (f : NwkCommandWithLists)
     → Back (NwkCommand.EndDeviceTimeoutResponse c) f NwkCommandId.EndDeviceTimeoutResponse (timeoutResponseValues c)
-unfolding formatOf commandOf listed clearedBy timeoutResponseFormat timeoutResponseOf timeoutResponseValues timeoutResponseBy
-    partSizes keptCount size width sizes widths summed plus
+unfolding formatOf commandOf timeoutResponseFormat timeoutResponseOf timeoutResponseValues timeoutResponseBy keptCount width widths
 timeoutResponse-back c f =
-    record {
-      fit = record { head = refl; count = refl; entries = none-shaped (timeoutResponseFormat .entry) };
-      command =
-          ap (λ k. timeoutResponseBy k (timeoutResponseValues c)) (timeoutStatus-back (c .status))
-          ∙ (λ i. TypedBody.Typed (NwkCommand.EndDeviceTimeoutResponse (record {
-            status = c .status;
-            «mac_data_poll_keepalive_supported» = isSet-bit (c .«mac_data_poll_keepalive_supported») i;
-            «end_device_timeout_request_keepalive_supported» = isSet-bit (c .«end_device_timeout_request_keepalive_supported») i;
-            «power_negotation_support» = isSet-bit (c .«power_negotation_support») i;
-          })));
-      list = λ s e. refl;
-    }
+    plain-back f _ refl refl refl
+    (ap (λ k. timeoutResponseBy k (timeoutResponseValues c)) (timeoutStatus-back (c .status))
+    ∙ (λ i. TypedBody.Typed (NwkCommand.EndDeviceTimeoutResponse (record {
+      status = c .status;
+      «mac_data_poll_keepalive_supported» = isSet-bit (c .«mac_data_poll_keepalive_supported») i;
+      «end_device_timeout_request_keepalive_supported» = isSet-bit (c .«end_device_timeout_request_keepalive_supported») i;
+      «power_negotation_support» = isSet-bit (c .«power_negotation_support») i;
+    }))))
 
 linkPowerDelta-back : (c : NwkLinkPowerDeltaCommand) (f : NwkCommandWithLists)
     → Back (NwkCommand.LinkPowerDelta c) f NwkCommandId.LinkPowerDelta (linkPowerDeltaValues c (f .«power_list») (f .«list_count»))
@@ -307,30 +285,21 @@ linkPowerDelta-back c f =
 
 commissioningRequest-back : (c : NwkNetworkCommissioningRequestCommand) (f : NwkCommandWithLists)
     → Back (NwkCommand.NetworkCommissioningRequest c) f NwkCommandId.NetworkCommissioningRequest (commissioningRequestValues c)
-unfolding formatOf commandOf listed clearedBy commissioningRequestFormat commissioningRequestOf commissioningRequestValues commissioningRequestBy capabilityField capabilityValues
-    partSizes keptCount size width sizes widths summed plus
+unfolding formatOf commandOf commissioningRequestFormat commissioningRequestOf commissioningRequestValues commissioningRequestBy capabilityField capabilityValues keptCount width widths
 commissioningRequest-back c f =
-    record {
-      fit = record { head = refl; count = refl; entries = none-shaped (commissioningRequestFormat .entry) };
-      command =
-          ap (λ k. commissioningRequestBy k (commissioningRequestValues c)) (commissioningType-back (c .«commissioning_type»))
-          ∙ (λ i. TypedBody.Typed (NwkCommand.NetworkCommissioningRequest (record {
-            «commissioning_type» = c .«commissioning_type»;
-            «capability_information» = capability-back (c .«capability_information») i;
-          })));
-      list = λ s e. refl;
-    }
+    plain-back f _ refl refl refl
+    (ap (λ k. commissioningRequestBy k (commissioningRequestValues c)) (commissioningType-back (c .«commissioning_type»))
+    ∙ (λ i. TypedBody.Typed (NwkCommand.NetworkCommissioningRequest (record {
+      «commissioning_type» = c .«commissioning_type»;
+      «capability_information» = capability-back (c .«capability_information») i;
+    }))))
 
 commissioningResponse-back : (c : NwkNetworkCommissioningResponseCommand) (f : NwkCommandWithLists)
     → Back (NwkCommand.NetworkCommissioningResponse c) f NwkCommandId.NetworkCommissioningResponse (commissioningResponseValues c)
-unfolding formatOf commandOf listed clearedBy commissioningResponseFormat commissioningResponseOf commissioningResponseValues commissioningResponseBy
-    partSizes keptCount size width sizes widths summed plus
+unfolding formatOf commandOf commissioningResponseFormat commissioningResponseOf commissioningResponseValues commissioningResponseBy keptCount width widths
 commissioningResponse-back c f =
-    record {
-      fit = record { head = refl; count = refl; entries = none-shaped (commissioningResponseFormat .entry) };
-      command = ap (λ k. commissioningResponseBy k (commissioningResponseValues c)) (associationStatus-back (c .status));
-      list = λ s e. refl;
-    }
+    plain-back f _ refl refl refl
+    (ap (λ k. commissioningResponseBy k (commissioningResponseValues c)) (associationStatus-back (c .status)))
 
 pub back : (c : NwkCommand) (f : NwkCommandWithLists) → WireBack c f (wireOf c f)
 unfolding wireOf

@@ -21,7 +21,7 @@ use Rattle.commands.specs.Commands.{routeRequestFormat, routeRequestOf, 
 use Rattle.commands.specs.Reading.{formatOf, commandOf, places, withLists, listOf, listed, clearedBy}
 use Rattle.commands.proofs.Format.{values-held, length-entries, second}
 use Rattle.commands.proofs.Commands.{map-tab}
-use Rattle.commands.proofs.Ranges.{InAddress, InPower, Ranged, RangedList, linksHeld, tooBig}
+use Rattle.commands.proofs.Ranges.{InAddress, InPower, Ranged, RangedList, tooBig}
 use Rattle.commands.proofs.Lengths.{Typed}
 use Rattle.types.specs.declared.{Nwk.Nwk, OptionEui64.OptionEui64, PanId.PanId}
 use Rattle.commands.specs.declared.{NwkCommandId.NwkCommandId, NwkCommand.NwkCommand, NwkCommandList.NwkCommandList, TypedBody.TypedBody, NwkLinkStatus.NwkLinkStatus, NwkPowerListEntry.NwkPowerListEntry, NwkRouteRequestManyToOneCode.NwkRouteRequestManyToOneCode, NwkNetworkStatusCode.NwkNetworkStatusCode, Nwk802154AssociationStatusCode.Nwk802154AssociationStatusCode, NwkReportCommandIdentifierCode.NwkReportCommandIdentifierCode, NwkUpdateCommandIdentifierCode.NwkUpdateCommandIdentifierCode, EndDeviceTimeoutCode.EndDeviceTimeoutCode, NwkEndDeviceTimeoutResponseStatusCode.NwkEndDeviceTimeoutResponseStatusCode, NwkLinkPowerDeltaTypeCode.NwkLinkPowerDeltaTypeCode, NwkCommissioningTypeCode.NwkCommissioningTypeCode}

@@ -5,7 +5,7 @@ use mathlib.Core.Path.{_≡_, refl, sym, ap, _∙_}
 use mathlib.Core.List.{List, [], _∷_, _++_, append-assoc, append-nil}
 use mathlib.Core.Logic.{⊎-elim, _⊎_, inl, inr}
 use Prim.Native.Nat.{ℕ, zero, suc, _+_, _-_, _≤_, _<_}
-use native.Mathlib.Nat.{add-zero, add-assoc}
+use native.Mathlib.Nat.{add-zero, zero-add, add-assoc}
 use native.Mathlib.Numerals.{add-one}
 use native.Mathlib.Decide.{decLt}
 use native.Mathlib.Omega.{arith}
@@ -95,6 +95,10 @@ over-over {A} o i j xs bs h e =
 pub over-then : {A : Type 0} (o o₁ o₂ : List A) (i j : ℕ) (xs ys : List A) → i ≤ length o → j ≡ i + length xs
     → o₁ ≡ over o i xs → o₂ ≡ over o₁ j ys → o₂ ≡ over o i (xs ++ ys)
 over-then o o₁ o₂ i j xs ys h e p q = q ∙ ap (λ (l : List _). over l j ys) p ∙ over-over o i j xs ys h e
+
+-- the same at the front
+pub behind : {A : Type 0} {o₁ o₂ : List A} (o xs ys : List A) (j : ℕ) → o₁ ≡ over o 0 xs → o₂ ≡ over o₁ j ys → j ≡ length xs → o₂ ≡ over o 0 (xs ++ ys)
+behind o xs ys j p q e = over-then o _ _ 0 j xs ys (omega arith) (e ∙ sym (zero-add (length xs))) p q
 
 -- three writes, each right behind the one before
 pub over-three : {A : Type 0} (o o₁ o₂ o₃ : List A) (i j k : ℕ) (xs ys zs : List A) → i ≤ length o

@@ -1,10 +1,8 @@
 -- `put_fields` meets its contract: the fields over a front of zeros. Assumes nothing.
 use borrow.Author.Needs.{needs}
-use mathlib.Core.Path.{ap, _∙_}
 use Rattle.command_records.proofs.fields.put_fields.Statement.{statement}
 use Rattle.command_records.proofs.fields.put_fields.Tie as tie
-use Rattle.octets.specs.Strings.{over}
-use Rattle.command_records.specs.Fields.{fieldBytes, fieldsRecord}
+use Rattle.command_records.specs.Fields.{fieldsRecord}
 use Rattle.command_records.proofs.Lengths.{length-fields, over-places}
 
 returns : tie.Need-returns
@@ -12,9 +10,7 @@ unfolding fieldsRecord
 returns c =
     let own = c .before .before in
     let blank = own .before .before .before .before in
-    let a = blank .before .before .before .before .args in
-    own .put-own-fields .ensures ∙ ap (λ o. over o 0 (fieldBytes (a .command))) (blank .copy-at .ensures)
-    ∙ over-places 25 (a .out .now) (fieldBytes (a .command)) (length-fields (a .command))
+    rw (own .put-own-fields .ensures, blank .copy-at .ensures) (over-places 25 _ _ (length-fields (blank .before .before .before .before .args .command)))
 
 pub put-fields-spec : {M : Type 1} → statement M
 put-fields-spec =

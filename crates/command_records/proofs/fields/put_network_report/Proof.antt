@@ -1,13 +1,9 @@
 -- `put_network_report` meets its contract: two parts, one right behind the other. Assumes nothing.
 use borrow.Author.Needs.{needs}
-use mathlib.Core.Path.{refl, ap, _∙_}
-use native.Mathlib.Omega.{arith}
-use mathlib.Core.List.{[], _∷_}
-use Prim.Native.Nat.{ℕ}
-use Rattle.octets.proofs.Strings.{over-then}
+use mathlib.Core.Path.{refl}
 use Rattle.command_records.proofs.fields.put_network_report.Statement.{statement}
 use Rattle.command_records.proofs.fields.put_network_report.Tie as tie
-use Rattle.octets.specs.Strings.{over}
+use Rattle.octets.proofs.Strings.{behind}
 use Rattle.command_records.specs.Fields.{fieldBytes}
 
 returns : tie.Need-returns
@@ -15,13 +11,9 @@ unfolding fieldBytes
 returns c =
     let epid = c .before .before in
     let values = epid .before .before .before .before in
-    let a = values .before .before .before .before .before .args in
-    over-then _ _ _ 0 2 _ _ (omega arith) refl
-    (values .copy-at .ensures ∙ ap (λ (x : ℕ). over (a .out .now) 0 (9 ∷ x ∷ [])) (values .before .before .before .code .ensures))
-    (epid .put-u64 .ensures)
+    rw (← values .before .before .before .code .ensures) (behind _ _ _ _ (values .copy-at .ensures) (epid .put-u64 .ensures) refl)
 
 pub put-network-report-spec : {M : Type 1} → statement M
 put-network-report-spec =
-    tie.close
-    (tie.spec (λ c κs. search needs) (λ c. search needs) (λ c κs. search needs) (λ c κs. search needs)
+    tie.close (tie.spec (λ c κs. search needs) (λ c. search needs) (λ c κs. search needs) (λ c κs. search needs)
     (λ c. search needs) returns)

@@ -1,11 +1,10 @@
 -- `put_route_reply` meets its contract: three parts, each right behind the one before. Assumes nothing.
 use borrow.Author.Needs.{needs}
 use mathlib.Core.Path.{refl}
-use native.Mathlib.Omega.{arith}
-use Rattle.octets.specs.Numbers.{le}
-use Rattle.octets.proofs.Strings.{over-then}
 use Rattle.command_records.proofs.fields.put_route_reply.Statement.{statement}
 use Rattle.command_records.proofs.fields.put_route_reply.Tie as tie
+use Rattle.octets.specs.Numbers.{le}
+use Rattle.octets.proofs.Strings.{behind}
 use Rattle.command_records.specs.Fields.{addressRecord, fieldBytes}
 
 returns : tie.Need-returns
@@ -14,11 +13,10 @@ returns c =
     let responder = c .before .before in
     let originator = responder .before .before .before .before in
     let front = originator .before .before .before .before in
-    over-then _ _ _ 0 16 _ _ (omega arith) refl
-    (over-then _ _ _ 0 7 _ _ (omega arith) refl (front .put-route-reply-front .ensures) (originator .put-address .ensures))
-    (responder .put-address2 .ensures)
+    behind _ _ _ _ (behind _ _ _ _ (front .put-route-reply-front .ensures) (originator .put-address .ensures) refl)
+    (responder .put-address2 .ensures) refl
 
 pub put-route-reply-spec : {M : Type 1} → statement M
 put-route-reply-spec =
-    tie.close
-    (tie.spec (λ c κs. search needs) (λ c κs. search needs) (λ c κs. search needs) (λ c. search needs) returns)
+    tie.close (tie.spec (λ c κs. search needs) (λ c κs. search needs) (λ c κs. search needs) (λ c. search needs)
+    returns)

@@ -1,11 +1,10 @@
 -- `put_route_reply_front` meets its contract: four parts, each right behind the one before. Assumes nothing.
 use borrow.Author.Needs.{needs}
 use mathlib.Core.Path.{refl}
-use native.Mathlib.Omega.{arith}
-use Rattle.octets.specs.Numbers.{le}
-use Rattle.octets.proofs.Strings.{over-then}
 use Rattle.command_records.proofs.fields.put_route_reply_front.Statement.{statement}
 use Rattle.command_records.proofs.fields.put_route_reply_front.Tie as tie
+use Rattle.octets.specs.Numbers.{le}
+use Rattle.octets.proofs.Strings.{behind}
 
 returns : tie.Need-returns
 unfolding le
@@ -14,14 +13,11 @@ returns c =
     let responder = cost .before .before .before .before in
     let originator = responder .before .before .before .before in
     let values = originator .before .before .before .before in
-    over-then _ _ _ 0 6 _ _ (omega arith) refl
-    (over-then _ _ _ 0 4 _ _ (omega arith) refl
-    (over-then _ _ _ 0 2 _ _ (omega arith) refl (values .copy-at .ensures) (originator .put-u16 .ensures))
-    (responder .put-u162 .ensures))
-    (cost .put-byte .ensures)
+    behind _ _ _ _
+    (behind _ _ _ _ (behind _ _ _ _ (values .copy-at .ensures) (originator .put-u16 .ensures) refl) (responder .put-u162 .ensures) refl)
+    (cost .put-byte .ensures) refl
 
 pub put-route-reply-front-spec : {M : Type 1} → statement M
 put-route-reply-front-spec =
-    tie.close
-    (tie.spec (λ c. search needs) (λ c κs. search needs) (λ c κs. search needs) (λ c κs. search needs)
+    tie.close (tie.spec (λ c. search needs) (λ c κs. search needs) (λ c κs. search needs) (λ c κs. search needs)
     (λ c κs. search needs) (λ c. search needs) returns)

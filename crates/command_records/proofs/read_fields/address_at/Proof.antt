@@ -1,9 +1,8 @@
 -- `address_at` meets its contract: the address if its presence byte is 1. Assumes nothing.
 use borrow.Author.Needs.{needs}
-use mathlib.Core.Path.{_≡_, refl, _∙_}
+use mathlib.Core.Path.{_≡_, refl}
 use mathlib.Core.Bool.{Bool, true, false, cond}
 use Prim.Native.Nat.{ℕ}
-use lib.Dec.{eqb}
 use Rattle.command_records.proofs.read_fields.address_at.Statement.{statement}
 use Rattle.command_records.proofs.read_fields.address_at.Tie as tie
 use Rattle.types.specs.Optional.{ieeeIf}
@@ -16,9 +15,7 @@ by-presence false x = refl
 
 returns : tie.Need-returns
 unfolding addressOf
-returns c =
-    let address = c .before in
-    c .when .ensures ∙ (λ i. by-presence (eqb (address .before .byte-at .ensures i) 1) (address .read-u64 .ensures i) i)
+returns c = rw (c .when .ensures, by-presence, c .before .before .byte-at .ensures, c .before .read-u64 .ensures)
 
 pub address-at-spec : {M : Type 1} → statement M
 address-at-spec =

@@ -1,7 +1,7 @@
 -- `unparsed_at` meets its contract. The loop's invariant: the first i places are filled. Assumes nothing.
 use mathlib.Core.Path.{_∙_}
 use native.Mathlib.Omega.{arith}
-use Prim.Native.Nat.{ℕ, _+_, _-_, _*_}
+use Prim.Native.Nat.{ℕ, _+_, _-_}
 use lib.ListN.{getD}
 use Rattle.command_records.proofs.read_lists.unparsed_at.Statement.{statement}
 use Rattle.command_records.proofs.read_lists.unparsed_at.Tie as tie
