@@ -25,7 +25,6 @@ returns c =
     let sealed = c .before .before in
     let opened = sealed .before .before .before .before .before .before in
     let fit = opened .before .before in
-    let a = fit .before .before .before .before .args in
     let o = opened .«open» .ensures in
     let s = sealed .seal .ensures in
     let run = open-then-seal-run _ _ _ _ _ _ _ _ (o .0) (o .1) (s .0) (s .1) in (

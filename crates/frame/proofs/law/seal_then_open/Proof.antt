@@ -27,7 +27,6 @@ returns c =
     let sealed = opened .before .before .before .before .before in
     let option = sealed .before .before in
     let header = option .before in
-    let a = header .before .before .before .before .args in
     let s = sealed .seal .ensures in
     let o = opened .«open» .ensures in
     let run = seal-then-open-run _ _ _ _ _ _ _ _ _ _ (s .0) (s .1) (o .0) (o .1) in (
