@@ -1,10 +1,9 @@
 -- `write_frame` meets its contract: refused with nothing changed, or header and payload one behind the other. Assumes nothing.
 use borrow.Author.Needs.{needs}
 use mathlib.Core.Path.{sym, ap, _∙_}
-use Prim.Native.Nat.{ℕ, _+_}
 use native.Mathlib.Nat.{zero-add}
 use native.Mathlib.Omega.{arith}
-use lib.ListN.{length, length-append}
+use lib.ListN.{length-append}
 use Rattle.frame.proofs.write_frame.Statement.{statement}
 use Rattle.frame.proofs.write_frame.Tie as tie
 use Rattle.octets.proofs.Strings.{over-then}
@@ -51,9 +50,8 @@ returns-2 c =
     let sized = header .before .before in
     let passed = sized .before in
     let a = passed .before .before .before .before .args in
-    let w = write-accepted _ _ (frameBytes (a .h) (a .payload .now)) (a .out .now) (passed .before .write-refusal .ensures) (passed .if1 .left) in
-    let size = ap (λ (n : ℕ). n + length (a .payload .now)) (sized .size .ensures .0) ∙ sym (length-append (headerBytes (a .h)) (a .payload .now)) in (
-      (λ i. record { refusal = 0; length = size i }) ∙ ap (λ (r : Run). r .answer) w,
+    let w = write-accepted _ _ (frameBytes (a .h) (a .payload .now)) (a .out .now) (passed .before .write-refusal .ensures) (passed .if1 .left) in (
+      rw (sized .size .ensures .0, ← length-append (headerBytes (a .h)) (a .payload .now)) (ap (λ (r : Run). r .answer) w),
       over-then _ _ _ 0 _ _ _ (omega arith) (sized .size .ensures .0 ∙ sym (zero-add _)) (header .put .ensures) (copied .copy-at .ensures)
           ∙ ap (λ (r : Run). r .out) w,
     )

@@ -9,9 +9,7 @@ use Rattle.frame.proofs.opening.open_frame.Tie as tie
 use Rattle.header.specs.Auxiliary.{auxBytes}
 use Rattle.header.specs.declared.auxiliary.NwkAuxHeader.{NwkAuxHeader}
 use Rattle.frame.proofs.Levels.{level-length}
-use Rattle.ccm.specs.Operations.{openedBy, givenIf}
 use Rattle.frame.specs.Security.{networkLevel, authenticated}
-use Rattle.frame.specs.Opening.{ciphertextOf, micOf}
 use Rattle.frame.proofs.Answers.{auth-length, auth-taken}
 
 both-headers-requires : tie.Need-both-headers-requires
@@ -44,14 +42,10 @@ open-part-requires c κs =
 
 returns : tie.Need-returns
 returns c =
-    let part = c .before .before .open-part in
+    let part = c .before .before .open-part .ensures in
     let s = c .before .before .before .before .before in
     let n = s .before .before .before .before .nonce-of .ensures in
-    let a = start s .args in
-    let e = taken s in (
-      part .ensures .0 ∙ (λ i. openedBy 4 (a .key) (n i) (e i) (ciphertextOf 4 (a .part .now)) (micOf 4 (a .part .now)) .valid),
-      part .ensures .1 ∙ (λ i. givenIf (part .result) (openedBy 4 (a .key) (n i) (e i) (ciphertextOf 4 (a .part .now)) (micOf 4 (a .part .now))) (a .out .now)),
-    )
+    (part .0 ∙ rw (n, taken s), part .1 ∙ rw (n, taken s))
 
 pub open-frame-spec : {M : Type 1} → statement M
 open-frame-spec =

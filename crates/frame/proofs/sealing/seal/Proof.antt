@@ -2,11 +2,9 @@
 use borrow.Author.Needs.{needs}
 use mathlib.Core.Path.{sym, ap, _∙_}
 use native.Mathlib.Omega.{arith}
-use lib.ListN.{length}
 use Rattle.frame.proofs.sealing.seal.Statement.{statement}
 use Rattle.frame.proofs.sealing.seal.Tie as tie
 use Rattle.header.specs.declared.auxiliary.NwkAuxHeader.{NwkAuxHeader}
-use Rattle.octets.specs.Strings.{over}
 use Rattle.octets.specs.Writing.{Run}
 use Rattle.octets.proofs.Writing.{write-accepted, write-refused}
 use Rattle.frame.specs.Security.{networkLevel, orBlank}
@@ -48,11 +46,9 @@ returns-2 c =
     let bs = sealedBytes networkLevel 4 (a .key .0) (a .h) (orBlank (a .aux)) (a .payload .now) in
     let x = blank .or-blank .ensures in
     let w = write-accepted _ _ bs (a .out .now) (passed .before .seal-refusal .ensures) (passed .if1 .left) in
-    let length = sized .sealed-length .ensures ∙ ap (λ (z : NwkAuxHeader). sealedLength 4 (a .h) z (a .payload .now)) x in
-    let size = length ∙ sym (sealed-length networkLevel 4 (a .key .0) (a .h) (orBlank (a .aux)) (a .payload .now)) in (
-      (λ i. record { refusal = 0; length = size i }) ∙ ap (λ (r : Run). r .answer) w,
-      sealed .seal-frame .ensures ∙ ap (λ (z : NwkAuxHeader). over (a .out .now) 0 (sealedBytes networkLevel 4 (a .key .0) (a .h) z (a .payload .now))) x
-          ∙ ap (λ (r : Run). r .out) w,
+    let size = sealed-length networkLevel 4 (a .key .0) (a .h) (orBlank (a .aux)) (a .payload .now) in (
+      rw (sized .sealed-length .ensures, x, ← size) (ap (λ (r : Run). r .answer) w),
+      rw (sealed .seal-frame .ensures, x) (ap (λ (r : Run). r .out) w),
     )
 
 pub seal-spec : {M : Type 1} → statement M
