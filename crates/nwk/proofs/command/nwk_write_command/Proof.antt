@@ -13,24 +13,16 @@ use Rattle.nwk.proofs.command.nwk_write_command.Tie as tie
 returns : tie.Need-returns
 unfolding writeRecordRefusal
 returns c =
-    let a = c .before .before .before .before .before .before .args in
-    let r = c .before .before .before .read-record in
-    refused-by _ (r .result .refusal) _ _ _ (a .out .now)
-    (read-number _ (readRecord (a .command .now) .refusal) _ (λ i. r .ensures i .refusal) (c .before .if1 .taken))
-    (c .before .if1 .taken) (c .answer .ensures)
+    let stopped = c .before .if1 .taken in
+    refused-by _ _ _ _ _ _ (read-number _ _ _ (λ i. c .before .before .before .read-record .ensures i .refusal) stopped) stopped (c .answer .ensures)
 
 returns-2 : tie.Need-returns-2
 unfolding writeRecordRefusal writeCommand
 returns-2 c =
-    let a = c .before .before .before .before .before .before .before .before .before .before .before .args in
-    let r = c .before .before .before .before .before .before .before .before .read-record .ensures in
     let s = c .before .before .before .serialize in
-    let k = writeRefusal (readRecord (a .command .now) .command) (length (a .out .now)) in
-    written-by _ k (commandBytes (readRecord (a .command .now) .command)) (a .out .now) _ (s .result) _
-    (single k ∙ sym (skip-by (readRecord (a .command .now) .refusal) _ ((λ i. sym r i .refusal) ∙ c .before .before .before .before .before .before .if1 .left)))
-    (s .ensures .0 ∙ (λ i. writeCommand (r i .command) (a .out .now) .answer))
-    (s .ensures .1 ∙ (λ i. writeCommand (r i .command) (a .out .now) .out))
-    (c .answer2 .ensures)
+    let passed = c .before .before .before .before .before .before in
+    let r = passed .before .before .read-record .ensures in
+    written-by _ _ _ _ _ _ _ (single _ ∙ sym (skip-by _ _ (rw r at (passed .if1 .left)))) (s .ensures .0 ∙ rw r) (s .ensures .1 ∙ rw r) (c .answer2 .ensures)
 
 pub nwk-write-command-spec : {M : Type 1} → statement M
 nwk-write-command-spec =
