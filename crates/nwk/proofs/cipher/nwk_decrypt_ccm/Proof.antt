@@ -1,7 +1,6 @@
 -- `nwk_decrypt_ccm` meets its contract: what opening gives. Assumes nothing.
 use borrow.Author.Needs.{needs}
 use mathlib.Core.Path.{_∙_}
-use Rattle.ccm.specs.Operations.{decryptCcm}
 use Rattle.nwk.specs.Answer.{answer}
 use Rattle.nwk.proofs.cipher.nwk_decrypt_ccm.Statement.{statement}
 use Rattle.nwk.proofs.cipher.nwk_decrypt_ccm.Tie as tie

@@ -4,7 +4,6 @@ use mathlib.Core.Path.{sym, ap, _∙_}
 use mathlib.Core.Logic.{⊎-elim}
 use Rattle.octets.proofs.Conditions.{accepted, refused}
 use Rattle.ccm.specs.declared.Sealed.{Sealed}
-use Rattle.ccm.specs.Operations.{encryptCcm}
 use Rattle.nwk.specs.Answer.{answer}
 use Rattle.nwk.proofs.cipher.nwk_encrypt_ccm.Statement.{statement}
 use Rattle.nwk.proofs.cipher.nwk_encrypt_ccm.Tie as tie

@@ -1,13 +1,9 @@
 -- `nwk_read_command` meets its contract: refused with nothing changed, or read into the record. Assumes nothing.
 use borrow.Author.Needs.{needs}
-use mathlib.Core.Path.{sym, _∙_}
+use mathlib.Core.Path.{_∙_}
 use native.Mathlib.Omega.{arith}
-use lib.ListN.{length}
 use Rattle.nwk.proofs.command.nwk_read_command.Statement.{statement}
 use Rattle.nwk.proofs.command.nwk_read_command.Tie as tie
-use Rattle.octets.specs.Strings.{over}
-use Rattle.commands.specs.Reading.{readCommand}
-use Rattle.command_records.specs.CommandRecord.{commandRecord}
 use Rattle.nwk.specs.Commands.{readCommandRefusal}
 use Rattle.nwk.proofs.Calls.{refused-by, passed-by}
 use Rattle.nwk.proofs.Refusals.{read-number, read-short, read-none}

@@ -1,10 +1,9 @@
 -- `nwk_write_command` meets its contract: refused for its record, or what writing the command answers. Assumes nothing.
 use borrow.Author.Needs.{needs}
 use mathlib.Core.Path.{sym, _∙_}
-use lib.ListN.{length}
 use Rattle.octets.proofs.Conditions.{skip-by}
-use Rattle.commands.specs.Writing.{commandBytes, writeRefusal, writeCommand}
-use Rattle.command_records.specs.CommandRecord.{readRecord, writeRecordRefusal}
+use Rattle.commands.specs.Writing.{writeCommand}
+use Rattle.command_records.specs.CommandRecord.{writeRecordRefusal}
 use Rattle.nwk.proofs.Calls.{refused-by, written-by}
 use Rattle.nwk.proofs.Refusals.{read-number, single}
 use Rattle.nwk.proofs.command.nwk_write_command.Statement.{statement}

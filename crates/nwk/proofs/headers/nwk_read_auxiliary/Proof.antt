@@ -2,13 +2,8 @@
 use borrow.Author.Needs.{needs}
 use mathlib.Core.Path.{sym, _∙_}
 use native.Mathlib.Omega.{arith}
-use mathlib.Core.Bool.{true}
-use lib.ListN.{length}
 use Rattle.nwk.proofs.headers.nwk_read_auxiliary.Statement.{statement}
 use Rattle.nwk.proofs.headers.nwk_read_auxiliary.Tie as tie
-use Rattle.octets.specs.Strings.{over}
-use Rattle.header.specs.Auxiliary.{auxRefusal}
-use Rattle.records.specs.AuxiliaryRecord.{auxRecord}
 use Rattle.nwk.specs.Headers.{readAuxRefusal}
 use Rattle.nwk.specs.Answer.{answer}
 use Rattle.nwk.proofs.Calls.{refused-by, passed-by}

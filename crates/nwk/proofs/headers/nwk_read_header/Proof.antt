@@ -2,12 +2,8 @@
 use borrow.Author.Needs.{needs}
 use mathlib.Core.Path.{sym, _∙_}
 use native.Mathlib.Omega.{arith}
-use lib.ListN.{length}
 use Rattle.nwk.proofs.headers.nwk_read_header.Statement.{statement}
 use Rattle.nwk.proofs.headers.nwk_read_header.Tie as tie
-use Rattle.octets.specs.Strings.{over}
-use Rattle.header.specs.Reading.{headerRefusal}
-use Rattle.records.specs.HeaderRecord.{headerRecord}
 use Rattle.nwk.specs.Headers.{readHeaderRefusal}
 use Rattle.nwk.specs.Answer.{answer}
 use Rattle.nwk.proofs.Calls.{refused-by, passed-by}
