@@ -151,14 +151,14 @@ module _ (h : NwkHeader) (rest : List ℕ) (fits : HeaderFits h) (agrees : Agree
   unfolding S
   sourceIeee-read =
       (λ i. ieeeIf (agrees .source i) (leAt 8 (at-source h rest i) (sourceAt (h .«frame_control»))))
-      ∙ ap (ieeeIf (hasIeee (h .«source_ieee»))) (leAt-at 8 (fixedBytes h ++ D h) (ieeeBytes (h .«source_ieee») ++ (Mc h ++ (R h ++ rest))) (sourceAt (h .«frame_control»)) (source-place h agrees))
+      ∙ ap (ieeeIf (hasIeee (h .«source_ieee»))) (leAt-at 8 (fixedBytes h ++ D h) (S h ++ (Mc h ++ (R h ++ rest))) _ (source-place h agrees))
       ∙ ieee-back (h .«source_ieee») (Mc h ++ (R h ++ rest)) (fits .sourceIeee)
 
   multicast-read : multicastIf (h .«frame_control» .multicast) (getD (headerBytes h ++ rest) (multicastAt (h .«frame_control»)) 0) ≡ h .«multicast_control»
   unfolding Mc
   multicast-read =
       (λ i. multicastIf (agrees .multicast i) (getD (at-multicast h rest i) (multicastAt (h .«frame_control»)) 0))
-      ∙ ap (multicastIf (hasMulticast (h .«multicast_control»))) (getD-at₀ ((fixedBytes h ++ D h) ++ S h) (multicastBytes (h .«multicast_control») ++ (R h ++ rest)) (multicastAt (h .«frame_control»)) (multicast-place h agrees))
+      ∙ ap (multicastIf (hasMulticast (h .«multicast_control»))) (getD-at₀ ((fixedBytes h ++ D h) ++ S h) (Mc h ++ (R h ++ rest)) _ (multicast-place h agrees))
       ∙ multicast-back (h .«multicast_control») (R h ++ rest) (fits .multicast)
 
   -- the source route's bytes stand at its place

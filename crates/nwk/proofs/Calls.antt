@@ -38,6 +38,10 @@ refused-buffer n k bs o e h = conditions.refused-by n k (over o 0 bs) (λ (m : �
 pub refused-by : (n k len r : ℕ) (bs o : List ℕ) → k ≡ n → (k ≡ 0 → ⊥) → r ≡ answer k 0 → (r ≡ answerBy n len) × (o ≡ given n bs o)
 refused-by n k len r bs o e h p = (refused-answer n k len r e h p, refused-buffer n k bs o e h)
 
+pub refused-both : (n k len r : ℕ) (bs bs′ o o′ : List ℕ) → k ≡ n → (k ≡ 0 → ⊥) → r ≡ answer k 0
+    → (r ≡ answerBy n len) × ((o ≡ given n bs o) × (o′ ≡ given n bs′ o′))
+refused-both n k len r bs bs′ o o′ e h p = (refused-answer n k len r e h p, (refused-buffer n k bs o e h, refused-buffer n k bs′ o′ e h))
+
 -- ---- passed: the length, and the bytes at the front
 
 pub passed-answer : (n len r : ℕ) → n ≡ 0 → r ≡ answer 0 len → r ≡ answerBy n len

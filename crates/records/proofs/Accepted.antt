@@ -84,7 +84,7 @@ header-taken h e =
 pub aux-taken : (present : Bool) (a : NwkAuxHeader) → badAuxRecord (auxRecord present a) ≡ false
 unfolding badAuxRecord
 aux-taken present a =
-    rw (eq-eqb (length (auxRecord present a)) 19 (length-aux present a), within-limits auxLimits (auxRecord present a) (aux-within present a)) (and-false (not (eqb (getD (auxRecord present a) 0 0) 0)))
+    rw (eq-eqb _ 19 (length-aux present a), within-limits auxLimits _ (aux-within present a)) (and-false (not (eqb (getD (auxRecord present a) 0 0) 0)))
 
 -- what was read
 pub read-header-taken : (f : List ℕ) → Below 256 f → readHeader f .refusal ≡ 0 → badHeaderRecord (headerRecord (readHeader f .header)) ≡ false

@@ -152,9 +152,11 @@ header-plain h e =
 pub aux-plain : (present : Bool) (a : NwkAuxHeader) → AuxPlain (auxRecord present a)
 unfolding auxRecord counterRecord ieeeRecord le
 aux-plain present a =
+    let source = a .«extended_source» in
+    let rest = le 1 (a .«key_sequence_number») in
     record {
       bytes = aux-bytes present a .each;
       size = length-aux present a;
       limits = within-limits auxLimits (auxRecord present a) (aux-within present a);
-      ieee = blank-behind (securityRecord present (a .«security_control») ++ le 4 (a .«frame_counter»)) (ieeeRecord (a .«extended_source») ++ le 1 (a .«key_sequence_number»)) 9 8 refl (ieee-blank (a .«extended_source») (le 1 (a .«key_sequence_number»)));
+      ieee = blank-behind (securityRecord present (a .«security_control») ++ le 4 (a .«frame_counter»)) (ieeeRecord source ++ rest) 9 8 refl (ieee-blank source rest);
     }

@@ -22,22 +22,18 @@ open-requires c κs =
 
 returns-2 : tie.Need-returns-2
 returns-2 c =
-    let a = c .before .before .before .before .before .before .before .before .before .before .args in
-    let r = c .before .before .before .before .before .before .refusal in
-    let s = c .before .before .before .«open» in
-    let e =
-    decrypt-done (a .key) (a .nonce) (a .auth .now) (a .ciphertext .now) (a .mic) (a .out .now) _ (s .result)
-    (sym (r .ensures) ∙ c .before .before .before .before .before .if1 .left) (s .ensures .0) (s .ensures .1) (c .if2 .taken) in
+    let opened = c .before .before .before in
+    let passed = opened .before .before in
+    let s = opened .«open» .ensures in
+    let e = decrypt-done _ _ _ _ _ _ _ _ (sym (passed .before .refusal .ensures) ∙ passed .if1 .left) (s .0) (s .1) (c .if2 .taken) in
     (λ i. e i .answer, λ i. e i .out)
 
 returns-3 : tie.Need-returns-3
 returns-3 c =
-    let a = c .before .before .before .before .before .before .before .before .before .before .args in
-    let r = c .before .before .before .before .before .before .refusal in
-    let s = c .before .before .before .«open» in
-    let e =
-    decrypt-not (a .key) (a .nonce) (a .auth .now) (a .ciphertext .now) (a .mic) (a .out .now) _ (s .result)
-    (sym (r .ensures) ∙ c .before .before .before .before .before .if1 .left) (s .ensures .0) (s .ensures .1) (c .if2 .left) in
+    let opened = c .before .before .before in
+    let passed = opened .before .before in
+    let s = opened .«open» .ensures in
+    let e = decrypt-not _ _ _ _ _ _ _ _ (sym (passed .before .refusal .ensures) ∙ passed .if1 .left) (s .0) (s .1) (c .if2 .left) in
     (λ i. e i .answer, λ i. e i .out)
 
 pub decrypt-ccm-spec : {M : Type 1} → statement M

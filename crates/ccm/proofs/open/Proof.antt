@@ -29,31 +29,25 @@ slice-aggregate-copy-at c =
 
 copy-at-requires : tie.Need-copy-at-requires
 copy-at-requires c κs =
-    rw (length-take-le _ _ (array-share-prefix-payload (c .before .before .before .before .before)))
-    (omega (arith, c .before .before .before .before .before .before .before .before .before .before .before .before .pre))
+    let computed = c .before .before .before .before .before in
+    rw (length-take-le _ _ (array-share-prefix-payload computed)) (omega (arith, computed .before .before .before .before .before .before .before .pre))
 
 returns : tie.Need-returns
 returns c =
-    let s = c .before .before .before .before .before .before .before .before .before .before .before .before .before .before .before in
-    let k = c .before .before .before .before .before .before .before .before .before .before .before .key-expansion in
-    let m = c .before .before .before .before .before .before .before .before .before .counter-mode in
-    let v = c .before .before .before .before .before .before .tag-valid in
-    let a = s .args in (
-      valid-given (a .key) (k .result) (a .nonce) (a .auth .now) (a .ciphertext .now) (a .mic) (k .ensures) _ (m .ensures) (v .result) (v .ensures),
-      payload-given (a .key) (k .result) (a .nonce) (a .auth .now) (a .ciphertext .now) (a .mic) (k .ensures) _ (m .ensures) (v .result) (a .out .now) _ (c .before .before .before .before .before .if1 .taken)
-          (c .before .before .copy-at .ensures),
+    let copied = c .before .before in
+    let checked = copied .before .before .before .before in
+    let payload = checked .before .before .before .counter-mode .ensures in
+    let keys = checked .before .before .before .before .before .key-expansion .ensures in (
+      valid-given _ _ _ _ _ _ keys _ payload _ (checked .tag-valid .ensures),
+      payload-given _ _ _ _ _ _ keys _ payload _ _ _ (copied .before .before .before .if1 .taken) (copied .copy-at .ensures),
     )
 
 returns-2 : tie.Need-returns-2
 returns-2 c =
-    let s = c .before .before .before .before .before .before .before .before .before .before in
-    let k = c .before .before .before .before .before .before .key-expansion in
-    let m = c .before .before .before .before .counter-mode in
-    let v = c .before .tag-valid in
-    let a = s .args in (
-      valid-given (a .key) (k .result) (a .nonce) (a .auth .now) (a .ciphertext .now) (a .mic) (k .ensures) _ (m .ensures) (v .result) (v .ensures),
-      nothing-given (v .result) _ (a .out .now) (c .if1 .left),
-    )
+    let checked = c .before in
+    let payload = checked .before .before .before .counter-mode .ensures in
+    let keys = checked .before .before .before .before .before .key-expansion .ensures in
+    (valid-given _ _ _ _ _ _ keys _ payload _ (checked .tag-valid .ensures), nothing-given _ _ _ (c .if1 .left))
 
 pub open-spec : {M : Type 1} → statement M
 open-spec =

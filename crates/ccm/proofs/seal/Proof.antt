@@ -22,17 +22,15 @@ copy-at-requires c κs =
 
 encrypted-tag-requires : tie.Need-encrypted-tag-requires
 encrypted-tag-requires c κs =
-    omega (arith, c .before .before .before .before .before .before .before .before .before .before .before .before .pre)
+    let copied = c .before .before .before in
+    omega (arith, copied .before .before .before .before .before .before .before .before .before .pre)
 
 returns : tie.Need-returns
 returns c =
-    let s = c .before .before .before .before .before .before .before .before .before .before .before .before .before in
-    let k = c .before .before .before .before .before .before .before .before .before .key-expansion in
-    let m = c .before .before .before .before .before .before .before .counter-mode in
-    let a = s .args in (
-      tag-given (a .key) (k .result) (a .nonce) (a .auth .now) (a .payload .now) (k .ensures) _ (c .encrypted-tag .ensures),
-      ciphertext-given (a .key) (k .result) (a .nonce) (a .auth .now) (a .payload .now) (k .ensures) (m .result) (a .out .now) _ (m .ensures) (c .before .before .before .before .copy-at .ensures),
-    )
+    let copied = c .before .before .before .before in
+    let ciphertext = copied .before .before .before .counter-mode .ensures in
+    let keys = copied .before .before .before .before .before .key-expansion .ensures in
+    (tag-given _ _ _ _ _ keys _ (c .encrypted-tag .ensures), ciphertext-given _ _ _ _ _ keys _ _ _ ciphertext (copied .copy-at .ensures))
 
 pub seal-spec : {M : Type 1} → statement M
 seal-spec =

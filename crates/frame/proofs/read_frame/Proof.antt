@@ -8,48 +8,37 @@ use Rattle.frame.proofs.read_frame.Tie as tie
 use Rattle.octets.proofs.Conditions.{accepted-by, refused-by}
 use Rattle.header.proofs.ReadFacts.{header-short, aux-short}
 use Rattle.header.specs.declared.{nwk.HeaderRead.HeaderRead, auxiliary.AuxRead.AuxRead}
-use Rattle.frame.specs.Reading.{frameRefused, frameGiven, frameNumber, frameBy}
+use Rattle.frame.specs.Reading.{frameRefused, frameGiven, frameBy}
 use Rattle.frame.proofs.Answers.{frame-done}
 
 returns : tie.Need-returns
 unfolding frameBy
 returns c =
-    let args = c .before .before .before .before .before .before .before .args in
-    let deserialize = c .before .before .before .before .before .deserialize in
-    let behind = c .before .before .before .before .behind in
-    let deserialize2 = c .before .before .before .deserialize2 in
-    let frame-refusal = c .before .before .frame-refusal in
-    let h = deserialize .result in
-    let a = deserialize2 .result in
-    let d = frame-done (args .frame .now) h a (behind .result .now) (frame-refusal .result) (deserialize .ensures) (behind .ensures) (deserialize2 .ensures) (frame-refusal .ensures) in
-    c .refused .ensures ∙ refused-by (frameNumber (args .frame .now) h a) _ (frameGiven h a) frameRefused (d .0) (c .before .if1 .taken) ∙ d .1
+    let number = c .before .before in
+    let second = number .before in
+    let first = second .before .before in
+    let d = frame-done _ _ _ _ _ (first .deserialize .ensures) (second .before .behind .ensures) (second .deserialize2 .ensures) (number .frame-refusal .ensures) in
+    c .refused .ensures ∙ refused-by _ _ (frameGiven (first .deserialize .result) (second .deserialize2 .result)) frameRefused (d .0) (c .before .if1 .taken) ∙ d .1
 
 front-requires : tie.Need-front-requires
 front-requires c κs =
-    let args = c .before .before .before .before .before .before .before .before .args in
-    let shared-slice-known = c .before .before .before .before .before .before .before .shared-slice-known in
-    let deserialize = c .before .before .before .before .before .before .deserialize in
-    let behind = c .before .before .before .before .before .behind in
-    let deserialize2 = c .before .before .before .before .deserialize2 in
-    let f = args .frame .now in
-    let h = ap (λ (r : HeaderRead). r .length) (deserialize .ensures) in
-    let a = ap (λ (r : AuxRead). r .length) (deserialize2 .ensures) in
-    omega (arith, header-short f (λ i. shared-slice-known .given i .fits), aux-short (behind .result .now))
+    let second = c .before .before .before .before in
+    let first = second .before .before in
+    let h = ap (λ (r : HeaderRead). r .length) (first .deserialize .ensures) in
+    let a = ap (λ (r : AuxRead). r .length) (second .deserialize2 .ensures) in
+    omega (arith, header-short (first .before .before .args .frame .now) (λ i. first .before .shared-slice-known .given i .fits), aux-short (second .before .behind .result .now))
 
 returns-2 : tie.Need-returns-2
 unfolding frameBy
 returns-2 c =
-    let args = c .before .before .before .before .before .before .before .before .before .before .args in
-    let deserialize = c .before .before .before .before .before .before .before .before .deserialize in
-    let behind = c .before .before .before .before .before .before .before .behind in
-    let deserialize2 = c .before .before .before .before .before .before .deserialize2 in
-    let frame-refusal = c .before .before .before .before .before .frame-refusal in
-    let if1 = c .before .before .before .before .if1 in
-    let h = deserialize .result in
-    let a = deserialize2 .result in
-    let d = frame-done (args .frame .now) h a (behind .result .now) (frame-refusal .result) (deserialize .ensures) (behind .ensures) (deserialize2 .ensures) (frame-refusal .ensures) in
+    let passed = c .before .before .before .before in
+    let second = passed .before .before in
+    let first = second .before .before in
+    let h = first .deserialize .result in
+    let a = second .deserialize2 .result in
+    let d = frame-done _ _ _ _ _ (first .deserialize .ensures) (second .before .behind .ensures) (second .deserialize2 .ensures) (passed .before .frame-refusal .ensures) in
     (λ i. record { refusal = 0; length = c .before .front .ensures i; header = h .header; aux = c .when .ensures i })
-    ∙ accepted-by (frameNumber (args .frame .now) h a) _ (frameGiven h a) _ (d .0) (if1 .left) ∙ d .1
+    ∙ accepted-by _ _ (frameGiven h a) _ (d .0) (passed .if1 .left) ∙ d .1
 
 pub read-frame-spec : {M : Type 1} → statement M
 read-frame-spec =

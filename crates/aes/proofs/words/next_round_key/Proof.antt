@@ -8,14 +8,12 @@ use Rattle.aes.proofs.words.next_round_key.Tie as tie
 returns : tie.Need-returns
 unfolding following
 returns c =
-    let rot-word = c .before .before .before .before .before .before .before .before .before .before .before .rot-word in
-    let sub-word = c .before .before .before .before .before .before .before .before .before .before .sub-word in
-    let round-constant = c .before .before .before .before .before .before .before .before .before .round-constant in
-    let xor-word = c .before .before .before .before .before .before .before .before .xor-word in
-    let xor-word2 = c .before .before .before .before .before .before .xor-word2 in
-    let xor-word3 = c .before .before .before .before .xor-word3 in
-    let xor-word4 = c .before .before .xor-word4 in
-    rw (next-four, c .xor-word5 .ensures, xor-word4 .ensures, xor-word3 .ensures, xor-word2 .ensures, xor-word .ensures, round-constant .ensures, sub-word .ensures, rot-word .ensures)
+    let third = c .before .before in
+    let second = third .before .before in
+    let first = second .before .before in
+    let mixed = first .before .before in
+    rw (next-four, c .xor-word5 .ensures, third .xor-word4 .ensures, second .xor-word3 .ensures, first .xor-word2 .ensures, mixed .xor-word .ensures)
+    (rw (mixed .before .round-constant .ensures, mixed .before .before .sub-word .ensures, mixed .before .before .before .rot-word .ensures))
 
 pub next-round-key-spec : {M : Type 1} → statement M
 next-round-key-spec =

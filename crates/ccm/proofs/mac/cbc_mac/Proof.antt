@@ -22,12 +22,12 @@ loop-holds c = (omega arith, rw (c .cipher .ensures, c .before .formatted-block 
 
 loop-again : tie.Need-loop-again Inv-loop μ-loop
 loop-again c =
-    let a = c .before .before .before .before .before .before .before .before .before .before .args in
-    let l = c .before .before .before .before .loop in (
+    let turn = c .before .before .before .before in
+    let a = turn .before .before .before .before .before .before .args in (
       omega arith,
       c .cipher2 .ensures
-          ∙ ap (cipher (a .keys .now)) (c .before .xor-block .ensures ∙ rw (c .before .before .formatted-block2 .ensures, l .inv .1) refl)
-          ∙ chain-next (cipher (a .keys .now)) (formatted (a .t) (a .nonce) (a .auth .now) (a .payload .now)) (l .i),
+          ∙ ap (cipher (a .keys .now)) (c .before .xor-block .ensures ∙ rw (c .before .before .formatted-block2 .ensures, turn .loop .inv .1) refl)
+          ∙ chain-next (cipher (a .keys .now)) (formatted (a .t) (a .nonce) (a .auth .now) (a .payload .now)) (turn .loop .i),
     )
 
 returns : tie.Need-returns Inv-loop μ-loop

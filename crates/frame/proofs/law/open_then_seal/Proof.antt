@@ -12,34 +12,29 @@ use Rattle.frame.proofs.SealingLaw.{open-within, second-half, open-then
 
 slice-reshare-prefix-seal : tie.Need-slice-reshare-prefix-seal
 slice-reshare-prefix-seal c =
-    let a = c .before .before .before .before .before .before .before .before .before .args in
-    let opened = c .before .before .before .«open» in
-    let e = ap (λ (r : FrameOpened). r .length) (opened .ensures .0) in
-    omega (arith, open-within (a .key .0) (a .frame .now) (a .out .now), e, opened .kept .1 .1 .0)
+    let opened = c .before .before .before in
+    let a = opened .before .before .before .before .before .before .args in
+    let e = ap (λ (r : FrameOpened). r .length) (opened .«open» .ensures .0) in
+    omega (arith, open-within (a .key .0) (a .frame .now) (a .out .now), e, opened .«open» .kept .1 .1 .0)
 
 slice-aggregate-seal : tie.Need-slice-aggregate-seal
-slice-aggregate-seal c =
-    let a = c .before .before .before .before .before .before .before .before .before .before .args in
-    let opened = c .before .before .before .before .«open» in
-    let e = ap (λ (r : FrameOpened). r .length) (opened .ensures .0) in
-    sym (length-take-le _ _ (omega (arith, open-within (a .key .0) (a .frame .now) (a .out .now), e, opened .kept .1 .1 .0)))
+slice-aggregate-seal c = sym (length-take-le _ _ (slice-reshare-prefix-seal (c .before)))
 
 returns : tie.Need-returns
 returns c =
-    let a = c .before .before .before .before .before .before .before .before .before .before .before .before .before .before .args in
-    let bytes-fit = c .before .before .before .before .before .before .before .before .before .before .bytes-fit in
-    let opened = c .before .before .before .before .before .before .before .before .«open» in
-    let seal = c .before .before .seal in
-    let run =
-    open-then-seal-run (a .key .0) (a .frame .now) (a .out .now) (a .again .now) (opened .result) _ (seal .result) _
-    (opened .ensures .0) (opened .ensures .1) (seal .ensures .0) (seal .ensures .1) in (
+    let sealed = c .before .before in
+    let opened = sealed .before .before .before .before .before .before in
+    let fit = opened .before .before in
+    let o = opened .«open» .ensures in
+    let s = sealed .seal .ensures in
+    let run = open-then-seal-run _ _ _ _ _ _ _ _ (o .0) (o .1) (s .0) (s .1) in (
       ap (λ (r : Run). r .answer) run,
       (
-        opened .ensures .1,
+        o .1,
         (
           ap (λ (r : Run). r .out) run,
           λ accepted control size.
-              rw run (second-half (a .key .0) (a .frame .now) (a .out .now) (a .again .now) (bytes-fit .ensures) accepted control size),
+              rw run (second-half _ _ _ _ (fit .bytes-fit .ensures) accepted control size),
         ),
       ),
     )

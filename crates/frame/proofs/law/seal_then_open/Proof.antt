@@ -13,36 +13,30 @@ use Rattle.frame.proofs.SealingLaw.{seal-within, first-half, seal-then-
 
 slice-reshare-prefix-open : tie.Need-slice-reshare-prefix-open
 slice-reshare-prefix-open c =
-    let a = c .before .before .before .before .before .before .before .before .before .args in
-    let seal = c .before .before .seal in
-    let e = ap (λ (r : Written). r .length) (seal .ensures .0) in
-    omega (arith, seal-within (a .key .0) (a .h) (a .aux) (a .payload .now) (a .frame .now), e, seal .kept .1 .1 .1 .1 .0)
+    let sealed = c .before .before in
+    let a = sealed .before .before .before .before .before .before .before .args in
+    let e = ap (λ (r : Written). r .length) (sealed .seal .ensures .0) in
+    omega (arith, seal-within (a .key .0) (a .h) (a .aux) (a .payload .now) (a .frame .now), e, sealed .seal .kept .1 .1 .1 .1 .0)
 
 slice-aggregate-open : tie.Need-slice-aggregate-open
-slice-aggregate-open c =
-    let a = c .before .before .before .before .before .before .before .before .before .before .args in
-    let seal = c .before .before .before .seal in
-    let e = ap (λ (r : Written). r .length) (seal .ensures .0) in
-    sym (length-take-le _ _ (omega (arith, seal-within (a .key .0) (a .h) (a .aux) (a .payload .now) (a .frame .now), e, seal .kept .1 .1 .1 .1 .0)))
+slice-aggregate-open c = sym (length-take-le _ _ (slice-reshare-prefix-open (c .before)))
 
 returns : tie.Need-returns
 returns c =
-    let a = c .before .before .before .before .before .before .before .before .before .before .before .before .before .before .args in
-    let header-fits = c .before .before .before .before .before .before .before .before .before .before .header-fits in
-    let aux-option-fits = c .before .before .before .before .before .before .before .before .before .aux-option-fits in
-    let seal = c .before .before .before .before .before .before .before .seal in
-    let opened = c .before .before .«open» in
-    let run =
-    seal-then-open-run (a .key .0) (a .h) (a .aux) (a .payload .now) (a .frame .now) (a .out .now) (seal .result) _ (opened .result) _
-    (seal .ensures .0) (seal .ensures .1) (opened .ensures .0) (opened .ensures .1) in (
+    let opened = c .before .before in
+    let sealed = opened .before .before .before .before .before in
+    let option = sealed .before .before in
+    let header = option .before in
+    let s = sealed .seal .ensures in
+    let o = opened .«open» .ensures in
+    let run = seal-then-open-run _ _ _ _ _ _ _ _ _ _ (s .0) (s .1) (o .0) (o .1) in (
       ap (λ (r : Run). r .answer) run,
       (
-        seal .ensures .1,
+        s .1,
         (
           ap (λ (r : Run). r .out) run,
           λ accepted sec agrees aagrees room.
-              rw run
-              (first-half (a .key .0) (a .h) (a .aux) (a .payload .now) (a .frame .now) (a .out .now) (header-fits .ensures) (aux-option-fits .ensures) accepted sec agrees aagrees room),
+              rw run (first-half _ _ _ _ _ _ (header .header-fits .ensures) (option .aux-option-fits .ensures) accepted sec agrees aagrees room),
         ),
       ),
     )

@@ -1,17 +1,15 @@
 -- `open_frame` meets its contract: nonce and authenticated bytes are those of the definition. Assumes nothing.
 use borrow.Author.Needs.{needs}
-use mathlib.Core.Path.{sym, ap, _∙_}
+use mathlib.Core.Path.{_≡_, sym, ap, _∙_}
 use Prim.Native.Nat.{_+_}
 use native.Mathlib.Omega.{arith}
-use lib.ListN.{length}
+use lib.ListN.{length, take}
 use Rattle.frame.proofs.opening.open_frame.Statement.{statement}
 use Rattle.frame.proofs.opening.open_frame.Tie as tie
 use Rattle.header.specs.Auxiliary.{auxBytes}
 use Rattle.header.specs.declared.auxiliary.NwkAuxHeader.{NwkAuxHeader}
 use Rattle.frame.proofs.Levels.{level-length}
-use Rattle.ccm.specs.Operations.{openedBy, givenIf}
-use Rattle.frame.specs.Security.{networkLevel}
-use Rattle.frame.specs.Opening.{ciphertextOf, micOf}
+use Rattle.frame.specs.Security.{networkLevel, authenticated}
 use Rattle.frame.proofs.Answers.{auth-length, auth-taken}
 
 both-headers-requires : tie.Need-both-headers-requires
@@ -21,42 +19,33 @@ both-headers-requires c κs =
     let e = ap (λ (z : NwkAuxHeader). length (auxBytes z)) (c .at-level .ensures) ∙ level-length networkLevel networkLevel (args .aux) in
     (pre .0, omega (arith, e, pre .1))
 
+-- the first bytes of the local array, as many as the sizes say, are the authenticated ones
+abbrev start : tie.After-size2 → tie.Start
+start s = s .before .before .before .before .before .before .before
+
+taken : (s : tie.After-size2) → take (s .before .size .result + s .size2 .result) (s .before .before .both-headers .result)
+    ≡ authenticated networkLevel (start s .args .h) (start s .args .aux)
+taken s =
+    let made = s .before .before in
+    auth-taken _ _ _ _ _ _ (made .before .at-level .ensures) (made .both-headers .ensures) (λ i. s .before .size .ensures .0 i + s .size2 .ensures .0 i)
+
 slice-aggregate-open-part : tie.Need-slice-aggregate-open-part
 slice-aggregate-open-part c =
-    let args = c .before .before .before .before .before .before .before .before .args in
-    let at-level = c .before .before .before .before .at-level in
-    let both-headers = c .before .before .before .both-headers in
-    let size = c .before .before .size in
-    let size2 = c .before .size2 in
-    sym (ap length (auth-taken networkLevel (args .h) (args .aux) (at-level .result) (both-headers .result) (size .result + size2 .result) (at-level .ensures) (both-headers .ensures) (λ i. size .ensures .0 i + size2 .ensures .0 i))
-    ∙ auth-length networkLevel (args .h) (args .aux) ∙ (λ i. sym (size .ensures .0) i + sym (size2 .ensures .0) i))
+    let s = c .before in
+    sym (ap length (taken s) ∙ auth-length networkLevel _ _ ∙ (λ i. sym (s .before .size .ensures .0) i + sym (s .size2 .ensures .0) i))
 
 open-part-requires : tie.Need-open-part-requires
 open-part-requires c κs =
-    let args = c .before .before .before .before .before .before .before .before .before .args in
-    let pre = c .before .before .before .before .before .before .before .before .before .pre in
-    let at-level = c .before .before .before .before .before .at-level in
-    let both-headers = c .before .before .before .before .both-headers in
-    let size = c .before .before .before .size in
-    let size2 = c .before .before .size2 in
-    let e = ap length (auth-taken networkLevel (args .h) (args .aux) (at-level .result) (both-headers .result) (size .result + size2 .result) (at-level .ensures) (both-headers .ensures) (λ i. size .ensures .0 i + size2 .ensures .0 i)) ∙ auth-length networkLevel (args .h) (args .aux) in
-    let p = pre in
-    (omega (arith, e, p .1), p .2, p .3, p .4)
+    let s = c .before .before in
+    let p = start s .pre in
+    (omega (arith, ap length (taken s) ∙ auth-length networkLevel (start s .args .h) (start s .args .aux), p .1), p .2, p .3, p .4)
 
 returns : tie.Need-returns
 returns c =
-    let a = c .before .before .before .before .before .before .before .before .before .before .before .before .args in
-    let nonce-of = c .before .before .before .before .before .before .before .before .before .nonce-of in
-    let at-level = c .before .before .before .before .before .before .before .before .at-level in
-    let both-headers = c .before .before .before .before .before .before .before .both-headers in
-    let size = c .before .before .before .before .before .before .size in
-    let size2 = c .before .before .before .before .before .size2 in
-    let open-part = c .before .before .open-part in
-    let e = auth-taken networkLevel (a .h) (a .aux) (at-level .result) (both-headers .result) (size .result + size2 .result) (at-level .ensures) (both-headers .ensures) (λ i. size .ensures .0 i + size2 .ensures .0 i) in
-    let n = nonce-of .ensures in (
-      open-part .ensures .0 ∙ (λ i. openedBy 4 (a .key) (n i) (e i) (ciphertextOf 4 (a .part .now)) (micOf 4 (a .part .now)) .valid),
-      open-part .ensures .1 ∙ (λ i. givenIf (open-part .result) (openedBy 4 (a .key) (n i) (e i) (ciphertextOf 4 (a .part .now)) (micOf 4 (a .part .now))) (a .out .now)),
-    )
+    let part = c .before .before .open-part .ensures in
+    let s = c .before .before .before .before .before in
+    let n = s .before .before .before .before .nonce-of .ensures in
+    (part .0 ∙ rw (n, taken s), part .1 ∙ rw (n, taken s))
 
 pub open-frame-spec : {M : Type 1} → statement M
 open-frame-spec =

@@ -1,14 +1,12 @@
 -- `open_part` meets its contract: the part's last four bytes are the MIC. Assumes nothing.
 use borrow.Author.Needs.{needs}
-use mathlib.Core.Path.{sym, ap, _∙_}
-use mathlib.Core.List.{List}
-use Prim.Native.Nat.{ℕ, _-_}
+use mathlib.Core.Path.{sym, _∙_}
+use Prim.Native.Nat.{_-_}
 use native.Mathlib.Omega.{arith}
-use lib.ListN.{length, take}
+use lib.ListN.{length}
 use lib.Seq.{length-take-le}
 use Rattle.frame.proofs.opening.open_part.Statement.{statement}
 use Rattle.frame.proofs.opening.open_part.Tie as tie
-use Rattle.ccm.specs.Operations.{openedBy, givenIf}
 use Rattle.frame.specs.Opening.{ciphertextOf}
 use Rattle.frame.proofs.Answers.{mic-split}
 
@@ -18,23 +16,17 @@ slice-aggregate-open c =
 
 open-requires : tie.Need-open-requires
 open-requires c κs =
-    let args = c .before .before .before .before .before .before .before .args in
-    let pre = c .before .before .before .before .before .before .before .pre in
-    let l = length-take-le (length (args .part .now) - 4) (args .part .now) (omega arith) in
-    let p = pre in
-    (p .0, omega (arith, l, p .1), omega (arith, l, p .3))
+    let start = c .before .before .before .before .before .before .before in
+    let l = length-take-le (length (start .args .part .now) - 4) (start .args .part .now) (omega arith) in
+    (start .pre .0, omega (arith, l, start .pre .1), omega (arith, l, start .pre .3))
 
 returns : tie.Need-returns
 unfolding ciphertextOf
 returns c =
-    let a = c .before .before .before .before .before .before .before .before .before .before .args in
-    let pre = c .before .before .before .before .before .before .before .before .before .before .pre in
-    let split-mic = c .before .before .before .before .before .before .split-mic in
-    let opened = c .before .before .«open» in
-    let m = mic-split (a .part .now) (split-mic .result) (split-mic .ensures) (pre .2) in (
-      opened .ensures .0 ∙ ap (λ (u : List ℕ). openedBy 4 (a .key) (a .nonce) (a .auth .now) (take (length (a .part .now) - 4) (a .part .now)) u .valid) m,
-      opened .ensures .1 ∙ ap (λ (u : List ℕ). givenIf (opened .result) (openedBy 4 (a .key) (a .nonce) (a .auth .now) (take (length (a .part .now) - 4) (a .part .now)) u) (a .out .now)) m,
-    )
+    let opened = c .before .before in
+    let split = opened .before .before .before .before in
+    let m = mic-split _ _ (split .split-mic .ensures) (split .before .before .before .before .pre .2) in
+    (opened .«open» .ensures .0 ∙ rw m, opened .«open» .ensures .1 ∙ rw m)
 
 pub open-part-spec : {M : Type 1} → statement M
 open-part-spec =

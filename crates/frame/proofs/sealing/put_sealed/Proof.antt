@@ -14,14 +14,14 @@ use Rattle.octets.proofs.Strings.{part-over}
 
 returns : tie.Need-returns
 returns c =
-    let a = c .before .before .before .before .before .before .before .before .before .before .before .before .args in
-    let seal = c .before .before .before .before .before .before .before .seal in
-    let copy-at = c .before .before .copy-at in
+    let copied = c .before .before in
+    let sealed = copied .before .before .before .before .before in
+    let a = sealed .before .before .before .before .before .args in
     let g = sealedBy 4 (a .key) (a .nonce) (a .auth .now) (a .payload .now) in
     over-then (a .out .now) _ _ (a .start) (a .start + length (a .payload .now)) (g .ciphertext) (g .tag) (omega arith)
     (ap (λ (n : ℕ). a .start + n) (sym (length-ciphertext 4 _ (a .nonce) (a .auth .now) (a .payload .now))))
-    (part-over (a .out .now) _ (g .ciphertext) (a .start) (omega arith) (seal .ensures .1))
-    (copy-at .ensures ∙ ap (over _ (a .start + length (a .payload .now))) (seal .ensures .0))
+    (part-over (a .out .now) _ (g .ciphertext) (a .start) (omega arith) (sealed .seal .ensures .1))
+    (copied .copy-at .ensures ∙ ap (over _ (a .start + length (a .payload .now))) (sealed .seal .ensures .0))
 
 pub put-sealed-spec : {M : Type 1} → statement M
 put-sealed-spec =

@@ -2,11 +2,9 @@
 use borrow.Author.Needs.{needs}
 use mathlib.Core.Path.{sym, ap, _∙_}
 use native.Mathlib.Omega.{arith}
-use lib.ListN.{length}
 use Rattle.frame.proofs.sealing.seal.Statement.{statement}
 use Rattle.frame.proofs.sealing.seal.Tie as tie
 use Rattle.header.specs.declared.auxiliary.NwkAuxHeader.{NwkAuxHeader}
-use Rattle.octets.specs.Strings.{over}
 use Rattle.octets.specs.Writing.{Run}
 use Rattle.octets.proofs.Writing.{write-accepted, write-refused}
 use Rattle.frame.specs.Security.{networkLevel, orBlank}
@@ -25,38 +23,32 @@ returns c =
 
 sealed-length-requires : tie.Need-sealed-length-requires
 sealed-length-requires c κs =
-    let args = c .before .before .before .before .before .before .args in
-    let seal-refusal = c .before .before .before .seal-refusal in
-    let if1 = c .before .before .if1 in
-    let s = sealable 4 (args .h) (args .aux) (args .payload .now) (length (args .out .now)) (sym (seal-refusal .ensures) ∙ if1 .left) in
-    omega (arith, s .payload)
+    let passed = c .before .before in
+    omega (arith, sealable 4 _ _ _ _ (sym (passed .before .seal-refusal .ensures) ∙ passed .if1 .left) .payload)
 
 seal-frame-requires : tie.Need-seal-frame-requires
 seal-frame-requires c κs =
-    let args = c .before .before .before .before .before .before .before .before .args in
-    let seal-refusal = c .before .before .before .before .before .seal-refusal in
-    let if1 = c .before .before .before .before .if1 in
-    let or-blank = c .before .before .before .or-blank in
-    let s = sealable 4 (args .h) (args .aux) (args .payload .now) (length (args .out .now)) (sym (seal-refusal .ensures) ∙ if1 .left) in
-    let e = ap (λ (x : NwkAuxHeader). sealedLength 4 (args .h) x (args .payload .now)) (or-blank .ensures) in
+    let blank = c .before .before .before in
+    let passed = blank .before in
+    let a = passed .before .before .before .before .args in
+    let s = sealable 4 _ _ _ _ (sym (passed .before .seal-refusal .ensures) ∙ passed .if1 .left) in
+    let e = ap (λ (x : NwkAuxHeader). sealedLength 4 (a .h) x (a .payload .now)) (blank .or-blank .ensures) in
     (s .good, s .payload, omega (arith, e, s .whole), omega (arith, e, s .fits))
 
 returns-2 : tie.Need-returns-2
 unfolding sealFrame
 returns-2 c =
-    let a = c .before .before .before .before .before .before .before .before .before .before .before .args in
-    let seal-refusal = c .before .before .before .before .before .before .before .before .seal-refusal in
-    let if1 = c .before .before .before .before .before .before .before .if1 in
-    let or-blank = c .before .before .before .before .before .before .or-blank in
-    let sealed-length′ = c .before .before .before .before .sealed-length in
-    let seal-frame = c .before .before .seal-frame in
+    let sealed = c .before .before in
+    let sized = sealed .before .before in
+    let blank = sized .before .before in
+    let passed = blank .before in
+    let a = passed .before .before .before .before .args in
     let bs = sealedBytes networkLevel 4 (a .key .0) (a .h) (orBlank (a .aux)) (a .payload .now) in
-    let x = or-blank .ensures in
-    let w = write-accepted _ _ bs (a .out .now) (seal-refusal .ensures) (if1 .left) in
-    let size = sealed-length′ .ensures ∙ ap (λ (z : NwkAuxHeader). sealedLength 4 (a .h) z (a .payload .now)) x ∙ sym (sealed-length networkLevel 4 (a .key .0) (a .h) (orBlank (a .aux)) (a .payload .now)) in (
-      (λ i. record { refusal = 0; length = size i }) ∙ ap (λ (r : Run). r .answer) w,
-      seal-frame .ensures ∙ ap (λ (z : NwkAuxHeader). over (a .out .now) 0 (sealedBytes networkLevel 4 (a .key .0) (a .h) z (a .payload .now))) x
-          ∙ ap (λ (r : Run). r .out) w,
+    let x = blank .or-blank .ensures in
+    let w = write-accepted _ _ bs (a .out .now) (passed .before .seal-refusal .ensures) (passed .if1 .left) in
+    let size = sealed-length networkLevel 4 (a .key .0) (a .h) (orBlank (a .aux)) (a .payload .now) in (
+      rw (sized .sealed-length .ensures, x, ← size) (ap (λ (r : Run). r .answer) w),
+      rw (sealed .seal-frame .ensures, x) (ap (λ (r : Run). r .out) w),
     )
 
 pub seal-spec : {M : Type 1} → statement M

@@ -1,82 +1,74 @@
 -- `seal_frame` meets its contract: nonce and authenticated bytes are those of the definition, and the parts stand one behind the other.
 -- Assumes nothing.
 use borrow.Author.Needs.{needs}
-use mathlib.Core.Path.{sym, ap, _∙_}
+use mathlib.Core.Path.{_≡_, sym, ap, _∙_}
 use Prim.Native.Nat.{_+_}
 use native.Mathlib.Omega.{arith}
-use lib.ListN.{length}
+use lib.ListN.{length, take}
 use Rattle.frame.proofs.sealing.seal_frame.Statement.{statement}
 use Rattle.frame.proofs.sealing.seal_frame.Tie as tie
 use Rattle.header.specs.Auxiliary.{auxBytes}
 use Rattle.header.specs.declared.auxiliary.NwkAuxHeader.{NwkAuxHeader}
 use Rattle.frame.proofs.Levels.{level-length}
-use Rattle.frame.specs.Security.{networkLevel, sentLevel}
+use Rattle.frame.specs.Security.{networkLevel, sentLevel, authenticated}
 use Rattle.frame.specs.Sealing.{sealedLength}
 use Rattle.frame.proofs.Answers.{auth-length, auth-taken, sealed-done}
+
+-- the first bytes of the local array, as many as the sizes say, are the authenticated ones
+abbrev start : tie.After-size2 → tie.Start
+start s = s .before .before .before .before .before .before .before
+
+taken : (s : tie.After-size2) → take (s .before .size .result + s .size2 .result) (s .before .before .both-headers .result)
+    ≡ authenticated networkLevel (start s .args .h) (start s .args .aux)
+taken s =
+    let made = s .before .before in
+    auth-taken _ _ _ _ _ _ (made .before .at-level .ensures) (made .both-headers .ensures) (λ i. s .before .size .ensures .0 i + s .size2 .ensures .0 i)
 
 both-headers-requires : tie.Need-both-headers-requires
 unfolding sealedLength
 both-headers-requires c κs =
-    let args = c .before .before .before .before .args in
-    let pre = c .before .before .before .before .pre in
-    let e = ap (λ (z : NwkAuxHeader). length (auxBytes z)) (c .at-level .ensures) ∙ level-length networkLevel networkLevel (args .aux) in
-    (pre .0, omega (arith, e, pre .2))
+    let start = c .before .before .before .before in
+    let e = ap (λ (z : NwkAuxHeader). length (auxBytes z)) (c .at-level .ensures) ∙ level-length networkLevel networkLevel (start .args .aux) in
+    (start .pre .0, omega (arith, e, start .pre .2))
 
 put-headers-requires : tie.Need-put-headers-requires
 unfolding sealedLength
 put-headers-requires c κs =
-    let args = c .before .before .before .before .before .before .before .before .before .args in
-    let pre = c .before .before .before .before .before .before .before .before .before .pre in
-    let e = ap (λ (z : NwkAuxHeader). length (auxBytes z)) (c .before .at-level2 .ensures) ∙ level-length sentLevel sentLevel (args .aux) in
-    (pre .0, omega (arith, e, pre .3))
+    let s = start (c .before .before) in
+    let e = ap (λ (z : NwkAuxHeader). length (auxBytes z)) (c .before .at-level2 .ensures) ∙ level-length sentLevel sentLevel (s .args .aux) in
+    (s .pre .0, omega (arith, e, s .pre .3))
 
 array-share-prefix-auth : tie.Need-array-share-prefix-auth
 unfolding sealedLength
 array-share-prefix-auth c =
-    let pre = c .before .before .before .before .before .before .before .before .before .before .before .before .pre in
-    let size = c .before .before .before .before .before .before .size in
-    let size2 = c .before .before .before .before .before .size2 in
-    omega (arith, size .ensures .0, size2 .ensures .0, pre .2)
+    let s = c .before .before .before .before .before in
+    omega (arith, s .before .size .ensures .0, s .size2 .ensures .0, start s .pre .2)
 
 slice-aggregate-put-sealed : tie.Need-slice-aggregate-put-sealed
 slice-aggregate-put-sealed c =
-    let args = c .before .before .before .before .before .before .before .before .before .before .before .before .before .args in
-    let at-level = c .before .before .before .before .before .before .before .before .before .at-level in
-    let both-headers = c .before .before .before .before .before .before .before .before .both-headers in
-    let size = c .before .before .before .before .before .before .before .size in
-    let size2 = c .before .before .before .before .before .before .size2 in
-    sym (ap length (auth-taken networkLevel (args .h) (args .aux) (at-level .result) (both-headers .result) (size .result + size2 .result) (at-level .ensures) (both-headers .ensures) (λ i. size .ensures .0 i + size2 .ensures .0 i))
-    ∙ auth-length networkLevel (args .h) (args .aux) ∙ (λ i. sym (size .ensures .0) i + sym (size2 .ensures .0) i))
+    let s = c .before .before .before .before .before .before in
+    sym (ap length (taken s) ∙ auth-length networkLevel _ _ ∙ (λ i. sym (s .before .size .ensures .0) i + sym (s .size2 .ensures .0) i))
 
 put-sealed-requires : tie.Need-put-sealed-requires
 unfolding sealedLength
 put-sealed-requires c κs =
-    let args = c .before .before .before .before .before .before .before .before .before .before .before .before .before .before .args in
-    let pre = c .before .before .before .before .before .before .before .before .before .before .before .before .before .before .pre in
-    let at-level = c .before .before .before .before .before .before .before .before .before .before .at-level in
-    let both-headers = c .before .before .before .before .before .before .before .before .before .both-headers in
-    let size = c .before .before .before .before .before .before .before .before .size in
-    let size2 = c .before .before .before .before .before .before .before .size2 in
-    let put-headers = c .before .before .before .before .put-headers in
-    let e = ap length (auth-taken networkLevel (args .h) (args .aux) (at-level .result) (both-headers .result) (size .result + size2 .result) (at-level .ensures) (both-headers .ensures) (λ i. size .ensures .0 i + size2 .ensures .0 i)) ∙ auth-length networkLevel (args .h) (args .aux) in
-    let p = pre in
-    (omega (arith, e, p .2), omega (arith, p .1), omega (arith, size .ensures .0, size2 .ensures .0, put-headers .kept .1 .1 .0, p .3))
+    let headers = c .before .before .before .before in
+    let s = headers .before .before .before in
+    let p = start s .pre in (
+      omega (arith, ap length (taken s) ∙ auth-length networkLevel (start s .args .h) (start s .args .aux), p .2),
+      omega (arith, p .1),
+      omega (arith, s .before .size .ensures .0, s .size2 .ensures .0, headers .put-headers .kept .1 .1 .0, p .3),
+    )
 
 returns : tie.Need-returns
 returns c =
-    let a = c .before .before .before .before .before .before .before .before .before .before .before .before .before .before .before .before .before .args in
-    let nonce-of = c .before .before .before .before .before .before .before .before .before .before .before .before .before .before .nonce-of in
-    let at-level = c .before .before .before .before .before .before .before .before .before .before .before .before .before .at-level in
-    let both-headers = c .before .before .before .before .before .before .before .before .before .before .before .before .both-headers in
-    let size = c .before .before .before .before .before .before .before .before .before .before .before .size in
-    let size2 = c .before .before .before .before .before .before .before .before .before .before .size2 in
-    let at-level2 = c .before .before .before .before .before .before .before .before .before .at-level2 in
-    let put-headers = c .before .before .before .before .before .before .before .put-headers in
-    let put-sealed = c .before .before .put-sealed in
-    sealed-done (a .key) (a .h) (a .aux) (at-level2 .result) (a .payload .now) (a .out .now) _ _ (size .result + size2 .result) _ _
-    (λ i. size .ensures .0 i + size2 .ensures .0 i) (at-level2 .ensures) (put-headers .ensures) (nonce-of .ensures)
-    (auth-taken networkLevel (a .h) (a .aux) (at-level .result) (both-headers .result) (size .result + size2 .result) (at-level .ensures) (both-headers .ensures) (λ i. size .ensures .0 i + size2 .ensures .0 i))
-    (put-sealed .ensures)
+    let sealed = c .before .before in
+    let headers = sealed .before .before .before .before .before in
+    let level = headers .before .before in
+    let s = level .before in
+    let nonce = s .before .before .before .before in
+    sealed-done _ _ _ _ _ _ _ _ _ _ _ (λ i. s .before .size .ensures .0 i + s .size2 .ensures .0 i) (level .at-level2 .ensures) (headers .put-headers .ensures)
+    (nonce .nonce-of .ensures) (taken s) (sealed .put-sealed .ensures)
 
 pub seal-frame-spec : {M : Type 1} → statement M
 seal-frame-spec =

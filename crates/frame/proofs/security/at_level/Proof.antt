@@ -6,9 +6,7 @@ use Rattle.frame.specs.Security.{atLevel}
 
 returns : tie.Need-returns
 unfolding atLevel
-returns c =
-    let a = c .before .before .args .aux in
-    λ i. record { «security_control» = c .with-level .ensures i; «frame_counter» = a .«frame_counter»; «extended_source» = a .«extended_source»; «key_sequence_number» = a .«key_sequence_number» }
+returns c = rw (c .with-level .ensures)
 
 pub at-level-spec : {M : Type 1} → statement M
 at-level-spec = tie.close (tie.spec (λ c κs. search needs) returns)

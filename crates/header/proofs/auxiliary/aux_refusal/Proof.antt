@@ -1,6 +1,6 @@
 -- `aux_refusal` meets its contract: each return is the first test of the list that holds. Assumes nothing.
 use borrow.Author.Needs.{needs}
-use mathlib.Core.Path.{sym, ap, _∙_}
+use mathlib.Core.Path.{_≡_, sym, ap, _∙_}
 use Prim.Native.Nat.{_+_}
 use native.Mathlib.Omega.{arith}
 use lib.ListN.{length}
@@ -24,34 +24,35 @@ returns-2 c =
     sym (skip 1 _ _ (le-ltb 118 (length (a .f .now)) (omega arith))
     ∙ stop 9 _ _ (lt-ltb (length (a .f .now)) 6 (omega arith)))
 
+-- where the key sequence number stands, by what the calls gave
+placed : (c : tie.After-key-sequence-at) → c .key-sequence-at .result ≡ keySequenceAt (security (c .before .before .before .before .before .before .args .f .now))
+placed c = c .key-sequence-at .ensures .0 ∙ ap keySequenceAt (c .before .from-byte .ensures ∙ ap securityOf (c .before .before .byte-at .ensures))
+
 returns-3 : tie.Need-returns-3
 unfolding auxRefusal
 returns-3 c =
-    let a = c .before .before .before .before .before .before .before .args in
-    let e = c .before .key-sequence-at .ensures .0 ∙ ap keySequenceAt (c .before .before .from-byte .ensures ∙ ap securityOf (c .before .before .before .byte-at .ensures)) in
-    sym (skip 1 _ _ (le-ltb 118 (length (a .f .now)) (omega arith))
-    ∙ skip 9 _ _ (le-ltb (length (a .f .now)) 6 (omega arith))
-    ∙ stop 10 _ _ (lt-ltb (length (a .f .now)) (keySequenceAt (security (a .f .now))) (omega arith)))
+    let f = c .before .before .before .before .before .before .before .args .f .now in
+    let e = placed (c .before) in
+    sym (skip 1 _ _ (le-ltb 118 (length f) (omega arith)) ∙ skip 9 _ _ (le-ltb (length f) 6 (omega arith))
+    ∙ stop 10 _ _ (lt-ltb (length f) (keySequenceAt (security f)) (omega arith)))
 
 returns-4 : tie.Need-returns-4
 unfolding auxRefusal
 returns-4 c =
-    let a = c .before .before .before .before .before .before .before .before .args in
-    let e = c .before .before .key-sequence-at .ensures .0 ∙ ap keySequenceAt (c .before .before .before .from-byte .ensures ∙ ap securityOf (c .before .before .before .before .byte-at .ensures)) in
-    sym (skip 1 _ _ (le-ltb 118 (length (a .f .now)) (omega arith))
-    ∙ skip 9 _ _ (le-ltb (length (a .f .now)) 6 (omega arith))
-    ∙ skip 10 _ _ (le-ltb (length (a .f .now)) (keySequenceAt (security (a .f .now))) (omega arith))
-    ∙ stop 11 _ _ (lt-ltb (length (a .f .now)) (keySequenceAt (security (a .f .now)) + 1) (omega arith)))
+    let f = c .before .before .before .before .before .before .before .before .args .f .now in
+    let e = placed (c .before .before) in
+    sym (skip 1 _ _ (le-ltb 118 (length f) (omega arith)) ∙ skip 9 _ _ (le-ltb (length f) 6 (omega arith))
+    ∙ skip 10 _ _ (le-ltb (length f) (keySequenceAt (security f)) (omega arith))
+    ∙ stop 11 _ _ (lt-ltb (length f) (keySequenceAt (security f) + 1) (omega arith)))
 
 returns-5 : tie.Need-returns-5
 unfolding auxRefusal
 returns-5 c =
-    let a = c .before .before .before .before .before .before .before .before .args in
-    let e = c .before .before .key-sequence-at .ensures .0 ∙ ap keySequenceAt (c .before .before .before .from-byte .ensures ∙ ap securityOf (c .before .before .before .before .byte-at .ensures)) in
-    sym (skip 1 _ _ (le-ltb 118 (length (a .f .now)) (omega arith))
-    ∙ skip 9 _ _ (le-ltb (length (a .f .now)) 6 (omega arith))
-    ∙ skip 10 _ _ (le-ltb (length (a .f .now)) (keySequenceAt (security (a .f .now))) (omega arith))
-    ∙ skip 11 _ _ (le-ltb (length (a .f .now)) (keySequenceAt (security (a .f .now)) + 1) (omega arith)) ∙ empty)
+    let f = c .before .before .before .before .before .before .before .before .args .f .now in
+    let e = placed (c .before .before) in
+    sym (skip 1 _ _ (le-ltb 118 (length f) (omega arith)) ∙ skip 9 _ _ (le-ltb (length f) 6 (omega arith))
+    ∙ skip 10 _ _ (le-ltb (length f) (keySequenceAt (security f)) (omega arith))
+    ∙ skip 11 _ _ (le-ltb (length f) (keySequenceAt (security f) + 1) (omega arith)) ∙ empty)
 
 pub aux-refusal-spec : {M : Type 1} → statement M
 aux-refusal-spec =

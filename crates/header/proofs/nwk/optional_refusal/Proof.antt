@@ -19,31 +19,32 @@ returns-2 : tie.Need-returns-2
 unfolding optionalRefusals
 returns-2 c =
     let a = c .before .before .before .before .before .args in
-    sym (skip 5 _ _ (le-ltb (length (a .f .now)) (sourceAt (a .c)) (omega arith))
-    ∙ stop 6 _ _ (lt-ltb (length (a .f .now)) (multicastAt (a .c)) (omega arith)))
+    let n = length (a .f .now) in
+    sym (skip 5 _ _ (le-ltb n (sourceAt (a .c)) (omega arith)) ∙ stop 6 _ _ (lt-ltb n (multicastAt (a .c)) (omega arith)))
 
 returns-3 : tie.Need-returns-3
 unfolding optionalRefusals
 returns-3 c =
     let a = c .before .before .before .before .before .before .before .args in
-    sym (skip 5 _ _ (le-ltb (length (a .f .now)) (sourceAt (a .c)) (omega arith)) ∙ skip 6 _ _ (le-ltb (length (a .f .now)) (multicastAt (a .c)) (omega arith))
-    ∙ stop 7 _ _ (lt-ltb (length (a .f .now)) (routeAt (a .c)) (omega arith)))
+    let n = length (a .f .now) in
+    sym (skip 5 _ _ (le-ltb n (sourceAt (a .c)) (omega arith)) ∙ skip 6 _ _ (le-ltb n (multicastAt (a .c)) (omega arith))
+    ∙ stop 7 _ _ (lt-ltb n (routeAt (a .c)) (omega arith)))
 
 returns-4 : tie.Need-returns-4
 unfolding optionalRefusals
 returns-4 c =
     let a = c .before .before .before .before .before .before .before .before .before .args in
-    sym (skip 5 _ _ (le-ltb (length (a .f .now)) (sourceAt (a .c)) (omega arith)) ∙ skip 6 _ _ (le-ltb (length (a .f .now)) (multicastAt (a .c)) (omega arith)) ∙ skip 7 _ _ (le-ltb (length (a .f .now)) (routeAt (a .c)) (omega arith))
-    ∙ stop 8 _ _ (lt-ltb (length (a .f .now)) (headerEnd (a .f .now) (a .c)) (omega arith)))
+    let n = length (a .f .now) in
+    sym (skip 5 _ _ (le-ltb n (sourceAt (a .c)) (omega arith)) ∙ skip 6 _ _ (le-ltb n (multicastAt (a .c)) (omega arith))
+    ∙ skip 7 _ _ (le-ltb n (routeAt (a .c)) (omega arith)) ∙ stop 8 _ _ (lt-ltb n (headerEnd (a .f .now) (a .c)) (omega arith)))
 
 returns-5 : tie.Need-returns-5
 unfolding optionalRefusals
 returns-5 c =
     let a = c .before .before .before .before .before .before .before .before .before .args in
-    sym (skip 5 _ _ (le-ltb (length (a .f .now)) (sourceAt (a .c)) (omega arith))
-    ∙ skip 6 _ _ (le-ltb (length (a .f .now)) (multicastAt (a .c)) (omega arith))
-    ∙ skip 7 _ _ (le-ltb (length (a .f .now)) (routeAt (a .c)) (omega arith))
-    ∙ skip 8 _ _ (le-ltb (length (a .f .now)) (headerEnd (a .f .now) (a .c)) (omega arith)) ∙ empty)
+    let n = length (a .f .now) in
+    sym (skip 5 _ _ (le-ltb n (sourceAt (a .c)) (omega arith)) ∙ skip 6 _ _ (le-ltb n (multicastAt (a .c)) (omega arith))
+    ∙ skip 7 _ _ (le-ltb n (routeAt (a .c)) (omega arith)) ∙ skip 8 _ _ (le-ltb n (headerEnd (a .f .now) (a .c)) (omega arith)) ∙ empty)
 
 pub optional-refusal-spec : {M : Type 1} → statement M
 optional-refusal-spec =

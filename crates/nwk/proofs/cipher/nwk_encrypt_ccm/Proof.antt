@@ -4,23 +4,21 @@ use mathlib.Core.Path.{sym, ap, _∙_}
 use mathlib.Core.Logic.{⊎-elim}
 use Rattle.octets.proofs.Conditions.{accepted, refused}
 use Rattle.ccm.specs.declared.Sealed.{Sealed}
-use Rattle.ccm.specs.Operations.{encryptCcm}
 use Rattle.nwk.specs.Answer.{answer}
 use Rattle.nwk.proofs.cipher.nwk_encrypt_ccm.Statement.{statement}
 use Rattle.nwk.proofs.cipher.nwk_encrypt_ccm.Tie as tie
 
 returns : tie.Need-returns
 returns c =
-    let a = c .before .before .before .before .before .before .before .before .before .before .before .before .before .args in
-    let k = c .before .before .before .before .before .before .before .before .before .from-halves .ensures in
-    let s = c .before .before .before .before .before .encrypt-ccm in
-    let e = s .ensures .0 ∙ (λ i. encryptCcm (k i) (a .nonce .now) (a .auth .now) (a .payload .now) (a .out .now) .answer) in (
-      c .answer .ensures ∙ (λ i. answer (e i .refusal) (e i .length)),
+    let sealed = c .before .before .before .before .before in
+    let k = sealed .before .before .before .before .from-halves .ensures in
+    let e = rw k at (sealed .encrypt-ccm .ensures .0) in (
+      rw (c .answer .ensures, e),
       (
-        s .ensures .1 ∙ (λ i. encryptCcm (k i) (a .nonce .now) (a .auth .now) (a .payload .now) (a .out .now) .out),
+        sealed .encrypt-ccm .ensures .1 ∙ rw k,
         ⊎-elim
-            (λ w. w .2 ∙ (λ i. e i .mic) ∙ sym (accepted _ _ (a .mic .now) (ap (λ (r : Sealed). r .refusal) (sym e) ∙ w .0 .taken)))
-            (λ w. w .1 ∙ sym (refused _ _ (a .mic .now) (λ z. w .0 .left (ap (λ (r : Sealed). r .refusal) e ∙ z))))
+            (λ w. w .2 ∙ (λ i. e i .mic) ∙ sym (accepted _ _ _ (ap (λ (r : Sealed). r .refusal) (sym e) ∙ w .0 .taken)))
+            (λ w. w .1 ∙ sym (refused _ _ _ (λ z. w .0 .left (ap (λ (r : Sealed). r .refusal) e ∙ z))))
             (c .before .if1 .came),
       ),
     )

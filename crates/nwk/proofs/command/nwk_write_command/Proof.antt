@@ -1,10 +1,9 @@
 -- `nwk_write_command` meets its contract: refused for its record, or what writing the command answers. Assumes nothing.
 use borrow.Author.Needs.{needs}
 use mathlib.Core.Path.{sym, _∙_}
-use lib.ListN.{length}
 use Rattle.octets.proofs.Conditions.{skip-by}
-use Rattle.commands.specs.Writing.{commandBytes, writeRefusal, writeCommand}
-use Rattle.command_records.specs.CommandRecord.{readRecord, writeRecordRefusal}
+use Rattle.commands.specs.Writing.{writeCommand}
+use Rattle.command_records.specs.CommandRecord.{writeRecordRefusal}
 use Rattle.nwk.proofs.Calls.{refused-by, written-by}
 use Rattle.nwk.proofs.Refusals.{read-number, single}
 use Rattle.nwk.proofs.command.nwk_write_command.Statement.{statement}
@@ -13,24 +12,16 @@ use Rattle.nwk.proofs.command.nwk_write_command.Tie as tie
 returns : tie.Need-returns
 unfolding writeRecordRefusal
 returns c =
-    let a = c .before .before .before .before .before .before .args in
-    let r = c .before .before .before .read-record in
-    refused-by _ (r .result .refusal) _ _ _ (a .out .now)
-    (read-number _ (readRecord (a .command .now) .refusal) _ (λ i. r .ensures i .refusal) (c .before .if1 .taken))
-    (c .before .if1 .taken) (c .answer .ensures)
+    let stopped = c .before .if1 .taken in
+    refused-by _ _ _ _ _ _ (read-number _ _ _ (λ i. c .before .before .before .read-record .ensures i .refusal) stopped) stopped (c .answer .ensures)
 
 returns-2 : tie.Need-returns-2
 unfolding writeRecordRefusal writeCommand
 returns-2 c =
-    let a = c .before .before .before .before .before .before .before .before .before .before .before .args in
-    let r = c .before .before .before .before .before .before .before .before .read-record .ensures in
     let s = c .before .before .before .serialize in
-    let k = writeRefusal (readRecord (a .command .now) .command) (length (a .out .now)) in
-    written-by _ k (commandBytes (readRecord (a .command .now) .command)) (a .out .now) _ (s .result) _
-    (single k ∙ sym (skip-by (readRecord (a .command .now) .refusal) _ ((λ i. sym r i .refusal) ∙ c .before .before .before .before .before .before .if1 .left)))
-    (s .ensures .0 ∙ (λ i. writeCommand (r i .command) (a .out .now) .answer))
-    (s .ensures .1 ∙ (λ i. writeCommand (r i .command) (a .out .now) .out))
-    (c .answer2 .ensures)
+    let passed = c .before .before .before .before .before .before in
+    let r = passed .before .before .read-record .ensures in
+    written-by _ _ _ _ _ _ _ (single _ ∙ sym (skip-by _ _ (rw r at (passed .if1 .left)))) (s .ensures .0 ∙ rw r) (s .ensures .1 ∙ rw r) (c .answer2 .ensures)
 
 pub nwk-write-command-spec : {M : Type 1} → statement M
 nwk-write-command-spec =

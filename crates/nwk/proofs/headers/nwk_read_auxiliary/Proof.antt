@@ -2,13 +2,8 @@
 use borrow.Author.Needs.{needs}
 use mathlib.Core.Path.{sym, _∙_}
 use native.Mathlib.Omega.{arith}
-use mathlib.Core.Bool.{true}
-use lib.ListN.{length}
 use Rattle.nwk.proofs.headers.nwk_read_auxiliary.Statement.{statement}
 use Rattle.nwk.proofs.headers.nwk_read_auxiliary.Tie as tie
-use Rattle.octets.specs.Strings.{over}
-use Rattle.header.specs.Auxiliary.{auxRefusal}
-use Rattle.records.specs.AuxiliaryRecord.{auxRecord}
 use Rattle.nwk.specs.Headers.{readAuxRefusal}
 use Rattle.nwk.specs.Answer.{answer}
 use Rattle.nwk.proofs.Calls.{refused-by, passed-by}
@@ -18,29 +13,23 @@ use Rattle.nwk.proofs.Refusals.{read-number, read-short, read-none}
 returns : tie.Need-returns
 unfolding readAuxRefusal
 returns c =
-    let a = c .before .before .before .before .before .before .args in
-    let d = c .before .before .before .deserialize in
-    let e = (λ i. d .ensures i .refusal) ∙ aux-number (a .bytes .now) in
-    refused-by _ (d .result .refusal) _ _ _ (a .auxiliary .now)
-    (read-number _ (auxRefusal (a .bytes .now)) _ e (c .before .if1 .taken))
-    (c .before .if1 .taken) (c .answer .ensures)
+    let e = (λ i. c .before .before .before .deserialize .ensures i .refusal) ∙ aux-number _ in
+    refused-by _ _ _ _ _ _ (read-number _ _ _ e (c .before .if1 .taken)) (c .before .if1 .taken) (c .answer .ensures)
 
 returns-2 : tie.Need-returns-2
 unfolding readAuxRefusal
 returns-2 c =
-    let a = c .before .before .before .before .before .before .before .args in
-    let e = sym (aux-number (a .bytes .now)) ∙ (λ i. sym (c .before .before .before .before .deserialize .ensures) i .refusal) ∙ c .before .before .if1 .left in
-    refused-by _ 18 _ _ _ (a .auxiliary .now) (read-short _ 19 (length (a .auxiliary .now)) e (c .before .if2 .taken)) (λ e. omega arith) (c .answer2 .ensures)
+    let e = sym (aux-number _) ∙ rw (c .before .before .before .before .deserialize .ensures) at (c .before .before .if1 .left) in
+    refused-by _ 18 _ _ _ _ (read-short _ 19 _ e (c .before .if2 .taken)) (λ e. omega arith) (c .answer2 .ensures)
 
 returns-3 : tie.Need-returns-3
 unfolding readAuxRefusal
 returns-3 c =
-    let a = c .before .before .before .before .before .before .before .before .before .before .before .before .args in
-    let d = c .before .before .before .before .before .before .before .before .before .deserialize .ensures in
-    let e = sym (aux-number (a .bytes .now)) ∙ (λ i. sym d i .refusal) ∙ c .before .before .before .before .before .before .before .if1 .left in
-    passed-by _ _ _ _ (a .auxiliary .now) _ (read-none _ 19 (length (a .auxiliary .now)) e (c .before .before .before .before .before .before .if2 .left))
-    (c .answer3 .ensures ∙ (λ i. answer 0 (d i .length)))
-    (c .before .before .before .put-aux .ensures ∙ (λ i. over (a .auxiliary .now) 0 (auxRecord true (d i .aux))))
+    let put = c .before .before .before in
+    let room = put .before .before .before in
+    let d = room .before .before .before .deserialize .ensures in
+    let e = sym (aux-number _) ∙ rw d at (room .before .if1 .left) in
+    passed-by _ _ _ _ _ _ (read-none _ 19 _ e (room .if2 .left)) (c .answer3 .ensures ∙ rw d) (put .put-aux .ensures ∙ rw d)
 
 pub nwk-read-auxiliary-spec : {M : Type 1} → statement M
 nwk-read-auxiliary-spec =

@@ -2,12 +2,8 @@
 use borrow.Author.Needs.{needs}
 use mathlib.Core.Path.{sym, _∙_}
 use native.Mathlib.Omega.{arith}
-use lib.ListN.{length}
 use Rattle.nwk.proofs.headers.nwk_read_header.Statement.{statement}
 use Rattle.nwk.proofs.headers.nwk_read_header.Tie as tie
-use Rattle.octets.specs.Strings.{over}
-use Rattle.header.specs.Reading.{headerRefusal}
-use Rattle.records.specs.HeaderRecord.{headerRecord}
 use Rattle.nwk.specs.Headers.{readHeaderRefusal}
 use Rattle.nwk.specs.Answer.{answer}
 use Rattle.nwk.proofs.Calls.{refused-by, passed-by}
@@ -17,29 +13,23 @@ use Rattle.nwk.proofs.Refusals.{read-number, read-short, read-none}
 returns : tie.Need-returns
 unfolding readHeaderRefusal
 returns c =
-    let a = c .before .before .before .before .before .before .args in
-    let d = c .before .before .before .deserialize in
-    let e = (λ i. d .ensures i .refusal) ∙ header-number (a .bytes .now) in
-    refused-by _ (d .result .refusal) _ _ _ (a .header .now)
-    (read-number _ (headerRefusal (a .bytes .now)) _ e (c .before .if1 .taken))
-    (c .before .if1 .taken) (c .answer .ensures)
+    let e = (λ i. c .before .before .before .deserialize .ensures i .refusal) ∙ header-number _ in
+    refused-by _ _ _ _ _ _ (read-number _ _ _ e (c .before .if1 .taken)) (c .before .if1 .taken) (c .answer .ensures)
 
 returns-2 : tie.Need-returns-2
 unfolding readHeaderRefusal
 returns-2 c =
-    let a = c .before .before .before .before .before .before .before .args in
-    let e = sym (header-number (a .bytes .now)) ∙ (λ i. sym (c .before .before .before .before .deserialize .ensures) i .refusal) ∙ c .before .before .if1 .left in
-    refused-by _ 18 _ _ _ (a .header .now) (read-short _ 147 (length (a .header .now)) e (c .before .if2 .taken)) (λ e. omega arith) (c .answer2 .ensures)
+    let e = sym (header-number _) ∙ rw (c .before .before .before .before .deserialize .ensures) at (c .before .before .if1 .left) in
+    refused-by _ 18 _ _ _ _ (read-short _ 147 _ e (c .before .if2 .taken)) (λ e. omega arith) (c .answer2 .ensures)
 
 returns-3 : tie.Need-returns-3
 unfolding readHeaderRefusal
 returns-3 c =
-    let a = c .before .before .before .before .before .before .before .before .before .before .before .before .args in
-    let d = c .before .before .before .before .before .before .before .before .before .deserialize .ensures in
-    let e = sym (header-number (a .bytes .now)) ∙ (λ i. sym d i .refusal) ∙ c .before .before .before .before .before .before .before .if1 .left in
-    passed-by _ _ _ _ (a .header .now) _ (read-none _ 147 (length (a .header .now)) e (c .before .before .before .before .before .before .if2 .left))
-    (c .answer3 .ensures ∙ (λ i. answer 0 (d i .length)))
-    (c .before .before .before .put-header .ensures ∙ (λ i. over (a .header .now) 0 (headerRecord (d i .header))))
+    let put = c .before .before .before in
+    let room = put .before .before .before in
+    let d = room .before .before .before .deserialize .ensures in
+    let e = sym (header-number _) ∙ rw d at (room .before .if1 .left) in
+    passed-by _ _ _ _ _ _ (read-none _ 147 _ e (room .if2 .left)) (c .answer3 .ensures ∙ rw d) (put .put-header .ensures ∙ rw d)
 
 pub nwk-read-header-spec : {M : Type 1} → statement M
 nwk-read-header-spec =

@@ -14,9 +14,9 @@ returns-2 c =
 
 returns-3 : tie.Need-returns-3
 returns-3 c =
-    let byte-at = c .before .before .before .byte-at in
-    c .exceeds .ensures
-    ∙ aux-rest (c .before .before .before .before .before .before .args .bytes .now) (c .before .before .before .before .if1 .left) (λ z. c .before .before .if2 .left (byte-at .ensures ∙ z))
+    let present = c .before .before in
+    let present-byte = present .before .byte-at .ensures in
+    c .exceeds .ensures ∙ aux-rest _ (present .before .before .if1 .left) (λ z. present .if2 .left (present-byte ∙ z))
 
 pub is-bad-spec : {M : Type 1} → statement M
 is-bad-spec =

@@ -10,10 +10,9 @@ use Rattle.records.specs.AuxiliaryRecord.{counterRecord, auxRecord}
 returns : tie.Need-returns
 unfolding auxRecord counterRecord
 returns c =
-    let a = c .before .before .before .before .before .before .before .before .before .before .args in
-    over-then (a .out .now) _ _ 0 5 _ (counterRecord (a .a)) (omega arith) refl
-    (c .before .before .before .before .before .before .put-security .ensures)
-    (c .before .before .put-counter .ensures)
+    let counter = c .before .before in
+    let security = counter .before .before .before .before in
+    over-then _ _ _ 0 5 _ _ (omega arith) refl (security .put-security .ensures) (counter .put-counter .ensures)
 
 pub put-aux-spec : {M : Type 1} → statement M
 put-aux-spec = tie.close (tie.spec (λ c κs. search needs) (λ c κs. search needs) (λ c. search needs) returns)

@@ -10,15 +10,11 @@ use Rattle.records.proofs.Sizes.{length-ieee}
 
 returns : tie.Need-returns
 returns c =
-    let a = c .before .before .before .before .before .before .before .before .before .before .before .before .before .args in
-    let pre = c .before .before .before .before .before .before .before .before .before .before .before .before .before .pre in
-    let put-u32 = c .before .before .before .before .before .before .before .before .before .before .put-u32 in
-    let put-ieee = c .before .before .before .before .before .before .put-ieee in
-    let put-u8 = c .before .before .put-u8 in
-    over-three (a .out .now) _ _ _ 5 9 18 _ _ _ (omega (arith, pre)) (rw (length-le 4) refl) (rw length-ieee refl)
-    (put-u32 .ensures)
-    (put-ieee .ensures)
-    (put-u8 .ensures)
+    let sequence = c .before .before in
+    let ieee = sequence .before .before .before .before in
+    let counter = ieee .before .before .before .before in
+    over-three _ _ _ _ 5 9 18 _ _ _ (omega (arith, counter .before .before .before .pre)) (rw (length-le 4) refl) (rw length-ieee refl)
+    (counter .put-u32 .ensures) (ieee .put-ieee .ensures) (sequence .put-u8 .ensures)
 
 pub put-counter-spec : {M : Type 1} → statement M
 put-counter-spec =

@@ -1,23 +1,18 @@
 -- `put_security` meets its contract: the five values, byte by byte. Assumes nothing.
 use borrow.Author.Needs.{needs}
 use mathlib.Core.Path.{_∙_}
-use mathlib.Core.List.{[], _∷_}
 use Rattle.records.proofs.auxiliary_record.put_security.Statement.{statement}
 use Rattle.records.proofs.auxiliary_record.put_security.Tie as tie
-use Rattle.octets.specs.Strings.{over}
 
 returns : tie.Need-returns
 returns c =
-    let a = c .before .before .before .before .before .before .before .before .before .before .before .args in
-    let bit-of = c .before .before .before .before .before .before .before .before .before .bit-of in
-    let code = c .before .before .before .before .before .before .before .before .code in
-    let code2 = c .before .before .before .before .before .before .before .code2 in
-    let bit-of2 = c .before .before .before .before .before .before .bit-of2 in
-    let bit-of3 = c .before .before .before .before .before .bit-of3 in
-    let copy-at = c .before .before .copy-at in
-    copy-at .ensures
-    ∙ (λ i. over (a .out .now) 0
-    (bit-of .ensures .0 i ∷ code .ensures .0 i ∷ code2 .ensures .0 i ∷ bit-of2 .ensures .0 i ∷ bit-of3 .ensures .0 i ∷ []))
+    let copied = c .before .before in
+    let reserved = copied .before .before .before in
+    let extended = reserved .before in
+    let identifier = extended .before in
+    let level = identifier .before in
+    copied .copy-at .ensures
+    ∙ rw (level .before .bit-of .ensures .0, level .code .ensures .0, identifier .code2 .ensures .0, extended .bit-of2 .ensures .0, reserved .bit-of3 .ensures .0)
 
 pub put-security-spec : {M : Type 1} → statement M
 put-security-spec =

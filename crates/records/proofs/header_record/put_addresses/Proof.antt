@@ -11,17 +11,13 @@ use Rattle.records.proofs.Writes.{over-four}
 returns : tie.Need-returns
 unfolding addressRecord
 returns c =
-    let a = c .before .before .before .before .before .before .before .before .before .before .before .before .before .before .before .before .before .args in
-    let pre = c .before .before .before .before .before .before .before .before .before .before .before .before .before .before .before .before .before .pre in
-    let put-u16 = c .before .before .before .before .before .before .before .before .before .before .before .before .before .before .put-u16 in
-    let put-u162 = c .before .before .before .before .before .before .before .before .before .before .put-u162 in
-    let put-u8 = c .before .before .before .before .before .before .put-u8 in
-    let put-u82 = c .before .before .put-u82 in
-    over-four (a .out .now) _ _ _ _ 10 12 14 15 _ _ _ _ (omega (arith, pre)) (rw (length-le 2) refl) (rw (length-le 2) refl) (rw (length-le 1) refl)
-    (put-u16 .ensures)
-    (put-u162 .ensures)
-    (put-u8 .ensures)
-    (put-u82 .ensures)
+    let sequence = c .before .before in
+    let radius = sequence .before .before .before .before in
+    let source = radius .before .before .before .before in
+    let destination = source .before .before .before .before in
+    over-four _ _ _ _ _ 10 12 14 15 _ _ _ _ (omega (arith, destination .before .before .before .pre))
+    (rw (length-le 2) refl) (rw (length-le 2) refl) (rw (length-le 1) refl)
+    (destination .put-u16 .ensures) (source .put-u162 .ensures) (radius .put-u8 .ensures) (sequence .put-u82 .ensures)
 
 pub put-addresses-spec : {M : Type 1} → statement M
 put-addresses-spec =

@@ -9,15 +9,11 @@ use Rattle.records.proofs.Sizes.{length-ieee}
 
 returns : tie.Need-returns
 returns c =
-    let a = c .before .before .before .before .before .before .before .before .before .before .before .before .before .args in
-    let pre = c .before .before .before .before .before .before .before .before .before .before .before .before .before .pre in
-    let put-ieee = c .before .before .before .before .before .before .before .before .before .before .put-ieee in
-    let put-ieee2 = c .before .before .before .before .before .before .put-ieee2 in
-    let put-multicast = c .before .before .put-multicast in
-    over-three (a .out .now) _ _ _ 16 25 34 _ _ _ (omega (arith, pre)) (rw length-ieee refl) (rw length-ieee refl)
-    (put-ieee .ensures)
-    (put-ieee2 .ensures)
-    (put-multicast .ensures)
+    let multicast = c .before .before in
+    let source = multicast .before .before .before .before in
+    let destination = source .before .before .before .before in
+    over-three _ _ _ _ 16 25 34 _ _ _ (omega (arith, destination .before .before .before .pre)) (rw length-ieee refl) (rw length-ieee refl)
+    (destination .put-ieee .ensures) (source .put-ieee2 .ensures) (multicast .put-multicast .ensures)
 
 pub put-optional-spec : {M : Type 1} → statement M
 put-optional-spec =

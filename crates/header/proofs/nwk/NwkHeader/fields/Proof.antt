@@ -13,33 +13,29 @@ use Rattle.header.specs.Reading.{headerBy}
 returns : tie.Need-returns
 unfolding headerBy
 returns c =
-    let a = c .before .before .before .before .before .before .before .before .before .before .before .before .before .before .before .before .before .before .args in
-    let route-at = c .before .before .before .before .before .before .before .before .before .before .before .before .before .before .before .before .route-at in
-    let read-u16 = c .before .before .before .before .before .before .before .before .before .before .before .before .before .before .before .read-u16 in
-    let read-u162 = c .before .before .before .before .before .before .before .before .before .before .before .before .before .before .read-u162 in
-    let byte-at = c .before .before .before .before .before .before .before .before .before .before .before .before .before .byte-at in
-    let byte-at2 = c .before .before .before .before .before .before .before .before .before .before .before .before .byte-at2 in
-    let read-u64 = c .before .before .before .before .before .before .before .before .before .before .before .read-u64 in
-    let when = c .before .before .before .before .before .before .before .before .before .before .when in
-    let source-at = c .before .before .before .before .before .before .before .before .before .source-at in
-    let read-u642 = c .before .before .before .before .before .before .before .before .read-u642 in
-    let when2 = c .before .before .before .before .before .before .before .when2 in
-    let multicast-at = c .before .before .before .before .before .before .multicast-at in
-    let byte-at3 = c .before .before .before .before .before .byte-at3 in
-    let when3 = c .before .before .before .before .when3 in
-    let byte-at4 = c .before .before .before .byte-at4 in
-    let byte-at5 = c .before .before .byte-at5 in
-    let route = route-at .ensures .0 in
+    let route = c .before .before in
+    let multicast = route .before .before in
+    let source = multicast .before .before .before in
+    let destination = source .before .before .before in
+    let radius = destination .before .before .before in
+    let addresses = radius .before .before in
+    let a = addresses .before .before .before .args in
+    let byte : ℕ → ℕ = λ k. getD (a .f .now) k 0 in
+    let at = addresses .before .route-at .ensures .0 in
+    let s = source .before .read-u642 .ensures ∙ ap (leAt 8 (a .f .now)) (source .before .before .source-at .ensures .0) in
+    let m = multicast .before .byte-at3 .ensures ∙ ap byte (multicast .before .before .multicast-at .ensures .0) in
+    let count = route .before .byte-at4 .ensures ∙ ap byte at in
+    let index = route .byte-at5 .ensures ∙ ap (λ (k : ℕ). byte (k + 1)) at in
     λ i. record {
       «frame_control» = a .c;
-      destination = record { 0 = read-u16 .ensures i };
-      source = record { 0 = read-u162 .ensures i };
-      radius = byte-at .ensures i;
-      «sequence_number» = byte-at2 .ensures i;
-      «destination_ieee» = (when .ensures ∙ ap (ieeeIf (a .c .destination)) (read-u64 .ensures)) i;
-      «source_ieee» = (when2 .ensures ∙ ap (ieeeIf (a .c .«extended_source»)) (read-u642 .ensures ∙ ap (leAt 8 (a .f .now)) (source-at .ensures .0))) i;
-      «multicast_control» = (when3 .ensures ∙ ap (multicastIf (a .c .multicast)) (byte-at3 .ensures ∙ ap (λ (k : ℕ). getD (a .f .now) k 0) (multicast-at .ensures .0))) i;
-      «source_route» = (c .before .when4 .ensures ∙ (λ j. routeIf (a .c .«source_route») ((byte-at4 .ensures ∙ ap (λ (k : ℕ). getD (a .f .now) k 0) route) j) ((byte-at5 .ensures ∙ ap (λ (k : ℕ). getD (a .f .now) (k + 1) 0) route) j))) i;
+      destination = record { 0 = addresses .read-u16 .ensures i };
+      source = record { 0 = radius .before .read-u162 .ensures i };
+      radius = radius .byte-at .ensures i;
+      «sequence_number» = destination .before .before .byte-at2 .ensures i;
+      «destination_ieee» = (destination .when .ensures ∙ ap (ieeeIf (a .c .destination)) (destination .before .read-u64 .ensures)) i;
+      «source_ieee» = (source .when2 .ensures ∙ ap (ieeeIf (a .c .«extended_source»)) s) i;
+      «multicast_control» = (multicast .when3 .ensures ∙ ap (multicastIf (a .c .multicast)) m) i;
+      «source_route» = (c .before .when4 .ensures ∙ (λ j. routeIf (a .c .«source_route») (count j) (index j))) i;
       relays = c .relays-of .ensures i;
     }
 
