@@ -18,7 +18,16 @@ use Rattle.commands.specs.Writing.{wireOf, wire, wireBytes, commandBytes, overP
 use Rattle.boundary.specs.Starred.{All, starred, plainBytes, dataControl, routedControl, fromProbe, routedBytes, leaveWithRequest, timeout14, oneLink}
 
 pub starred-hold : All starred
-unfolding tab over heldParts heldField heldFields heldEntries heldValues le leAt fields packed unless firstOf written xtime productOfBits product bitPower power inverse bit affineBit ofBits affine sbox controlOf sourceAt multicastAt routeAt relaysAnnounced headerEnd optionalRefusals headerRefusal relaysOf headerBy blankHeader readHeader commandIdOf commandIds timeoutOf timeouts partSizes keptCount kept filled size width readField writeField sizes widths readFields writeFields plus summed headEnd announced bodyEnd values writeEntries bodyBytes leaveFormat leaveOf leaveValues timeoutRequestFormat timeoutRequestBy timeoutRequestOf timeoutRequestValues linkStatusFormat linkStatusOf linkStatusValues linkOf linkEntry firsts formatOf commandOf places withLists listed bodyOf typedBy typed unparsed parsed readRefusal readCommand wireOf wire wireBytes commandBytes overPlaces misfits fieldRefusal writeRefusal writeCommand seconds timeoutSeconds starred plainBytes dataControl routedControl fromProbe routedBytes leaveWithRequest timeout14 oneLink
+unfolding tab over heldParts heldField heldFields heldEntries heldValues le leAt fields packed unless firstOf written
+    xtime productOfBits product bitPower power inverse bit affineBit ofBits affine sbox controlOf sourceAt multicastAt
+    routeAt relaysAnnounced headerEnd optionalRefusals headerRefusal relaysOf headerBy blankHeader readHeader
+    commandIdOf commandIds timeoutOf timeouts partSizes keptCount kept filled size width readField writeField sizes
+    widths readFields writeFields plus summed headEnd announced bodyEnd values writeEntries bodyBytes leaveFormat
+    leaveOf leaveValues timeoutRequestFormat timeoutRequestBy timeoutRequestOf timeoutRequestValues linkStatusFormat
+    linkStatusOf linkStatusValues linkOf linkEntry firsts formatOf commandOf places withLists listed bodyOf typedBy
+    typed unparsed parsed readRefusal readCommand wireOf wire wireBytes commandBytes overPlaces misfits fieldRefusal
+    writeRefusal writeCommand seconds timeoutSeconds starred plainBytes dataControl routedControl fromProbe routedBytes
+    leaveWithRequest timeout14 oneLink
 starred-hold = (
   (refl, refl),
   (refl, (refl, (refl, (refl, ((refl, refl), (refl, (refl, (refl, ((refl, refl), (refl, (refl, (refl, (refl, tt))))))))))))),

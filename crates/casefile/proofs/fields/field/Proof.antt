@@ -25,14 +25,16 @@ returns c =
 
 returns-2 : tie.Need-returns-2
 returns-2 c =
-    let entry = c .before .before .before .before .before .before .before .before .before .before .before .before .args in
-    let w = c .before .before .before .before .before .before .before .before .before .word .ensures in
-    let same = c .before .before .before .before .before .before .before .same in
-    let n = c .before .before .before .before .within in
+    let bound = c .before .before .before .before in
+    let dash = bound .before .before in
+    let w = dash .before .before .before .word .ensures in
+    let entry = dash .before .before .before .before .before .before .args in
+    let same = dash .before .same in
+    let n = bound .within in
     let d = c .before .before .decode in
     let word : List ℕ = wordOf (now (entry .line)) (entry .k) in
     let no-dash : isDash word ≡ false =
-    rw (← w) (sym (same-text (same .result) _ _ (same .ensures .0) (same .ensures .1)) ∙ c .before .before .before .before .before .before .if1 .left) in
+    rw (← w) (sym (same-text (same .result) _ _ (same .ensures .0) (same .ensures .1)) ∙ dash .if1 .left) in
     let count : n .result ≡ min (length word / 2) (length (now (entry .out))) = rw (← w) (n .ensures .1) in
     let good : d .result ≡ isHex word (length (take (n .result) (now (entry .out)))) = rw (← w) (d .ensures .0) in
     let bytes : d .result ≡ true → d .last .1 .0 ≡ hexBytes word = rw (← w) (d .ensures .1) in (

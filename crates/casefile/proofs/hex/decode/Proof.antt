@@ -48,15 +48,17 @@ shared-slice-read-digit-2 c = omega arith
 
 returns-4 : tie.Need-returns-4 Inv-loop μ-loop
 returns-4 c =
-    let ds : List ℕ = now (c .before .before .before .before .before .before .before .before .before .before .before .before .args .digits) in
-    let loop = c .before .before .before .before .before .before .loop in
+    let turn = c .before .before .before .before .before .before in
+    let ds : List ℕ = now (turn .before .before .before .before .before .before .args .digits) in
+    let loop = turn .loop in
     let none = high-not ds (loop .i) (omega arith) (sym (c .before .before .before .digit .ensures .0) ∙ c .if4 .taken) in
     (sym (hex-by _ _ (loop .i) (omega arith) (omega arith) (loop .inv .2) none), λ t. absurd (false≢true t))
 
 returns-5 : tie.Need-returns-5 Inv-loop μ-loop
 returns-5 c =
-    let ds : List ℕ = now (c .before .before .before .before .before .before .before .before .before .before .before .before .before .args .digits) in
-    let loop = c .before .before .before .before .before .before .before .loop in
+    let turn = c .before .before .before .before .before .before .before in
+    let ds : List ℕ = now (turn .before .before .before .before .before .before .args .digits) in
+    let loop = turn .loop in
     let none = low-not ds (loop .i) (omega arith) (sym (c .before .before .digit2 .ensures .0) ∙ c .if5 .taken) in
     (sym (hex-by _ _ (loop .i) (omega arith) (omega arith) (loop .inv .2) none), λ t. absurd (false≢true t))
 
@@ -77,10 +79,11 @@ loop-less c = omega arith
 
 loop-again : tie.Need-loop-again Inv-loop μ-loop
 loop-again c =
-    let ds : List ℕ = now (c .before .before .before .before .before .before .before .before .before .before .before .before .before .args .digits) in
-    let out : List ℕ = c .before .before .before .before .before .before .before .loop .out in
-    let i : ℕ = c .before .before .before .before .before .before .before .loop .i in
-    let inv = c .before .before .before .before .before .before .before .loop .inv in
+    let turn = c .before .before .before .before .before .before .before in
+    let ds : List ℕ = now (turn .before .before .before .before .before .before .args .digits) in
+    let out : List ℕ = turn .loop .out in
+    let i : ℕ = turn .loop .i in
+    let inv = turn .loop .inv in
     let high = c .before .before .before .before .digit in
     let low = c .before .before .digit2 in
     let inside : i < length out = omega arith in

@@ -19,11 +19,12 @@ returns-2 c =
 returns-3 : tie.Need-returns-3
 unfolding decimalOf
 returns-3 c =
-    let not-one = ne-eqb _ _ (c .before .before .before .before .before .before .before .before .if1 .left) in
-    let not-two = ne-eqb _ _ (c .before .before .before .before .before .before .before .if2 .left) in
-    let three = eq-eqb _ _ (c .before .before .before .before .before .before .if3 .taken) in
+    let test = c .before .before .before .before .before .before in
+    let not-one = ne-eqb _ _ (test .before .before .if1 .left) in
+    let not-two = ne-eqb _ _ (test .before .if2 .left) in
+    let three = eq-eqb _ _ (test .if3 .taken) in
     let first = c .before .before .before .before .decimal4 .ensures .0 in
-    rw (← c .before .before .before .before .before .before .before .before .before .word .ensures, not-one, not-two, three, first, c .before .before .decimal5 .ensures .0, c .decimal6 .ensures .0)
+    rw (← test .before .before .before .word .ensures, not-one, not-two, three, first, c .before .before .decimal5 .ensures .0, c .decimal6 .ensures .0)
 
 returns-4 : tie.Need-returns-4
 unfolding decimalOf

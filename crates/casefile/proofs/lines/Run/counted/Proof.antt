@@ -17,10 +17,11 @@ next-requires c κs = ⊎-elim (λ w. omega arith) (λ w. omega arith) (c .if1 .
 returns : tie.Need-returns
 unfolding countedRun lineEnd
 returns c =
-    let entry = c .before .before .before .before .before .before .before .before .before .before .before .args in
-    let line = c .before .before .before .before .before .before .before .before .line in
-    let after : c .before .before .before .before .before .if1 .at ≡ min (entry .self .end + 1) (length (now (entry .text))) =
-    ⊎-elim (λ w. omega arith) (λ w. omega arith) (c .before .before .before .before .before .if1 .came) in (
+    let joined = c .before .before .before .before .before in
+    let line = joined .before .before .before .line in
+    let entry = joined .before .before .before .before .before .before .args in
+    let after : joined .if1 .at ≡ min (entry .self .end + 1) (length (now (entry .text))) =
+    ⊎-elim (λ w. omega arith) (λ w. omega arith) (joined .if1 .came) in (
       (record { ordered = omega arith; within = omega arith; lines = omega arith; tries = omega arith; agreements = omega arith }, omega arith),
       rw (c .before .before .before .before .next .ensures .1, after, c .before .before .before .agreed-by .ensures .0, c .before .tried-by .ensures .0, line .ensures),
     )
