@@ -13,12 +13,14 @@ use Rattle.octets.proofs.Numbers.{leAt-le}
 use Rattle.types.specs.Addresses.{nwk}
 use Rattle.octets.specs.Fields.{bit}
 use Rattle.commands.specs.Codes.{commandIdOf, commandIds, isSet, statusCode, associationStatusCode, updateIdentifierCode}
-use Rattle.commands.specs.Commands.{has, only, addressOf, capabilityOf, capabilityValues, routeRequestOf, routeRequestBy, routeReplyOf, networkStatusValues, leaveValues, routeRecordOf, rejoinRequestOf, rejoinRequestValues, rejoinResponseValues, linkStatusOf, linkStatusValues, networkReportOf, networkReportBy, networkUpdateValues, timeoutRequestValues, timeoutResponseValues, linkPowerDeltaOf, linkPowerDeltaBy, commissioningRequestOf, commissioningRequestBy, commissioningRequestValues, commissioningResponseValues}
+use Rattle.commands.specs.Commands.{has, only, addressOf, capabilityOf, capabilityValues, routeRequestBy, networkReportBy, linkPowerDeltaBy, commissioningRequestBy, commissioningRequestValues}
 use Rattle.commands.specs.Reading.{places, commandOf, readAs}
 use Rattle.commands.specs.Writing.{wireOf}
 use Rattle.commands.proofs.CodeLaws.{manyToOne-back, reportIdentifier-back, powerType-back, commissioningType-back}
 use Rattle.commands.proofs.Ranges.{InAddress, Ranged}
 use Rattle.commands.proofs.Commands.{back}
+use Rattle.commands.proofs.Layouts.{contents}
+use Rattle.command_records.proofs.Layouts.{layouts}
 use Rattle.types.specs.declared.OptionEui64.{OptionEui64}
 use Rattle.commands.specs.declared.{NwkCommand.NwkCommand, NwkCommandId.NwkCommandId, NwkCommandIdCode.NwkCommandIdCode, NwkCommandWithLists.NwkCommandWithLists, NwkCommandRead.NwkCommandRead, TypedBody.TypedBody}
 use Rattle.command_records.specs.Fields.{addressRecord, fieldBytes, fieldsRecord, recordValues, areFlags, flagsFit, saidBy, said}
@@ -68,11 +70,8 @@ presence-flag (OptionEui64.Present x) = refl
 
 -- the command that the fields of c say, whatever lists follow
 fields-back : (c : NwkCommand) (f : NwkCommandWithLists) (rest : List ℕ) → Ranged c → said (fieldsRecord c ++ rest) ≡ TypedBody.Typed c
-unfolding wireOf fieldsRecord places addressRecord fieldBytes said saidBy areFlags recordValues commandIdOf commandIds commandOf
-    capabilityOf capabilityValues routeRequestOf routeRequestBy routeReplyOf networkStatusValues leaveValues routeRecordOf
-    rejoinRequestOf rejoinRequestValues rejoinResponseValues linkStatusOf linkStatusValues networkReportOf networkReportBy
-    networkUpdateValues timeoutRequestValues timeoutResponseValues linkPowerDeltaOf linkPowerDeltaBy
-    commissioningRequestOf commissioningRequestBy commissioningRequestValues commissioningResponseValues le leAt
+unfolding layouts contents wireOf fieldsRecord places addressRecord fieldBytes said saidBy areFlags commandIdOf commandIds
+    capabilityOf capabilityValues le leAt
 fields-back (NwkCommand.RouteRequest c) f rest h =
     let r = fieldsRecord (NwkCommand.RouteRequest c) ++ rest in
     flagged NwkCommandId.RouteRequest r (presence-flag (c .«destination_eui64»))

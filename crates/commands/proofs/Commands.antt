@@ -9,12 +9,13 @@ use native.Mathlib.Nat.{not-suc-le-zero}
 use lib.ListN.{length, getD}
 use Rattle.octets.specs.Strings.{tab}
 use Rattle.octets.proofs.Strings.{length-tab, getD-tab, tab-ext}
-use Rattle.commands.specs.Format.{Field, Values, partSizes, keptCount, size, width, sizes, widths, plus, summed, values}
-use Rattle.commands.specs.Commands.{only, routeRequestFormat, routeRequestOf, routeRequestValues, routeReplyFormat, routeReplyOf, routeReplyValues, networkStatusFormat, networkStatusOf, networkStatusValues, leaveFormat, leaveOf, leaveValues, routeRecordFormat, routeRecordOf, routeRecordValues, rejoinRequestFormat, rejoinRequestOf, rejoinRequestValues, rejoinResponseFormat, rejoinResponseOf, rejoinResponseValues, linkStatusFormat, linkStatusOf, linkStatusValues, networkReportFormat, networkReportOf, networkReportValues, networkUpdateFormat, networkUpdateOf, networkUpdateValues, timeoutRequestFormat, timeoutRequestOf, timeoutRequestValues, timeoutResponseFormat, timeoutResponseOf, timeoutResponseValues, linkPowerDeltaFormat, linkPowerDeltaOf, linkPowerDeltaValues, commissioningRequestFormat, commissioningRequestOf, commissioningRequestValues, commissioningResponseFormat, commissioningResponseOf, commissioningResponseValues, routeRequestBy, networkStatusBy, rejoinResponseBy, networkReportBy, networkUpdateBy, timeoutRequestBy, timeoutResponseBy, linkPowerDeltaBy, commissioningRequestBy, commissioningResponseBy, capabilityField, capabilityOf, capabilityValues, has, addressEntry, addressOf, firsts, relayOf, relayEntry, linkOf, linkEntry, noLink, powerOf, powerEntry, noPower, entriesOf, noRelay, panIdOf, panIdEntry, noPanId}
+use Rattle.commands.specs.Format.{Field, Values, widths, summed, values}
+use Rattle.commands.specs.Commands.{only, routeRequestFormat, routeRequestValues, routeReplyFormat, routeReplyValues, networkStatusValues, leaveValues, routeRecordFormat, routeRecordValues, rejoinRequestValues, rejoinResponseValues, linkStatusFormat, linkStatusValues, networkReportFormat, networkReportValues, networkUpdateValues, timeoutRequestValues, timeoutResponseValues, linkPowerDeltaFormat, linkPowerDeltaValues, commissioningRequestValues, commissioningResponseValues, routeRequestBy, networkStatusBy, rejoinResponseBy, networkReportBy, networkUpdateBy, timeoutRequestBy, timeoutResponseBy, linkPowerDeltaBy, commissioningRequestBy, commissioningResponseBy, capabilityOf, capabilityValues, has, addressEntry, addressOf, firsts, relayOf, relayEntry, linkOf, linkEntry, noLink, powerOf, powerEntry, noPower, entriesOf, noRelay, panIdOf, panIdEntry, noPanId}
 use Rattle.commands.specs.Reading.{formatOf, commandOf, withLists, listOf, listed, clearedBy}
 use Rattle.commands.specs.Writing.{Wire, wireOf}
 use Rattle.commands.specs.Writing.Wire.{body, raw}
 use Rattle.commands.proofs.Format.{Fit, Shaped}
+use Rattle.commands.proofs.Layouts.{formats, meanings, codings, contents, shapes}
 use Rattle.commands.proofs.CodeLaws.{manyToOne-back, status-back, associationStatus-back, reportIdentifier-back, updateIdentifier-back, timeout-back, timeoutStatus-back, powerType-back, commissioningType-back, isSet-bit, deviceType-back, powerSource-back}
 use Rattle.types.specs.declared.{Nwk.Nwk, OptionEui64.OptionEui64, PanId.PanId}
 use Rattle.commands.specs.declared.{NwkCommandId.NwkCommandId, NwkCommand.NwkCommand, NwkCommandWithLists.NwkCommandWithLists, NwkCommandList.NwkCommandList, TypedBody.TypedBody, NwkRejoinCapabilityInformation.NwkRejoinCapabilityInformation, NwkRouteRequestCommand.NwkRouteRequestCommand, NwkRouteReplyCommand.NwkRouteReplyCommand, NwkLeaveCommand.NwkLeaveCommand, NwkLinkStatusCommand.NwkLinkStatusCommand, NwkNetworkReportCommand.NwkNetworkReportCommand, NwkLinkPowerDeltaCommand.NwkLinkPowerDeltaCommand, NwkLinkStatus.NwkLinkStatus, NwkPowerListEntry.NwkPowerListEntry, NwkNetworkStatusCommand.NwkNetworkStatusCommand, NwkRejoinRequestCommand.NwkRejoinRequestCommand, NwkRejoinResponseCommand.NwkRejoinResponseCommand, NwkNetworkUpdateCommand.NwkNetworkUpdateCommand, NwkEndDeviceTimeoutRequestCommand.NwkEndDeviceTimeoutRequestCommand, NwkNetworkCommissioningRequestCommand.NwkNetworkCommissioningRequestCommand, NwkNetworkCommissioningResponseCommand.NwkNetworkCommissioningResponseCommand, NwkEndDeviceTimeoutResponseCommand.NwkEndDeviceTimeoutResponseCommand}
@@ -130,8 +131,7 @@ plain-back {c} {id} f hs none uncounted whole means =
 
 routeRequest-back : (c : NwkRouteRequestCommand) (f : NwkCommandWithLists)
     → Back (NwkCommand.RouteRequest c) f NwkCommandId.RouteRequest (routeRequestValues c)
-unfolding formatOf commandOf listed clearedBy routeRequestFormat routeRequestOf routeRequestValues routeRequestBy
-    partSizes keptCount size width sizes widths summed plus
+unfolding formats meanings codings contents shapes listed clearedBy
 routeRequest-back c f =
     let a = c .«destination_eui64» in
     record {
@@ -150,8 +150,7 @@ routeRequest-back c f =
 
 routeReply-back : (c : NwkRouteReplyCommand) (f : NwkCommandWithLists)
     → Back (NwkCommand.RouteReply c) f NwkCommandId.RouteReply (routeReplyValues c)
-unfolding formatOf commandOf listed clearedBy routeReplyFormat routeReplyOf routeReplyValues
-    partSizes keptCount size width sizes widths summed plus
+unfolding formats meanings codings contents shapes listed clearedBy
 routeReply-back c f =
     let a = c .«originator_eui64» in
     let b = c .«responder_eui64» in
@@ -171,13 +170,13 @@ routeReply-back c f =
 
 networkStatus-back : (c : NwkNetworkStatusCommand) (f : NwkCommandWithLists)
     → Back (NwkCommand.NetworkStatus c) f NwkCommandId.NetworkStatus (networkStatusValues c)
-unfolding formatOf commandOf networkStatusFormat networkStatusOf networkStatusValues networkStatusBy keptCount width widths
+unfolding formats meanings codings contents shapes
 networkStatus-back c f =
     plain-back f _ refl refl refl
     (ap (λ k. networkStatusBy k (networkStatusValues c)) (status-back (c .«status_code»)))
 
 leave-back : (c : NwkLeaveCommand) (f : NwkCommandWithLists) → Back (NwkCommand.Leave c) f NwkCommandId.Leave (leaveValues c)
-unfolding formatOf commandOf leaveFormat leaveOf leaveValues keptCount width widths
+unfolding formats meanings codings contents shapes
 leave-back c f =
     plain-back f _ refl refl refl
     (λ i. TypedBody.Typed (NwkCommand.Leave (record {
@@ -188,8 +187,7 @@ leave-back c f =
 
 routeRecord-back : (f : NwkCommandWithLists)
     → Back NwkCommand.RouteRecord f NwkCommandId.RouteRecord (routeRecordValues (f .relays) (f .«relay_count»))
-unfolding formatOf commandOf listed clearedBy routeRecordFormat routeRecordOf routeRecordValues relayOf relayEntry
-    partSizes keptCount size width sizes widths summed plus
+unfolding formats meanings codings contents shapes listed clearedBy relayOf relayEntry
 routeRecord-back f =
     let xs = f .relays in
     let n = f .«relay_count» in
@@ -201,22 +199,21 @@ routeRecord-back f =
 
 rejoinRequest-back : (c : NwkRejoinRequestCommand) (f : NwkCommandWithLists)
     → Back (NwkCommand.RejoinRequest c) f NwkCommandId.RejoinRequest (rejoinRequestValues c)
-unfolding formatOf commandOf rejoinRequestFormat rejoinRequestOf rejoinRequestValues capabilityField capabilityValues keptCount width widths
+unfolding formats meanings codings contents shapes capabilityValues
 rejoinRequest-back c f =
     plain-back f _ refl refl refl
     (λ i. TypedBody.Typed (NwkCommand.RejoinRequest (record { «capability_information» = capability-back (c .«capability_information») i })))
 
 rejoinResponse-back : (c : NwkRejoinResponseCommand) (f : NwkCommandWithLists)
     → Back (NwkCommand.RejoinResponse c) f NwkCommandId.RejoinResponse (rejoinResponseValues c)
-unfolding formatOf commandOf rejoinResponseFormat rejoinResponseOf rejoinResponseValues rejoinResponseBy keptCount width widths
+unfolding formats meanings codings contents shapes
 rejoinResponse-back c f =
     plain-back f _ refl refl refl
     (ap (λ k. rejoinResponseBy k (rejoinResponseValues c)) (associationStatus-back (c .«rejoin_status»)))
 
 linkStatus-back : (c : NwkLinkStatusCommand) (f : NwkCommandWithLists)
     → Back (NwkCommand.LinkStatus c) f NwkCommandId.LinkStatus (linkStatusValues c (f .«link_statuses») (f .«link_statuses_len»))
-unfolding formatOf commandOf listed clearedBy linkStatusFormat linkStatusOf linkStatusValues linkOf linkEntry
-    partSizes keptCount size width sizes widths summed plus
+unfolding formats meanings codings contents shapes listed clearedBy linkOf linkEntry
 linkStatus-back c f =
     let xs = f .«link_statuses» in
     let n = f .«link_statuses_len» in
@@ -232,8 +229,7 @@ linkStatus-back c f =
 
 networkReport-back : (c : NwkNetworkReportCommand) (f : NwkCommandWithLists)
     → Back (NwkCommand.NetworkReport c) f NwkCommandId.NetworkReport (networkReportValues c (f .«pan_ids») (f .«report_information_count»))
-unfolding formatOf commandOf listed clearedBy networkReportFormat networkReportOf networkReportValues networkReportBy panIdOf panIdEntry
-    partSizes keptCount size width sizes widths summed plus
+unfolding formats meanings codings contents shapes listed clearedBy panIdOf panIdEntry
 networkReport-back c f =
     let xs = f .«pan_ids» in
     let n = f .«report_information_count» in
@@ -245,21 +241,21 @@ networkReport-back c f =
 
 networkUpdate-back : (c : NwkNetworkUpdateCommand) (f : NwkCommandWithLists)
     → Back (NwkCommand.NetworkUpdate c) f NwkCommandId.NetworkUpdate (networkUpdateValues c)
-unfolding formatOf commandOf networkUpdateFormat networkUpdateOf networkUpdateValues networkUpdateBy keptCount width widths
+unfolding formats meanings codings contents shapes
 networkUpdate-back c f =
     plain-back f _ refl refl refl
     (ap (λ k. networkUpdateBy k (networkUpdateValues c)) (updateIdentifier-back (c .«update_command_identifier»)))
 
 timeoutRequest-back : (c : NwkEndDeviceTimeoutRequestCommand) (f : NwkCommandWithLists)
     → Back (NwkCommand.EndDeviceTimeoutRequest c) f NwkCommandId.EndDeviceTimeoutRequest (timeoutRequestValues c)
-unfolding formatOf commandOf timeoutRequestFormat timeoutRequestOf timeoutRequestValues timeoutRequestBy keptCount width widths
+unfolding formats meanings codings contents shapes
 timeoutRequest-back c f =
     plain-back f _ refl refl refl
     (ap (λ k. timeoutRequestBy k (timeoutRequestValues c)) (timeout-back (c .«request_timeout_enum»)))
 
 timeoutResponse-back : (c : NwkEndDeviceTimeoutResponseCommand) (f : NwkCommandWithLists)
     → Back (NwkCommand.EndDeviceTimeoutResponse c) f NwkCommandId.EndDeviceTimeoutResponse (timeoutResponseValues c)
-unfolding formatOf commandOf timeoutResponseFormat timeoutResponseOf timeoutResponseValues timeoutResponseBy keptCount width widths
+unfolding formats meanings codings contents shapes
 timeoutResponse-back c f =
     plain-back f _ refl refl refl
     (ap (λ k. timeoutResponseBy k (timeoutResponseValues c)) (timeoutStatus-back (c .status))
@@ -272,8 +268,7 @@ timeoutResponse-back c f =
 
 linkPowerDelta-back : (c : NwkLinkPowerDeltaCommand) (f : NwkCommandWithLists)
     → Back (NwkCommand.LinkPowerDelta c) f NwkCommandId.LinkPowerDelta (linkPowerDeltaValues c (f .«power_list») (f .«list_count»))
-unfolding formatOf commandOf listed clearedBy linkPowerDeltaFormat linkPowerDeltaOf linkPowerDeltaValues linkPowerDeltaBy powerOf powerEntry
-    partSizes keptCount size width sizes widths summed plus
+unfolding formats meanings codings contents shapes listed clearedBy powerOf powerEntry
 linkPowerDelta-back c f =
     let xs = f .«power_list» in
     let n = f .«list_count» in
@@ -285,7 +280,7 @@ linkPowerDelta-back c f =
 
 commissioningRequest-back : (c : NwkNetworkCommissioningRequestCommand) (f : NwkCommandWithLists)
     → Back (NwkCommand.NetworkCommissioningRequest c) f NwkCommandId.NetworkCommissioningRequest (commissioningRequestValues c)
-unfolding formatOf commandOf commissioningRequestFormat commissioningRequestOf commissioningRequestValues commissioningRequestBy capabilityField capabilityValues keptCount width widths
+unfolding formats meanings codings contents shapes capabilityValues
 commissioningRequest-back c f =
     plain-back f _ refl refl refl
     (ap (λ k. commissioningRequestBy k (commissioningRequestValues c)) (commissioningType-back (c .«commissioning_type»))
@@ -296,7 +291,7 @@ commissioningRequest-back c f =
 
 commissioningResponse-back : (c : NwkNetworkCommissioningResponseCommand) (f : NwkCommandWithLists)
     → Back (NwkCommand.NetworkCommissioningResponse c) f NwkCommandId.NetworkCommissioningResponse (commissioningResponseValues c)
-unfolding formatOf commandOf commissioningResponseFormat commissioningResponseOf commissioningResponseValues commissioningResponseBy keptCount width widths
+unfolding formats meanings codings contents shapes
 commissioningResponse-back c f =
     plain-back f _ refl refl refl
     (ap (λ k. commissioningResponseBy k (commissioningResponseValues c)) (associationStatus-back (c .status)))

@@ -10,12 +10,13 @@ use borrow.Author.Tests.{ltb-false}
 use lib.Dec.{ltb}
 use lib.ListN.{length, length-append}
 use Rattle.octets.proofs.Conditions.{or-false}
-use Rattle.commands.specs.Format.{Values, size, sizes}
-use Rattle.commands.specs.Commands.{routeRequestFormat, routeRequestValues, routeReplyFormat, routeReplyValues, networkStatusFormat, networkStatusValues, leaveFormat, leaveValues, routeRecordFormat, routeRecordValues, rejoinRequestFormat, rejoinRequestValues, rejoinResponseFormat, rejoinResponseValues, linkStatusFormat, linkStatusValues, networkReportFormat, networkReportValues, networkUpdateFormat, networkUpdateValues, timeoutRequestFormat, timeoutRequestValues, timeoutResponseFormat, timeoutResponseValues, linkPowerDeltaFormat, linkPowerDeltaValues, commissioningRequestFormat, commissioningRequestValues, commissioningResponseFormat, commissioningResponseValues, capabilityField, addressEntry, relayEntries, linkEntries, panIdEntries, powerEntries}
+use Rattle.commands.specs.Format.{Values, sizes}
+use Rattle.commands.specs.Commands.{addressEntry, relayEntries, linkEntries, panIdEntries, powerEntries}
 use Rattle.commands.specs.Reading.{formatOf, listOf}
 use Rattle.commands.specs.Writing.{wireOf, wireBytes, overPlaces, misfits}
 use Rattle.commands.specs.Writing.Wire.{body}
 use Rattle.commands.proofs.Format.{length-bodyBytes}
+use Rattle.commands.proofs.Layouts.{formats, contents, shapes}
 use Rattle.types.specs.declared.OptionEui64.{OptionEui64}
 use Rattle.commands.specs.declared.{NwkCommandId.NwkCommandId, NwkCommand.NwkCommand, NwkCommandWithLists.NwkCommandWithLists, NwkCommandList.NwkCommandList}
 
@@ -53,12 +54,7 @@ short id v h = rw (length-wire id v) h
 
 pub typed-short : (c : NwkCommand) (f : NwkCommandWithLists) → Typed (listOf c) → misfits (listOf c) (wireOf c f) ≡ false
     → length (wireBytes (wireOf c f)) ≤ 108
-unfolding wireOf misfits overPlaces formatOf size sizes capabilityField
-    routeRequestFormat routeRequestValues routeReplyFormat routeReplyValues networkStatusFormat networkStatusValues leaveFormat leaveValues
-    routeRecordFormat routeRecordValues rejoinRequestFormat rejoinRequestValues rejoinResponseFormat rejoinResponseValues
-    linkStatusFormat linkStatusValues networkReportFormat networkReportValues networkUpdateFormat networkUpdateValues
-    timeoutRequestFormat timeoutRequestValues timeoutResponseFormat timeoutResponseValues linkPowerDeltaFormat linkPowerDeltaValues
-    commissioningRequestFormat commissioningRequestValues commissioningResponseFormat commissioningResponseValues
+unfolding formats contents shapes wireOf misfits overPlaces
 typed-short (NwkCommand.RouteRequest c) f t e = short NwkCommandId.RouteRequest _ (let p = address-few (c .«destination_eui64») in omega arith)
 typed-short (NwkCommand.RouteReply c) f t e =
     short NwkCommandId.RouteReply _ (let p = addresses-few (c .«originator_eui64») (c .«responder_eui64») in omega arith)

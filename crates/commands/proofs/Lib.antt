@@ -1,5 +1,6 @@
 -- The laws of the fifteen NWK commands.
 pub mod Format
+pub mod Layouts
 pub mod CodeLaws
 pub mod Commands
 pub mod Ranges

@@ -13,13 +13,14 @@ use lib.Dec.{ltb, lit<}
 use lib.ListN.{getD}
 use Rattle.octets.proofs.Strings.{length-tab}
 use Rattle.commands.specs.Codes.{deviceTypeBit, powerSourceBit}
-use Rattle.commands.specs.Format.{Field, Format, Values, width, keptCount, heldParts, heldField, heldFields, heldEntries, heldValues}
+use Rattle.commands.specs.Format.{Field, Format, Values, heldParts, heldField, heldFields, heldEntries, heldValues}
 use Rattle.commands.specs.Format.Field.{number}
-use Rattle.commands.specs.Commands.{routeRequestFormat, routeRequestValues, routeReplyFormat, routeReplyValues, networkStatusFormat, networkStatusValues, leaveFormat, leaveValues, routeRecordFormat, routeRecordValues, rejoinRequestFormat, rejoinRequestValues, rejoinResponseFormat, rejoinResponseValues, linkStatusFormat, linkStatusValues, networkReportFormat, networkReportValues, networkUpdateFormat, networkUpdateValues, timeoutRequestFormat, timeoutRequestValues, timeoutResponseFormat, timeoutResponseValues, linkPowerDeltaFormat, linkPowerDeltaValues, commissioningRequestFormat, commissioningRequestValues, commissioningResponseFormat, commissioningResponseValues, capabilityField, capabilityValues, has, addressEntry, entriesOf, relayEntry, noRelay, linkEntry, linkEntries, noLink, panIdEntry, noPanId, powerEntry, noPower}
+use Rattle.commands.specs.Commands.{routeRequestFormat, routeRequestValues, routeReplyFormat, routeReplyValues, networkStatusFormat, networkStatusValues, leaveFormat, leaveValues, routeRecordValues, rejoinRequestFormat, rejoinRequestValues, rejoinResponseFormat, rejoinResponseValues, linkStatusFormat, linkStatusValues, networkReportValues, networkUpdateFormat, networkUpdateValues, timeoutRequestFormat, timeoutRequestValues, timeoutResponseFormat, timeoutResponseValues, linkPowerDeltaValues, commissioningRequestFormat, commissioningRequestValues, commissioningResponseFormat, commissioningResponseValues, capabilityField, capabilityValues, has, addressEntry, entriesOf, relayEntry, noRelay, linkEntry, linkEntries, noLink, panIdEntry, noPanId, powerEntry, noPower}
 use Rattle.commands.specs.Reading.{formatOf, listOf}
 use Rattle.commands.specs.Writing.{wireOf, overPlaces, misfits, updateCount}
 use Rattle.commands.specs.Writing.Wire.{body}
 use Rattle.commands.proofs.Format.{both, held-all, _&_, HoldFields, fields-hold}
+use Rattle.commands.proofs.Layouts.{formats, contents, shapes}
 use Rattle.commands.proofs.CodeLaws.{manyToOne-lt, status-lt, associationStatus-lt, reportIdentifier-lt, updateIdentifier-lt, timeout-lt, timeoutStatus-lt, powerType-lt, commissioningType-lt, bit-lt}
 use Rattle.types.specs.declared.OptionEui64.{OptionEui64}
 use Rattle.commands.specs.declared.{NwkCommandId.NwkCommandId, NwkCommand.NwkCommand, NwkCommandWithLists.NwkCommandWithLists, NwkCommandList.NwkCommandList, NwkRejoinCapabilityInformation.NwkRejoinCapabilityInformation, NwkRouteRequestCommand.NwkRouteRequestCommand, NwkRouteReplyCommand.NwkRouteReplyCommand, NwkNetworkStatusCommand.NwkNetworkStatusCommand, NwkLeaveCommand.NwkLeaveCommand, NwkRejoinRequestCommand.NwkRejoinRequestCommand, NwkRejoinResponseCommand.NwkRejoinResponseCommand, NwkLinkStatusCommand.NwkLinkStatusCommand, NwkNetworkReportCommand.NwkNetworkReportCommand, NwkNetworkUpdateCommand.NwkNetworkUpdateCommand, NwkPowerListEntry.NwkPowerListEntry, NwkEndDeviceTimeoutRequestCommand.NwkEndDeviceTimeoutRequestCommand, NwkEndDeviceTimeoutResponseCommand.NwkEndDeviceTimeoutResponseCommand, NwkLinkPowerDeltaCommand.NwkLinkPowerDeltaCommand, NwkNetworkCommissioningRequestCommand.NwkNetworkCommissioningRequestCommand, NwkNetworkCommissioningResponseCommand.NwkNetworkCommissioningResponseCommand}
@@ -106,28 +107,28 @@ addresses-held OptionEui64.Absent b q r = address-held b r
 addresses-held (OptionEui64.Present x) b q r = both (fields-hold (number 8 ∷ []) (x ∷ []) (q, tt)) (address-held b r)
 
 routeRequest-held : (c : NwkRouteRequestCommand) → Ranged (NwkCommand.RouteRequest c) → heldValues routeRequestFormat (routeRequestValues c) ≡ true
-unfolding routeRequestFormat routeRequestValues width keptCount
+unfolding formats contents shapes
 routeRequest-held c r =
     all-held routeRequestFormat (routeRequestValues c) ((manyToOne-lt (c .«many_to_one») & has-lt (c .«destination_eui64») & tt) & r .0 & r .1 & r .2 & tt)
     (address-held (c .«destination_eui64») (r .3))
 
 routeReply-held : (c : NwkRouteReplyCommand) → Ranged (NwkCommand.RouteReply c) → heldValues routeReplyFormat (routeReplyValues c) ≡ true
-unfolding routeReplyFormat routeReplyValues width keptCount
+unfolding formats contents shapes
 routeReply-held c r =
     all-held routeReplyFormat (routeReplyValues c) ((has-lt (c .«originator_eui64») & has-lt (c .«responder_eui64») & tt) & r .0 & r .1 & r .2 & r .3 & tt)
     (addresses-held (c .«originator_eui64») (c .«responder_eui64») (r .4) (r .5))
 
 networkStatus-held : (c : NwkNetworkStatusCommand) → Ranged (NwkCommand.NetworkStatus c) → heldValues networkStatusFormat (networkStatusValues c) ≡ true
-unfolding networkStatusFormat networkStatusValues heldEntries width keptCount
+unfolding formats contents shapes heldEntries
 networkStatus-held c r = all-held networkStatusFormat (networkStatusValues c) (status-lt (c .«status_code») & r & tt) refl
 
 leave-held : (c : NwkLeaveCommand) → Ranged (NwkCommand.Leave c) → heldValues leaveFormat (leaveValues c) ≡ true
-unfolding leaveFormat leaveValues heldEntries width keptCount
+unfolding formats contents shapes heldEntries
 leave-held c r = all-held leaveFormat (leaveValues c) ((bit-lt (c .rejoin) & bit-lt (c .request) & bit-lt (c .«remove_children») & tt) & tt) refl
 
 -- a truth value for each part of the capability information
 capability-held : (c : NwkRejoinCapabilityInformation) (fs : List Field) (vs : List ℕ) → HoldFields fs vs → HoldFields (capabilityField ∷ fs) (capabilityValues c ++ vs)
-unfolding capabilityField capabilityValues width keptCount
+unfolding formats shapes capabilityValues
 capability-held c fs vs h =
     (bit-lt (c .«alternate_pan_coordinator») & bit-lt (deviceTypeBit (c .«device_type»)) & bit-lt (powerSourceBit (c .«power_source»))
     & bit-lt (c .«receiver_on_when_idle») & bit-lt (c .reserved1) & bit-lt (c .reserved2) & bit-lt (c .«security_capability»)
@@ -135,21 +136,21 @@ capability-held c fs vs h =
     & h
 
 rejoinRequest-held : (c : NwkRejoinRequestCommand) → Ranged (NwkCommand.RejoinRequest c) → heldValues rejoinRequestFormat (rejoinRequestValues c) ≡ true
-unfolding rejoinRequestFormat rejoinRequestValues capabilityValues heldEntries
+unfolding formats contents capabilityValues heldEntries
 rejoinRequest-held c r =
     all-held rejoinRequestFormat (rejoinRequestValues c) (capability-held (c .«capability_information») [] [] tt) refl
 
 rejoinResponse-held : (c : NwkRejoinResponseCommand) → Ranged (NwkCommand.RejoinResponse c) → heldValues rejoinResponseFormat (rejoinResponseValues c) ≡ true
-unfolding rejoinResponseFormat rejoinResponseValues heldEntries width keptCount
+unfolding formats contents shapes heldEntries
 rejoinResponse-held c r = all-held rejoinResponseFormat (rejoinResponseValues c) (r & associationStatus-lt (c .«rejoin_status») & tt) refl
 
 timeoutRequest-held : (c : NwkEndDeviceTimeoutRequestCommand) → Ranged (NwkCommand.EndDeviceTimeoutRequest c) → heldValues timeoutRequestFormat (timeoutRequestValues c) ≡ true
-unfolding timeoutRequestFormat timeoutRequestValues heldEntries width keptCount
+unfolding formats contents shapes heldEntries
 timeoutRequest-held c r = all-held timeoutRequestFormat (timeoutRequestValues c) (timeout-lt (c .«request_timeout_enum») & r & tt) refl
 
 timeoutResponse-held : (c : NwkEndDeviceTimeoutResponseCommand) → Ranged (NwkCommand.EndDeviceTimeoutResponse c)
     → heldValues timeoutResponseFormat (timeoutResponseValues c) ≡ true
-unfolding timeoutResponseFormat timeoutResponseValues heldEntries width keptCount
+unfolding formats contents shapes heldEntries
 timeoutResponse-held c r =
     let poll = bit-lt (c .«mac_data_poll_keepalive_supported») in
     let request = bit-lt (c .«end_device_timeout_request_keepalive_supported») in
@@ -158,14 +159,14 @@ timeoutResponse-held c r =
 
 commissioningRequest-held : (c : NwkNetworkCommissioningRequestCommand) → Ranged (NwkCommand.NetworkCommissioningRequest c)
     → heldValues commissioningRequestFormat (commissioningRequestValues c) ≡ true
-unfolding commissioningRequestFormat commissioningRequestValues capabilityValues heldEntries width
+unfolding formats contents shapes capabilityValues heldEntries
 commissioningRequest-held c r =
     all-held commissioningRequestFormat (commissioningRequestValues c)
     (commissioningType-lt (c .«commissioning_type») & capability-held (c .«capability_information») [] [] tt) refl
 
 commissioningResponse-held : (c : NwkNetworkCommissioningResponseCommand) → Ranged (NwkCommand.NetworkCommissioningResponse c)
     → heldValues commissioningResponseFormat (commissioningResponseValues c) ≡ true
-unfolding commissioningResponseFormat commissioningResponseValues heldEntries width keptCount
+unfolding formats contents shapes heldEntries
 commissioningResponse-held c r =
     all-held commissioningResponseFormat (commissioningResponseValues c) (r & associationStatus-lt (c .status) & tt) refl
 
@@ -204,7 +205,7 @@ not-below n m b small big =
 
 networkUpdate-misfits : (c : NwkNetworkUpdateCommand) → Ranged (NwkCommand.NetworkUpdate c)
     → not (heldValues networkUpdateFormat (networkUpdateValues c)) ≡ ltb 31 (c .«update_information_count»)
-unfolding networkUpdateFormat networkUpdateValues heldValues heldFields heldField heldParts heldEntries width keptCount
+unfolding formats contents shapes heldValues heldFields heldField heldParts heldEntries
 networkUpdate-misfits c r =
     let n = c .«update_information_count» in
     not-below n 31 _
@@ -213,7 +214,7 @@ networkUpdate-misfits c r =
 
 routeRecord-misfits : (f : NwkCommandWithLists) → RangedList NwkCommandList.Relays f
     → misfits NwkCommandList.Relays (body NwkCommandId.RouteRecord (routeRecordValues (f .relays) (f .«relay_count»))) ≡ ltb 53 (f .«relay_count»)
-unfolding overPlaces formatOf routeRecordFormat routeRecordValues relayEntry width
+unfolding formats contents shapes overPlaces relayEntry
 routeRecord-misfits f r =
     list-misfits NwkCommandList.Relays NwkCommandId.RouteRecord _ relayEntry noRelay (f .relays) 53 (f .«relay_count») (λ j. refl)
     (λ h. (omega arith & tt)) (λ k l. (r k l & tt))
@@ -221,7 +222,7 @@ routeRecord-misfits f r =
 networkReport-misfits : (c : NwkNetworkReportCommand) (f : NwkCommandWithLists) → c .epid < 2 ^ 64 → RangedList NwkCommandList.PanIds f
     → misfits NwkCommandList.PanIds (body NwkCommandId.NetworkReport (networkReportValues c (f .«pan_ids») (f .«report_information_count»)))
     ≡ ltb 31 (f .«report_information_count»)
-unfolding overPlaces formatOf networkReportFormat networkReportValues panIdEntry width keptCount
+unfolding formats contents shapes overPlaces panIdEntry
 networkReport-misfits c f e r =
     list-misfits NwkCommandList.PanIds NwkCommandId.NetworkReport _ panIdEntry noPanId (f .«pan_ids») 31 (f .«report_information_count») (λ j. refl)
     (λ h. ((omega arith & reportIdentifier-lt (c .«report_command_identifier») & tt) & e & tt)) (λ k l. (r k l & tt))
@@ -229,7 +230,7 @@ networkReport-misfits c f e r =
 linkPowerDelta-misfits : (c : NwkLinkPowerDeltaCommand) (f : NwkCommandWithLists) → RangedList NwkCommandList.PowerList f
     → misfits NwkCommandList.PowerList (body NwkCommandId.LinkPowerDelta (linkPowerDeltaValues c (f .«power_list») (f .«list_count»)))
     ≡ ltb 35 (f .«list_count»)
-unfolding overPlaces formatOf linkPowerDeltaFormat linkPowerDeltaValues powerEntry width keptCount
+unfolding formats contents shapes overPlaces powerEntry
 linkPowerDelta-misfits c f r =
     list-misfits NwkCommandList.PowerList NwkCommandId.LinkPowerDelta _ powerEntry noPower (f .«power_list») 35 (f .«list_count») (λ j. refl)
     (λ h. ((powerType-lt (c .«command_type») & tt) & omega arith & tt)) (λ k l. (r k l .0 & r k l .1 & tt))
@@ -237,7 +238,7 @@ linkPowerDelta-misfits c f r =
 linkStatus-misfits : (c : NwkLinkStatusCommand) (f : NwkCommandWithLists)
     → misfits NwkCommandList.LinkStatuses (body NwkCommandId.LinkStatus (linkStatusValues c (f .«link_statuses») (f .«link_statuses_len»)))
     ≡ (ltb 31 (f .«link_statuses_len») || not (linksHeld f))
-unfolding misfits overPlaces formatOf linkStatusValues linkStatusFormat heldValues width keptCount
+unfolding formats contents shapes misfits overPlaces heldValues
 linkStatus-misfits c f =
     let n = f .«link_statuses_len» in
     let v : Values = linkStatusValues c (f .«link_statuses») n in

@@ -13,13 +13,13 @@ use lib.Dec.{ltb, eqb}
 use lib.ListN.{length, getD, drop, replicate, length-map, List·getD-append, List·getD-eq-default}
 use lib.Seq.{take-all}
 use Rattle.octets.specs.Strings.{tab, Below}
-use Rattle.octets.specs.Fields.{fields}
 use Rattle.octets.proofs.Strings.{length-tab, getD-tab, tab-ext, tab-getD}
 use Rattle.octets.proofs.Numbers.{leAt-lt}
-use Rattle.commands.specs.Format.{Format, partSizes, kept, size, sizes, readField, readFields, summed, plus, headEnd, announced, bodyEnd, values, heldEntries, heldFields, heldValues}
-use Rattle.commands.specs.Commands.{routeRequestFormat, routeRequestOf, routeReplyFormat, routeReplyOf, networkStatusFormat, networkStatusOf, leaveFormat, leaveOf, routeRecordFormat, routeRecordOf, rejoinRequestFormat, rejoinRequestOf, rejoinResponseFormat, rejoinResponseOf, linkStatusFormat, linkStatusOf, networkReportFormat, networkReportOf, networkUpdateFormat, networkUpdateOf, timeoutRequestFormat, timeoutRequestOf, timeoutResponseFormat, timeoutResponseOf, linkPowerDeltaFormat, linkPowerDeltaOf, commissioningRequestFormat, commissioningRequestOf, commissioningResponseFormat, commissioningResponseOf, routeRequestBy, networkStatusBy, rejoinResponseBy, networkReportBy, networkUpdateBy, timeoutRequestBy, timeoutResponseBy, linkPowerDeltaBy, commissioningRequestBy, commissioningResponseBy, addressOf, firsts, relayOf, noRelay, linkOf, linkEntry, linkEntries, noLink, panIdOf, noPanId, powerOf, noPower}
+use Rattle.commands.specs.Format.{Format, size, sizes, readFields, headEnd, announced, bodyEnd, values, heldEntries, heldFields, heldValues}
+use Rattle.commands.specs.Commands.{routeRequestFormat, routeReplyFormat, routeReplyOf, networkStatusFormat, leaveFormat, leaveOf, routeRecordFormat, routeRecordOf, rejoinRequestFormat, rejoinRequestOf, rejoinResponseFormat, linkStatusFormat, linkStatusOf, networkReportFormat, networkUpdateFormat, timeoutRequestFormat, timeoutResponseFormat, linkPowerDeltaFormat, commissioningRequestFormat, commissioningResponseFormat, routeRequestBy, networkStatusBy, rejoinResponseBy, networkReportBy, networkUpdateBy, timeoutRequestBy, timeoutResponseBy, linkPowerDeltaBy, commissioningRequestBy, commissioningResponseBy, addressOf, firsts, relayOf, noRelay, linkOf, linkEntry, linkEntries, noLink, panIdOf, noPanId, powerOf, noPower}
 use Rattle.commands.specs.Reading.{formatOf, commandOf, places, withLists, listOf, listed, clearedBy}
 use Rattle.commands.proofs.Format.{values-held, length-entries, second}
+use Rattle.commands.proofs.Layouts.{formats, meanings, codings, readings}
 use Rattle.commands.proofs.Commands.{map-tab}
 use Rattle.commands.proofs.Ranges.{InAddress, InPower, Ranged, RangedList, tooBig}
 use Rattle.commands.proofs.Lengths.{Typed}
@@ -70,15 +70,15 @@ abbrev pub entryAt : Format → List ℕ → ℕ → List ℕ
 entryAt f s k = readFields (f .entry) s (headEnd f + k * sizes (f .entry))
 
 relay-read : (s : List ℕ) (k : ℕ) → Below 256 s → relayOf (entryAt routeRecordFormat s k) .0 < 65536
-unfolding relayOf routeRecordFormat readFields readField
+unfolding readings relayOf
 relay-read s k b = leAt-lt 2 s _ b
 
 panId-read : (s : List ℕ) (k : ℕ) → Below 256 s → panIdOf (entryAt networkReportFormat s k) .0 < 65536
-unfolding panIdOf networkReportFormat readFields readField
+unfolding readings panIdOf
 panId-read s k b = leAt-lt 2 s _ b
 
 power-read : (s : List ℕ) (k : ℕ) → Below 256 s → InPower (powerOf (entryAt linkPowerDeltaFormat s k))
-unfolding powerOf linkPowerDeltaFormat readFields readField
+unfolding readings powerOf
 power-read s k b = (leAt-lt 2 s _ b, b _)
 
 few-relays : (s : List ℕ) → bodyEnd routeRecordFormat s ≤ length s → length s ≤ 108 → announced routeRecordFormat s ≤ 53
@@ -91,16 +91,16 @@ few-powers s w h = omega arith
 
 -- a count of five bits
 few-links : (s : List ℕ) → announced linkStatusFormat s ≤ 31
-unfolding announced linkStatusFormat summed plus readFields readField kept partSizes fields
+unfolding readings
 few-links s = let h : getD s 1 0 % 32 < 32 = mod-lt (getD s 1 0) (omega arith) in omega arith
 
 few-panIds : (s : List ℕ) → announced networkReportFormat s ≤ 31
-unfolding announced networkReportFormat summed plus readFields readField kept partSizes fields
+unfolding readings
 few-panIds s = let h : getD s 1 0 % 32 < 32 = mod-lt (getD s 1 0) (omega arith) in omega arith
 
 -- a link status entry keeps its three values
 link-same : (s : List ℕ) (k : ℕ) → linkEntry (linkOf (entryAt linkStatusFormat s k)) ≡ entryAt linkStatusFormat s k
-unfolding linkEntry linkOf linkStatusFormat readFields readField kept partSizes fields
+unfolding readings linkEntry linkOf
 link-same s k = refl
 
 -- the list is within its places and its entries within their types
@@ -172,7 +172,7 @@ addressOf-in h x l = by-bit (eqb h 1)
 -- an address of an entry, or 0
 there : (f : Format) (s : List ℕ) (k : ℕ) → Below 256 s → f .entry ≡ routeRequestFormat .entry → k < announced f s
     → getD (getD (values f s .entries) k []) 0 0 < 2 ^ 64
-unfolding values routeRequestFormat readFields readField
+unfolding readings
 there f s k b e l = rw (getD-tab (entryAt f s) (announced f s) k [] l, e) (leAt-lt 8 s _ b)
 
 past : (f : Format) (s : List ℕ) (k : ℕ) → announced f s ≤ k → getD (getD (values f s .entries) k []) 0 0 < 2 ^ 64
@@ -188,82 +188,81 @@ Writable s (TypedBody.Typed c) = Typed (listOf c) × Ranged c × Good (listOf c)
 Writable s TypedBody.NotTyped = Unit {0}
 
 routeRequest-writable : (k : NwkRouteRequestManyToOneCode) (s : List ℕ) → Below 256 s → Writable s (routeRequestBy k (values routeRequestFormat s))
-unfolding routeRequestBy routeRequestFormat tooBig values readFields readField kept partSizes fields size
+unfolding meanings codings readings tooBig
 routeRequest-writable (NwkRouteRequestManyToOneCode.Known k) s b = (tt, (b 2, leAt-lt 2 s 3 b, b 5, addressOf-in _ _ (address-read routeRequestFormat s 0 b refl)), (tt, refl))
 routeRequest-writable NwkRouteRequestManyToOneCode.Unknown s b = tt
 
 routeReply-writable : (s : List ℕ) → Below 256 s → Writable s (routeReplyOf (values routeReplyFormat s))
-unfolding routeReplyOf routeReplyFormat routeRequestFormat tooBig values readFields readField kept partSizes fields size
+unfolding meanings codings readings tooBig
 routeReply-writable s b =
     let first = addressOf-in _ _ (address-read routeReplyFormat s 0 b refl) in
     (tt, (b 2, leAt-lt 2 s 3 b, leAt-lt 2 s 5 b, b 7, first, addressOf-in _ _ (address-read routeReplyFormat s _ b refl)), (tt, refl))
 
 networkStatus-writable : (k : NwkNetworkStatusCode) (s : List ℕ) → Below 256 s → Writable s (networkStatusBy k (values networkStatusFormat s))
-unfolding networkStatusBy networkStatusFormat tooBig values readFields readField kept partSizes fields size
+unfolding meanings codings readings tooBig
 networkStatus-writable (NwkNetworkStatusCode.Known k) s b = (tt, leAt-lt 2 s 2 b, (tt, refl))
 networkStatus-writable NwkNetworkStatusCode.Unknown s b = tt
 
 leave-writable : (s : List ℕ) → Below 256 s → Writable s (leaveOf (values leaveFormat s))
-unfolding leaveOf leaveFormat tooBig values readFields readField kept partSizes fields size
+unfolding meanings codings readings tooBig
 leave-writable s b = (tt, tt, (tt, refl))
 
 routeRecord-writable : (s : List ℕ) → Below 256 s → length s ≤ 108 → bodyEnd routeRecordFormat s ≤ length s → Writable s (routeRecordOf (values routeRecordFormat s))
-unfolding routeRecordOf routeRecordFormat values readFields readField kept partSizes fields size
+unfolding meanings codings readings
 routeRecord-writable s b short whole = (tt, tt, relays-read _ s b short whole)
 
 rejoinRequest-writable : (s : List ℕ) → Below 256 s → Writable s (rejoinRequestOf (values rejoinRequestFormat s))
-unfolding rejoinRequestOf rejoinRequestFormat tooBig values readFields readField kept partSizes fields size
+unfolding meanings codings readings tooBig
 rejoinRequest-writable s b = (tt, tt, (tt, refl))
 
 rejoinResponse-writable : (k : Nwk802154AssociationStatusCode) (s : List ℕ) → Below 256 s → Writable s (rejoinResponseBy k (values rejoinResponseFormat s))
-unfolding rejoinResponseBy rejoinResponseFormat tooBig values readFields readField kept partSizes fields size
+unfolding meanings codings readings tooBig
 rejoinResponse-writable (Nwk802154AssociationStatusCode.Known k) s b = (tt, leAt-lt 2 s 1 b, (tt, refl))
 rejoinResponse-writable Nwk802154AssociationStatusCode.Unknown s b = tt
 
 linkStatus-writable : (s : List ℕ) → Below 256 s → Writable s (linkStatusOf (values linkStatusFormat s))
-unfolding linkStatusOf linkStatusFormat values readFields readField kept partSizes fields size
+unfolding meanings codings readings
 linkStatus-writable s b = (tt, tt, links-read _ s b)
 
 networkReport-writable : (k : NwkReportCommandIdentifierCode) (s : List ℕ) → Below 256 s → Writable s (networkReportBy k (values networkReportFormat s))
-unfolding networkReportBy networkReportFormat values readFields readField kept partSizes fields size
+unfolding meanings codings readings
 networkReport-writable (NwkReportCommandIdentifierCode.Known k) s b = (tt, leAt-lt 8 s 2 b, panIds-read _ s b)
 networkReport-writable NwkReportCommandIdentifierCode.Unknown s b = tt
 
 networkUpdate-writable : (k : NwkUpdateCommandIdentifierCode) (s : List ℕ) → Below 256 s → Writable s (networkUpdateBy k (values networkUpdateFormat s))
-unfolding networkUpdateBy networkUpdateFormat tooBig values readFields readField kept partSizes fields size
+unfolding meanings codings readings tooBig
 networkUpdate-writable (NwkUpdateCommandIdentifierCode.Known k) s b = (tt, (leAt-lt 8 s 2 b, b 10, leAt-lt 2 s 11 b), (tt, le-ltb 31 (getD s 1 0 % 32) (small (mod-lt (getD s 1 0) (omega arith)))))
 networkUpdate-writable NwkUpdateCommandIdentifierCode.Unknown s b = tt
 
 timeoutRequest-writable : (k : EndDeviceTimeoutCode) (s : List ℕ) → Below 256 s → Writable s (timeoutRequestBy k (values timeoutRequestFormat s))
-unfolding timeoutRequestBy timeoutRequestFormat tooBig values readFields readField kept partSizes fields size
+unfolding meanings codings readings tooBig
 timeoutRequest-writable (EndDeviceTimeoutCode.Known k) s b = (tt, b 2, (tt, refl))
 timeoutRequest-writable EndDeviceTimeoutCode.Unknown s b = tt
 
 timeoutResponse-writable : (k : NwkEndDeviceTimeoutResponseStatusCode) (s : List ℕ) → Below 256 s → Writable s (timeoutResponseBy k (values timeoutResponseFormat s))
-unfolding timeoutResponseBy timeoutResponseFormat tooBig values readFields readField kept partSizes fields size
+unfolding meanings codings readings tooBig
 timeoutResponse-writable (NwkEndDeviceTimeoutResponseStatusCode.Known k) s b = (tt, tt, (tt, refl))
 timeoutResponse-writable NwkEndDeviceTimeoutResponseStatusCode.Unknown s b = tt
 
 linkPowerDelta-writable : (k : NwkLinkPowerDeltaTypeCode) (s : List ℕ) → Below 256 s → length s ≤ 108
     → bodyEnd linkPowerDeltaFormat s ≤ length s → Writable s (linkPowerDeltaBy k (values linkPowerDeltaFormat s))
-unfolding linkPowerDeltaBy linkPowerDeltaFormat values readFields readField kept partSizes fields size
+unfolding meanings codings readings
 linkPowerDelta-writable (NwkLinkPowerDeltaTypeCode.Known k) s b short whole = (tt, tt, powers-read _ s b short whole)
 linkPowerDelta-writable NwkLinkPowerDeltaTypeCode.Unknown s b short whole = tt
 
 commissioningRequest-writable : (k : NwkCommissioningTypeCode) (s : List ℕ) → Below 256 s → Writable s (commissioningRequestBy k (values commissioningRequestFormat s))
-unfolding commissioningRequestBy commissioningRequestFormat tooBig values readFields readField kept partSizes fields size
+unfolding meanings codings readings tooBig
 commissioningRequest-writable (NwkCommissioningTypeCode.Known k) s b = (tt, tt, (tt, refl))
 commissioningRequest-writable NwkCommissioningTypeCode.Unknown s b = tt
 
 commissioningResponse-writable : (k : Nwk802154AssociationStatusCode) (s : List ℕ) → Below 256 s → Writable s (commissioningResponseBy k (values commissioningResponseFormat s))
-unfolding commissioningResponseBy commissioningResponseFormat tooBig values readFields readField kept partSizes fields size
+unfolding meanings codings readings tooBig
 commissioningResponse-writable (Nwk802154AssociationStatusCode.Known k) s b = (tt, leAt-lt 2 s 1 b, (tt, refl))
 commissioningResponse-writable Nwk802154AssociationStatusCode.Unknown s b = tt
 
 pub writable : (id : NwkCommandId) (s : List ℕ) → Below 256 s → length s ≤ 108 → bodyEnd (formatOf id) s ≤ length s
     → Writable s (commandOf id (values (formatOf id) s))
-unfolding formatOf commandOf routeRequestOf networkStatusOf rejoinResponseOf networkReportOf networkUpdateOf timeoutRequestOf
-    timeoutResponseOf linkPowerDeltaOf commissioningRequestOf commissioningResponseOf
+unfolding formats meanings
 writable NwkCommandId.RouteRequest s b short whole = routeRequest-writable _ s b
 writable NwkCommandId.RouteReply s b short whole = routeReply-writable s b
 writable NwkCommandId.NetworkStatus s b short whole = networkStatus-writable _ s b
