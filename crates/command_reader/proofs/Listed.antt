@@ -7,10 +7,10 @@ use Prim.Native.Nat.{ℕ, _+_, _*_, _%_, _≤_}
 use borrow.Author.Tests.{ltb-false}
 use lib.ListN.{length, getD}
 use Rattle.octets.specs.Strings.{tab, Below}
-use Rattle.octets.specs.Numbers.{leAt}
+use Rattle.types.specs.declared.{Nwk.Nwk, PanId.PanId}
 use Rattle.octets.specs.Fields.{fields}
 use Rattle.commands.specs.Format.{Format, values, announced, summed, plus, headEnd, readFields, readField, kept, partSizes, size, sizes}
-use Rattle.commands.specs.Commands.{routeRecordFormat, linkStatusFormat, networkReportFormat, linkPowerDeltaFormat, relayOf, linkOf, noLink, powerOf, noPower}
+use Rattle.commands.specs.Commands.{routeRecordFormat, linkStatusFormat, networkReportFormat, linkPowerDeltaFormat, relayOf, relayAt, noRelay, linkOf, noLink, panIdOf, panIdAt, noPanId, powerOf, noPower}
 use Rattle.commands.specs.Reading.{places, withLists, listOf, listed, typed, unparsed}
 use Rattle.commands.proofs.Commands.{map-tab}
 use Rattle.commands.proofs.Ranges.{tooBig}
@@ -31,7 +31,7 @@ read-count of f s n e = e ∙ sym (length-read of f s)
 
 -- ---- a command with the count and the places of one list set
 
-unfoldable pub setRelays : NwkCommandWithLists → ℕ → List ℕ → NwkCommandWithLists
+unfoldable pub setRelays : NwkCommandWithLists → ℕ → List Nwk → NwkCommandWithLists
 setRelays b n xs = record {
   command = b .command;
   «relay_count» = n;
@@ -61,7 +61,7 @@ setLinks b n xs = record {
   unparsed = b .unparsed;
 }
 
-unfoldable pub setPanIds : NwkCommandWithLists → ℕ → List ℕ → NwkCommandWithLists
+unfoldable pub setPanIds : NwkCommandWithLists → ℕ → List PanId → NwkCommandWithLists
 setPanIds b n xs = record {
   command = b .command;
   «relay_count» = b .«relay_count»;
@@ -107,11 +107,11 @@ setBytes b n xs = record {
 }
 
 module _ (c : NwkCommand) (s : List ℕ) (b : NwkCommandWithLists) (blank : b ≡ withLists c [] [] [] [] []) where
-  pub relays-listed : (n : ℕ) (xs : List ℕ) → n ≡ getD s 1 0 → xs ≡ places 0 53 (tab (λ (k : ℕ). leAt 2 s (2 + k * 2)) n)
+  pub relays-listed : (n : ℕ) (xs : List Nwk) → n ≡ getD s 1 0 → xs ≡ places noRelay 53 (tab (λ (k : ℕ). relayAt s (2 + k * 2)) n)
       → setRelays b n xs ≡ listed NwkCommandList.Relays c s
   unfolding setRelays listed withLists relayOf routeRecordFormat announced summed plus readFields readField size sizes headEnd
   relays-listed n xs e q =
-      let es : xs ≡ places 0 53 (map relayOf (values routeRecordFormat s .entries)) = q ∙ ap (places 0 53) (read-list relayOf routeRecordFormat s n e) in
+      let es : xs ≡ places noRelay 53 (map relayOf (values routeRecordFormat s .entries)) = q ∙ ap (places noRelay 53) (read-list relayOf routeRecordFormat s n e) in
       let count : n ≡ length (map relayOf (values routeRecordFormat s .entries)) = read-count relayOf routeRecordFormat s n e in
       λ i. setRelays (blank i) (count i) (es i)
 
@@ -123,12 +123,12 @@ module _ (c : NwkCommand) (s : List ℕ) (b : NwkCommandWithLists) (blank : b �
       let count : n ≡ length (map linkOf (values linkStatusFormat s .entries)) = read-count linkOf linkStatusFormat s n e in
       λ i. setLinks (blank i) (count i) (es i)
 
-  pub panIds-listed : (n : ℕ) (xs : List ℕ) → n ≡ getD s 1 0 % 32 → xs ≡ places 0 31 (tab (λ (k : ℕ). leAt 2 s (10 + k * 2)) n)
+  pub panIds-listed : (n : ℕ) (xs : List PanId) → n ≡ getD s 1 0 % 32 → xs ≡ places noPanId 31 (tab (λ (k : ℕ). panIdAt s (10 + k * 2)) n)
       → setPanIds b n xs ≡ listed NwkCommandList.PanIds c s
-  unfolding setPanIds listed withLists relayOf networkReportFormat kept partSizes fields announced summed plus readFields readField size sizes headEnd
+  unfolding setPanIds listed withLists panIdOf networkReportFormat kept partSizes fields announced summed plus readFields readField size sizes headEnd
   panIds-listed n xs e q =
-      let es : xs ≡ places 0 31 (map relayOf (values networkReportFormat s .entries)) = q ∙ ap (places 0 31) (read-list relayOf networkReportFormat s n e) in
-      let count : n ≡ length (map relayOf (values networkReportFormat s .entries)) = read-count relayOf networkReportFormat s n e in
+      let es : xs ≡ places noPanId 31 (map panIdOf (values networkReportFormat s .entries)) = q ∙ ap (places noPanId 31) (read-list panIdOf networkReportFormat s n e) in
+      let count : n ≡ length (map panIdOf (values networkReportFormat s .entries)) = read-count panIdOf networkReportFormat s n e in
       λ i. setPanIds (blank i) (count i) (es i)
 
   pub powers-listed : (n : ℕ) (xs : List NwkPowerListEntry) → n ≡ getD s 2 0 → xs ≡ places noPower 35 (tab (λ (k : ℕ). powerAt s (3 + k * 3)) n)

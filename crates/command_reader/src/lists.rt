@@ -12,6 +12,7 @@ use commands::NwkCommand;
 use commands::NwkCommandWithLists;
 use commands::NwkLinkStatus;
 use commands::lists;
+use types::Nwk;
 
 // The link status entry at place i: an address, and the two costs in one byte.
 fn link_at(s: &[u8], i: usize) -> NwkLinkStatus
@@ -20,7 +21,7 @@ fn link_at(s: &[u8], i: usize) -> NwkLinkStatus
 {
     let costs = octets::byte_at(s, i + 2);
     NwkLinkStatus {
-        address: octets::read_u16(s, i),
+        address: Nwk(octets::read_u16(s, i)),
         incoming_cost: costs % 8,
         outgoing_cost: costs / 8 / 2 % 8,
     }

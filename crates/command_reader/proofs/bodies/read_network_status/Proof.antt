@@ -5,6 +5,7 @@ use Prim.Native.Nat.{ℕ}
 use Rattle.command_reader.proofs.bodies.read_network_status.Statement.{statement}
 use Rattle.command_reader.proofs.bodies.read_network_status.Tie as tie
 use Rattle.octets.specs.Fields.{fields}
+use Rattle.types.specs.Addresses.{nwk}
 use Rattle.commands.specs.Format.{bodyEnd, headEnd, announced, summed, plus, readFields, readField, kept, partSizes, size, sizes, values}
 use Rattle.commands.specs.Reading.{formatOf, commandOf}
 use Rattle.commands.specs.declared.{NwkCommandId.NwkCommandId, NwkCommand.NwkCommand, TypedBody.TypedBody}
@@ -27,7 +28,7 @@ returns-3 : tie.Need-returns-3
 unfolding values bodyEnd headEnd announced summed plus readFields readField kept partSizes size sizes fields formatOf commandOf networkStatusFormat networkStatusOf networkStatusBy
 returns-3 c =
     let s = c .before .before .before .before .before .before .before .before .args .s .now in
-    (λ i. TypedBody.Typed (NwkCommand.NetworkStatus (record { «status_code» = c .before .before .status-code .given .0 .0; «network_address» = c .read-u16 .ensures i })))
+    (λ i. TypedBody.Typed (NwkCommand.NetworkStatus (record { «status_code» = c .before .before .status-code .given .0 .0; «network_address» = nwk (c .read-u16 .ensures i) })))
     ∙ ap (λ k. networkStatusBy k (values networkStatusFormat s)) (sym (c .before .before .status-code .given .1) ∙ c .before .before .before .before .try-from .ensures ∙ ap (λ (x : ℕ). statusOf (x)) (c .before .before .before .before .before .byte-at .ensures))
     ∙ whole NwkCommandId.NetworkStatus s (c .before .before .before .before .before .before .if1 .left)
 

@@ -5,6 +5,7 @@ use Prim.Native.Nat.{ℕ, _/_, _%_}
 use Rattle.command_reader.proofs.bodies.read_network_update.Statement.{statement}
 use Rattle.command_reader.proofs.bodies.read_network_update.Tie as tie
 use Rattle.octets.specs.Fields.{fields}
+use Rattle.types.specs.Addresses.{panId}
 use Rattle.commands.specs.Format.{bodyEnd, headEnd, announced, summed, plus, readFields, readField, kept, partSizes, size, sizes, values}
 use Rattle.commands.specs.Reading.{formatOf, commandOf}
 use Rattle.commands.specs.declared.{NwkCommandId.NwkCommandId, NwkCommand.NwkCommand, TypedBody.TypedBody}
@@ -27,7 +28,7 @@ returns-3 : tie.Need-returns-3
 unfolding values bodyEnd headEnd announced summed plus readFields readField kept partSizes size sizes fields formatOf commandOf networkUpdateFormat networkUpdateOf networkUpdateBy
 returns-3 c =
     let s = c .before .before .before .before .before .before .before .before .before .before .args .s .now in
-    (λ i. TypedBody.Typed (NwkCommand.NetworkUpdate (record { «update_information_count» = c .before .before .before .before .before .before .before .byte-at .ensures i % 32; «update_command_identifier» = c .before .before .before .before .update-command-identifier .given .0 .0; epid = c .before .before .read-u64 .ensures i; «update_id» = c .before .byte-at2 .ensures i; «new_pan_id» = c .read-u16 .ensures i })))
+    (λ i. TypedBody.Typed (NwkCommand.NetworkUpdate (record { «update_information_count» = c .before .before .before .before .before .before .before .byte-at .ensures i % 32; «update_command_identifier» = c .before .before .before .before .update-command-identifier .given .0 .0; epid = c .before .before .read-u64 .ensures i; «update_id» = c .before .byte-at2 .ensures i; «new_pan_id» = panId (c .read-u16 .ensures i) })))
     ∙ ap (λ k. networkUpdateBy k (values networkUpdateFormat s)) (sym (c .before .before .before .before .update-command-identifier .given .1) ∙ c .before .before .before .before .before .before .try-from .ensures ∙ ap (λ (x : ℕ). updateIdentifierOf (x / 32 % 8)) (c .before .before .before .before .before .before .before .byte-at .ensures))
     ∙ whole NwkCommandId.NetworkUpdate s (c .before .before .before .before .before .before .before .before .if1 .left)
 

@@ -10,6 +10,7 @@ use Rattle.command_reader.proofs.bodies.read_route_reply.Statement.{sta
 use Rattle.command_reader.proofs.bodies.read_route_reply.Tie as tie
 use Rattle.octets.specs.Fields.{fields}
 use Rattle.octets.specs.Numbers.{leAt}
+use Rattle.types.specs.Addresses.{nwk}
 use Rattle.commands.specs.Format.{bodyEnd, headEnd, announced, summed, plus, readFields, readField, kept, partSizes, size, sizes, values}
 use Rattle.commands.specs.Reading.{formatOf, commandOf}
 use Rattle.commands.specs.declared.{NwkCommandId.NwkCommandId, NwkCommand.NwkCommand, TypedBody.TypedBody}
@@ -33,8 +34,8 @@ returns-2 c =
     let h = rw (c .before .before .before .before .before .before .before .byte-at .ensures) at (c .before .before .before .before .before .before .if1 .left) in
     (λ i. TypedBody.Typed (NwkCommand.RouteReply (record {
       «route_request_identifier» = c .before .before .before .byte-at2 .ensures i;
-      «originator_nwk» = c .before .before .read-u16 .ensures i;
-      «responder_nwk» = c .before .read-u162 .ensures i;
+      «originator_nwk» = nwk (c .before .before .read-u16 .ensures i);
+      «responder_nwk» = nwk (c .before .read-u162 .ensures i);
       «path_cost» = c .byte-at3 .ensures i;
       «originator_eui64» = (c .before .before .before .before .before .address-at .ensures ∙ ap (λ (x : ℕ). addressOf (x / 16 % 2) (leAt 8 s 8)) (c .before .before .before .before .before .before .before .byte-at .ensures) ∙ sym (first-entry s 8 a b ha hb)) i;
       «responder_eui64» = (c .before .before .before .before .address-at2 .ensures ∙ ap (λ (x : ℕ). addressOf (x / 16 / 2 % 2) (leAt 8 s (8 + x / 16 % 2 * 8))) (c .before .before .before .before .before .before .before .byte-at .ensures) ∙ sym (second-entry s 8 a b ha hb)) i;

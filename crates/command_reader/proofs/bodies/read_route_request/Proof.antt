@@ -10,6 +10,7 @@ use Rattle.command_reader.proofs.bodies.read_route_request.Statement.{s
 use Rattle.command_reader.proofs.bodies.read_route_request.Tie as tie
 use Rattle.octets.specs.Fields.{fields}
 use Rattle.octets.specs.Numbers.{leAt}
+use Rattle.types.specs.Addresses.{nwk}
 use Rattle.commands.specs.Format.{bodyEnd, headEnd, announced, summed, plus, readFields, readField, kept, partSizes, size, sizes, values}
 use Rattle.commands.specs.Reading.{formatOf, commandOf}
 use Rattle.commands.specs.declared.{NwkCommandId.NwkCommandId, NwkCommand.NwkCommand, TypedBody.TypedBody}
@@ -38,7 +39,7 @@ returns-3 c =
     (λ i. TypedBody.Typed (NwkCommand.RouteRequest (record {
       «many_to_one» = c .before .before .before .before .before .many-to-one .given .0 .0;
       «route_request_identifier» = c .before .before .byte-at2 .ensures i;
-      «destination_address» = c .before .read-u16 .ensures i;
+      «destination_address» = nwk (c .before .read-u16 .ensures i);
       «path_cost» = c .byte-at3 .ensures i;
       «destination_eui64» = (c .before .before .before .address-at .ensures ∙ ap (λ (x : ℕ). addressOf (x / 8 / 4 % 2) (leAt 8 s 6)) (c .before .before .before .before .before .before .before .before .before .byte-at .ensures) ∙ sym (only-entry s 6 has (mod-lt (getD s 1 0 / 8 / 4) (omega arith)))) i;
     })))
