@@ -3,3 +3,4 @@ mod Ready
 mod LinkCosts
 mod WriteRefusal
 mod ReplyBytes
+mod Layouts

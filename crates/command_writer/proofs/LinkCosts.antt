@@ -11,16 +11,16 @@ use Rattle.commands.specs.Format.{width, keptCount, heldParts, heldField, heldF
 use Rattle.commands.specs.Commands.{linkStatusFormat, linkEntry}
 use Rattle.commands.specs.declared.NwkLinkStatus.{NwkLinkStatus}
 
-pub cost-over : (l : NwkLinkStatus) → l .address < 65536 → 7 < l .«incoming_cost» → true ≡ not (heldFields (linkStatusFormat .entry) (linkEntry l))
+pub cost-over : (l : NwkLinkStatus) → l .address .0 < 65536 → 7 < l .«incoming_cost» → true ≡ not (heldFields (linkStatusFormat .entry) (linkEntry l))
 unfolding linkStatusFormat linkEntry heldFields heldField heldParts width keptCount
-cost-over l a h = rw (lt-ltb (l .address) 65536 a, le-ltb (l .«incoming_cost») 8 h) refl
+cost-over l a h = rw (lt-ltb (l .address .0) 65536 a, le-ltb (l .«incoming_cost») 8 h) refl
 
-pub cost-test : (l : NwkLinkStatus) → l .address < 65536 → l .«incoming_cost» ≤ 7 → ltb 7 (l .«outgoing_cost») ≡ not (heldFields (linkStatusFormat .entry) (linkEntry l))
+pub cost-test : (l : NwkLinkStatus) → l .address .0 < 65536 → l .«incoming_cost» ≤ 7 → ltb 7 (l .«outgoing_cost») ≡ not (heldFields (linkStatusFormat .entry) (linkEntry l))
 unfolding linkStatusFormat linkEntry heldFields heldField heldParts width keptCount
 cost-test l a h =
     elim (decLt 7 (l .«outgoing_cost»)) [
       | yes g ↦
-          rw (lt-ltb (l .address) 65536 a, lt-ltb (l .«incoming_cost») 8 (omega arith), lt-ltb 7 (l .«outgoing_cost») g, le-ltb (l .«outgoing_cost») 8 g) refl
+          rw (lt-ltb (l .address .0) 65536 a, lt-ltb (l .«incoming_cost») 8 (omega arith), lt-ltb 7 (l .«outgoing_cost») g, le-ltb (l .«outgoing_cost») 8 g) refl
       | no g ↦
-          rw (lt-ltb (l .address) 65536 a, lt-ltb (l .«incoming_cost») 8 (omega arith), le-ltb 7 (l .«outgoing_cost») (omega arith), lt-ltb (l .«outgoing_cost») 8 (omega arith)) refl
+          rw (lt-ltb (l .address .0) 65536 a, lt-ltb (l .«incoming_cost») 8 (omega arith), le-ltb 7 (l .«outgoing_cost») (omega arith), lt-ltb (l .«outgoing_cost») 8 (omega arith)) refl
     ]

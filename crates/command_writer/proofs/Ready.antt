@@ -13,7 +13,7 @@ use Rattle.octets.specs.Strings.{tab}
 use Rattle.octets.proofs.Strings.{length-tab}
 use Rattle.octets.proofs.Conditions.{or-false}
 use Rattle.commands.specs.Format.{size, sizes, width, keptCount, heldParts, heldField, heldFields, heldEntries}
-use Rattle.commands.specs.Commands.{routeRequestFormat, routeRequestValues, routeReplyFormat, routeReplyValues, networkStatusFormat, networkStatusValues, leaveFormat, leaveValues, routeRecordFormat, routeRecordValues, rejoinRequestFormat, rejoinRequestValues, rejoinResponseFormat, rejoinResponseValues, linkStatusFormat, linkStatusValues, networkReportFormat, networkReportValues, networkUpdateFormat, networkUpdateValues, timeoutRequestFormat, timeoutRequestValues, timeoutResponseFormat, timeoutResponseValues, linkPowerDeltaFormat, linkPowerDeltaValues, commissioningRequestFormat, commissioningRequestValues, commissioningResponseFormat, commissioningResponseValues, capabilityField, has, addressEntry, firsts, relayEntry, linkEntry, noLink, powerEntry, noPower}
+use Rattle.commands.specs.Commands.{routeRequestFormat, routeRequestValues, routeReplyFormat, routeReplyValues, networkStatusFormat, networkStatusValues, leaveFormat, leaveValues, routeRecordFormat, routeRecordValues, rejoinRequestFormat, rejoinRequestValues, rejoinResponseFormat, rejoinResponseValues, linkStatusFormat, linkStatusValues, networkReportFormat, networkReportValues, networkUpdateFormat, networkUpdateValues, timeoutRequestFormat, timeoutRequestValues, timeoutResponseFormat, timeoutResponseValues, linkPowerDeltaFormat, linkPowerDeltaValues, commissioningRequestFormat, commissioningRequestValues, commissioningResponseFormat, commissioningResponseValues, capabilityField, has, addressEntry, firsts, relayEntry, noRelay, panIdEntry, noPanId, linkEntry, noLink, powerEntry, noPower}
 use Rattle.commands.specs.Reading.{formatOf, listOf}
 use Rattle.commands.specs.Writing.{wireOf, wire, wireBytes, commandBytes, writeRefusal}
 use Rattle.commands.proofs.Format.{first, second, held-not}
@@ -59,11 +59,11 @@ length-by (NwkCommand.RouteRequest c) f = length-wire NwkCommandId.RouteRequest 
 length-by (NwkCommand.RouteReply c) f = length-wire NwkCommandId.RouteReply _ ∙ (let h = addresses-length (c .«originator_eui64») (c .«responder_eui64») in omega arith)
 length-by (NwkCommand.NetworkStatus c) f = length-wire NwkCommandId.NetworkStatus _ ∙ (refl)
 length-by (NwkCommand.Leave c) f = length-wire NwkCommandId.Leave _ ∙ (refl)
-length-by NwkCommand.RouteRecord f = length-wire NwkCommandId.RouteRecord _ ∙ (let h = length-tab (λ (k : ℕ). relayEntry (getD (f .relays) k 0)) (f .«relay_count») in omega arith)
+length-by NwkCommand.RouteRecord f = length-wire NwkCommandId.RouteRecord _ ∙ (let h = length-tab (λ (k : ℕ). relayEntry (getD (f .relays) k noRelay)) (f .«relay_count») in omega arith)
 length-by (NwkCommand.RejoinRequest c) f = length-wire NwkCommandId.RejoinRequest _ ∙ (refl)
 length-by (NwkCommand.RejoinResponse c) f = length-wire NwkCommandId.RejoinResponse _ ∙ (refl)
 length-by (NwkCommand.LinkStatus c) f = length-wire NwkCommandId.LinkStatus _ ∙ (let h = length-tab (λ (k : ℕ). linkEntry (getD (f .«link_statuses») k noLink)) (f .«link_statuses_len») in omega arith)
-length-by (NwkCommand.NetworkReport c) f = length-wire NwkCommandId.NetworkReport _ ∙ (let h = length-tab (λ (k : ℕ). relayEntry (getD (f .«pan_ids») k 0)) (f .«report_information_count») in omega arith)
+length-by (NwkCommand.NetworkReport c) f = length-wire NwkCommandId.NetworkReport _ ∙ (let h = length-tab (λ (k : ℕ). panIdEntry (getD (f .«pan_ids») k noPanId)) (f .«report_information_count») in omega arith)
 length-by (NwkCommand.NetworkUpdate c) f = length-wire NwkCommandId.NetworkUpdate _ ∙ (refl)
 length-by (NwkCommand.EndDeviceTimeoutRequest c) f = length-wire NwkCommandId.EndDeviceTimeoutRequest _ ∙ (refl)
 length-by (NwkCommand.EndDeviceTimeoutResponse c) f = length-wire NwkCommandId.EndDeviceTimeoutResponse _ ∙ (refl)
@@ -77,7 +77,7 @@ length-by NwkCommand.Unparsed f = length-tab (λ (k : ℕ). getD (f .unparsed) k
 costs-low : (l : NwkLinkStatus) → heldFields (linkStatusFormat .entry) (linkEntry l) ≡ true → (l .«incoming_cost» ≤ 7) × (l .«outgoing_cost» ≤ 7)
 unfolding linkStatusFormat linkEntry heldFields heldField heldParts width keptCount
 costs-low l e =
-    let low = first (ltb (l .«incoming_cost») 8 && (ltb (l .«outgoing_cost») 8 && true)) true (second (ltb (l .address) 65536) _ e) in
+    let low = first (ltb (l .«incoming_cost») 8 && (ltb (l .«outgoing_cost») 8 && true)) true (second (ltb (l .address .0) 65536) _ e) in
     let p = ltb-true (l .«incoming_cost») 8 (first (ltb (l .«incoming_cost») 8) _ low) in
     let q = ltb-true (l .«outgoing_cost») 8 (first (ltb (l .«outgoing_cost») 8) true (second (ltb (l .«incoming_cost») 8) _ low)) in
     (omega arith, omega arith)

@@ -29,10 +29,10 @@ length-address OptionEui64.Absent = refl
 length-address (OptionEui64.Present x) = refl
 
 -- where the responder's address starts
-pub responder-at : (c : NwkRouteReplyCommand) (n : ℕ) → n ≡ has (c .«originator_eui64») → 8 + n * 8 ≡ 0 + length (replyHead c ++ addressBytes (c .«originator_eui64»))
+pub responder-at : (c : NwkRouteReplyCommand) (n : ℕ) → n ≡ has (c .«originator_eui64») → 8 + n * 8 ≡ length (replyHead c ++ addressBytes (c .«originator_eui64»))
 responder-at c n e =
     (λ i. 8 + e i * 8)
-    ∙ sym (native.Mathlib.Nat.zero-add _ ∙ length-append (replyHead c) (addressBytes (c .«originator_eui64»)) ∙ rw (length-head c, length-address (c .«originator_eui64»)) refl)
+    ∙ sym (length-append (replyHead c) (addressBytes (c .«originator_eui64»)) ∙ rw (length-head c, length-address (c .«originator_eui64»)) refl)
 
 pub reply-bytes : (c : NwkRouteReplyCommand)
     → (replyHead c ++ addressBytes (c .«originator_eui64»)) ++ addressBytes (c .«responder_eui64») ≡ wireBytes (body NwkCommandId.RouteReply (routeReplyValues c))

@@ -33,6 +33,5 @@ returns-3 c =
 
 pub from-bytes-spec : {M : Type 1} → statement M
 from-bytes-spec =
-    tie.close
-    (tie.spec (λ c κs. search needs) returns (λ c κs. search needs) (λ c. search needs) (λ c. search needs)
+    tie.close (tie.spec (λ c κs. search needs) returns (λ c κs. search needs) (λ c. search needs) (λ c. search needs)
     (λ c κs. search needs) returns-2 with-list-requires returns-3)

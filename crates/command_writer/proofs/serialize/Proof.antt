@@ -30,6 +30,5 @@ returns-2 c =
 
 pub serialize-spec : {M : Type 1} → statement M
 serialize-spec =
-    tie.close
-    (tie.spec (λ c κs. search needs) returns write-command-requires (λ c κs. search needs) (λ c. search needs)
+    tie.close (tie.spec (λ c κs. search needs) returns write-command-requires (λ c κs. search needs) (λ c. search needs)
     returns-2)

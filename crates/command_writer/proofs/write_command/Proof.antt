@@ -60,9 +60,7 @@ returns-16 c =
 pub write-command-spec : {M : Type 1} → statement M
 unfolding wireOf
 write-command-spec =
-    tie.close
-    (tie.spec
-    (λ c. search needs)
+    tie.close (tie.spec (λ c. search needs)
     (λ c κs. ready-in (c .before .before .before .before .before) _ (c .before .before .command .given .1))
     (λ c. search needs)
     (λ c κs. ready-in (c .before .before .before .before .before) _ (c .before .before .command2 .given .1))

@@ -26,5 +26,4 @@ returns-2 c =
 
 pub read-link-status-spec : {M : Type 1} → statement M
 read-link-status-spec =
-    tie.close
-    (tie.spec (λ c κs. search needs) (λ c. search needs) (λ c. search needs) (λ c. search needs) returns returns-2)
+    tie.close (tie.spec (λ c κs. search needs) (λ c. search needs) (λ c. search needs) (λ c. search needs) returns returns-2)

@@ -22,5 +22,4 @@ returns-2 c =
 
 pub read-route-record-spec : {M : Type 1} → statement M
 read-route-record-spec =
-    tie.close
-    (tie.spec (λ c κs. search needs) (λ c. search needs) (λ c. search needs) (λ c. search needs) returns returns-2)
+    tie.close (tie.spec (λ c κs. search needs) (λ c. search needs) (λ c. search needs) (λ c. search needs) returns returns-2)

@@ -21,6 +21,5 @@ returns-2 c =
 
 pub try-parse-spec : {M : Type 1} → statement M
 try-parse-spec =
-    tie.close
-    (tie.spec (λ c κs. search needs) (λ c κs. search needs) (λ c. search needs) (λ c. search needs) returns
+    tie.close (tie.spec (λ c κs. search needs) (λ c κs. search needs) (λ c. search needs) (λ c. search needs) returns
     (λ c κs. search needs) returns-2)

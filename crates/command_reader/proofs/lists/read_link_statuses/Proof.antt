@@ -24,6 +24,5 @@ returns c = fill-all (c .before .loop .inv) (c .loop-test .left)
 
 pub read-link-statuses-spec : {M : Type 1} → statement M
 read-link-statuses-spec =
-    tie.close
-    (tie.spec Inv-loop μ-loop loop-holds (λ c. omega arith) (λ c. omega arith) (λ c κs. omega arith)
+    tie.close (tie.spec Inv-loop μ-loop loop-holds (λ c. omega arith) (λ c. omega arith) (λ c κs. omega arith)
     (λ c. omega arith) (λ c. omega arith) (λ c. omega arith) (λ c. omega arith) loop-again returns)

@@ -16,5 +16,4 @@ returns c =
 
 pub with-link-statuses-spec : {M : Type 1} → statement M
 with-link-statuses-spec =
-    tie.close
-    (tie.spec (λ c κs. search needs) (λ c κs. search needs) (λ c. search needs) (λ c κs. search needs) returns)
+    tie.close (tie.spec (λ c κs. search needs) (λ c κs. search needs) (λ c. search needs) (λ c κs. search needs) returns)

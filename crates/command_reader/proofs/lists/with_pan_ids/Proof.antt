@@ -15,6 +15,4 @@ returns c =
     (ap (λ (x : ℕ). x % 32) (c .before .byte-at .ensures)) (c .read-pan-ids .ensures)
 
 pub with-pan-ids-spec : {M : Type 1} → statement M
-with-pan-ids-spec =
-    tie.close
-    (tie.spec (λ c κs. search needs) (λ c κs. search needs) (λ c. search needs) (λ c κs. search needs) returns)
+with-pan-ids-spec = tie.close (tie.spec (λ c κs. search needs) (λ c κs. search needs) (λ c. search needs) (λ c κs. search needs) returns)

@@ -13,6 +13,4 @@ returns c =
     (c .before .byte-at .ensures) (c .read-power-list .ensures)
 
 pub with-power-list-spec : {M : Type 1} → statement M
-with-power-list-spec =
-    tie.close
-    (tie.spec (λ c κs. search needs) (λ c κs. search needs) (λ c. search needs) (λ c κs. search needs) returns)
+with-power-list-spec = tie.close (tie.spec (λ c κs. search needs) (λ c κs. search needs) (λ c. search needs) (λ c κs. search needs) returns)

@@ -13,6 +13,4 @@ returns c =
     (c .before .byte-at .ensures) (c .read-relays .ensures)
 
 pub with-relays-spec : {M : Type 1} → statement M
-with-relays-spec =
-    tie.close
-    (tie.spec (λ c κs. search needs) (λ c κs. search needs) (λ c. search needs) (λ c κs. search needs) returns)
+with-relays-spec = tie.close (tie.spec (λ c κs. search needs) (λ c κs. search needs) (λ c. search needs) (λ c κs. search needs) returns)

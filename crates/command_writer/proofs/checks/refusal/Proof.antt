@@ -22,5 +22,4 @@ returns-4 c =
     not-refused _ _ (d .before .before .field-refusal .ensures) (d .before .if1 .left) (d .length-of .ensures) (c .before .if2 .left) (c .if3 .left)
 
 pub refusal-spec : {M : Type 1} → statement M
-refusal-spec =
-    tie.close (tie.spec (λ c κs. search needs) returns (λ c κs. search needs) returns-2 returns-3 returns-4)
+refusal-spec = tie.close (tie.spec (λ c κs. search needs) returns (λ c κs. search needs) returns-2 returns-3 returns-4)

@@ -11,6 +11,5 @@ returns c = omega arith
 
 pub link-status-options-spec : {M : Type 1} → statement M
 link-status-options-spec =
-    tie.close
-    (tie.spec (λ c κs. search needs) (λ c. search needs) (λ c. search needs) (λ c κs. search needs)
+    tie.close (tie.spec (λ c κs. search needs) (λ c. search needs) (λ c. search needs) (λ c κs. search needs)
     (λ c. search needs) (λ c. search needs) returns)

@@ -31,6 +31,4 @@ returns-2 c =
     ∙ ap (λ (m : OptionEui64). over (a .out .now) (a .i) (writeEntries (routeRequestFormat .entry) (addressEntry m))) (sym (c .before .before .before .before .before .address .given .1))
 
 pub put-address-spec : {M : Type 1} → statement M
-put-address-spec =
-    tie.close
-    (tie.spec (λ c. search needs) (λ c. search needs) put-u64-requires returns (λ c. search needs) returns-2)
+put-address-spec = tie.close (tie.spec (λ c. search needs) (λ c. search needs) put-u64-requires returns (λ c. search needs) returns-2)
