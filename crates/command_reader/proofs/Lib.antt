@@ -1,4 +1,4 @@
 -- The loops that fill a list, and a command with its list.
 mod Listed
-mod Whole
+mod Layouts
 mod Entries

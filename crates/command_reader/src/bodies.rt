@@ -70,10 +70,10 @@ fn read_route_reply(s: &[u8]) -> TypedBody
     let options = octets::byte_at(s, 1);
     let has_originator_eui64 = options / 16 % 2;
     let has_responder_eui64 = options / 16 / 2 % 2;
-    let responder_at = 8 + (has_originator_eui64 as usize) * 8;
-    if s.len() < responder_at + (has_responder_eui64 as usize) * 8 {
+    if s.len() < 8 + ((has_originator_eui64 + has_responder_eui64) as usize) * 8 {
         return TypedBody::NotTyped;
     }
+    let responder_at = 8 + (has_originator_eui64 as usize) * 8;
     let originator_eui64 = address_at(s, 8, has_originator_eui64);
     let responder_eui64 = address_at(s, responder_at, has_responder_eui64);
     TypedBody::Typed(NwkCommand::RouteReply(NwkRouteReplyCommand {
