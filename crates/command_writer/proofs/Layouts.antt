@@ -16,15 +16,20 @@ use Rattle.commands.specs.Writing.{wireBytes}
 use Rattle.command_writer.specs.Options.{capabilityByte}
 use Rattle.command_writer.specs.Reply.{replyHead}
 
--- what the bytes of a command compute by: to unfold this name is to unfold all of these
+-- what the values of a command and their format compute by: to unfold this name is to unfold all of these
+unfoldable pub formats : Unit {0}
+unfolding formatOf routeRequestFormat routeRequestValues routeReplyFormat routeReplyValues networkStatusFormat
+    networkStatusValues leaveFormat leaveValues routeRecordFormat routeRecordValues rejoinRequestFormat rejoinRequestValues
+    rejoinResponseFormat rejoinResponseValues linkStatusFormat linkStatusValues networkReportFormat networkReportValues
+    networkUpdateFormat networkUpdateValues timeoutRequestFormat timeoutRequestValues timeoutResponseFormat
+    timeoutResponseValues linkPowerDeltaFormat linkPowerDeltaValues commissioningRequestFormat commissioningRequestValues
+    commissioningResponseFormat commissioningResponseValues capabilityField
+formats = tt
+
+-- what the bytes of a command compute by
 unfoldable pub layouts : Unit {0}
-unfolding wireBytes bodyBytes formatOf partSizes keptCount filled width writeField writeFields le routeRequestFormat
-    routeRequestValues routeReplyFormat routeReplyValues networkStatusFormat networkStatusValues leaveFormat leaveValues
-    routeRecordFormat routeRecordValues rejoinRequestFormat rejoinRequestValues rejoinResponseFormat rejoinResponseValues
-    linkStatusFormat linkStatusValues linkEntry networkReportFormat networkReportValues networkUpdateFormat networkUpdateValues
-    timeoutRequestFormat timeoutRequestValues timeoutResponseFormat timeoutResponseValues linkPowerDeltaFormat
-    linkPowerDeltaValues commissioningRequestFormat commissioningRequestValues commissioningResponseFormat
-    commissioningResponseValues capabilityField capabilityValues capabilityByte replyHead writeEntries
+unfolding formats wireBytes bodyBytes partSizes keptCount filled width writeField writeFields writeEntries le linkEntry
+    capabilityValues capabilityByte replyHead
 layouts = tt
 
 -- the bytes ys right behind xs, which stand at the front
