@@ -38,6 +38,5 @@ returns-2 c =
 
 pub links-misfit-spec : {M : Type 1} → statement M
 links-misfit-spec =
-    tie.close (tie.spec Inv-loop μ-loop (λ c. (omega arith, λ j l. absurd (omega arith)))
-    (λ c. omega arith) (λ c. omega arith) (λ c κs. tt)
-    returns (λ c. omega arith) (λ c. omega arith) loop-again returns-2)
+    tie.close (tie.spec Inv-loop μ-loop (λ c. (omega arith, λ j l. absurd (omega arith))) (λ c. omega arith)
+    (λ c. omega arith) (λ c κs. tt) returns (λ c. omega arith) (λ c. omega arith) loop-again returns-2)
