@@ -86,7 +86,10 @@ fn link_misfits(link: NwkLinkStatus) -> bool
     if link.incoming_cost > 7 {
         return true;
     }
-    link.outgoing_cost > 7
+    if link.outgoing_cost > 7 {
+        return true;
+    }
+    false
 }
 
 // One of the first n link status entries has a cost over 7.
