@@ -1,5 +1,4 @@
 -- What is refused, what a command that is not refused gives its writer, and the bytes put one behind the other.
 mod Ready
-mod WriteRefusal
 mod ReplyBytes
 mod Layouts
