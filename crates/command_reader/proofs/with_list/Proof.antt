@@ -24,22 +24,14 @@ within l k e =
     let written = typed-writable s (λ i. l .before .shared-slice-known .given i .fits) (start .pre .1) in
     subst (λ (j : NwkCommandList). Good j (start .args .command) s) (sym (l .list .ensures) ∙ e) (subst (Writable s) (start .pre .0) written .2) .1
 
-with-relays-requires : tie.Need-with-relays-requires
-unfolding layouts withLists listed tooBig
-with-relays-requires c κs =
-    ltb-false 53 _ (rw (map-tab, length-tab) at (within (c .before .before) NwkCommandList.Relays (c .enum-told2 .given .1)))
-
-with-power-list-requires : tie.Need-with-power-list-requires
-unfolding layouts withLists listed tooBig
-with-power-list-requires c κs =
-    ltb-false 35 _ (rw (map-tab, length-tab) at (within (c .before .before) NwkCommandList.PowerList (c .enum-told5 .given .1)))
-
 pub with-list-spec : {M : Type 1} → statement M
-unfolding listed
+unfolding listed layouts withLists tooBig
 with-list-spec =
     tie.close (tie.spec (λ c κs. search needs) (λ c. search needs) (λ c κs. search needs) (λ c. search needs)
-    with-relays-requires (λ c. search needs) (λ c κs. search needs) (λ c. search needs) (λ c κs. search needs)
-    (λ c. search needs) with-power-list-requires (λ c. search needs) (λ c κs. search needs)
+    (λ c κs. ltb-false 53 _ (rw (map-tab, length-tab) at (within (c .before .before) NwkCommandList.Relays (c .enum-told2 .given .1))))
+    (λ c. search needs) (λ c κs. search needs) (λ c. search needs) (λ c κs. search needs) (λ c. search needs)
+    (λ c κs. ltb-false 35 _ (rw (map-tab, length-tab) at (within (c .before .before) NwkCommandList.PowerList (c .enum-told5 .given .1))))
+    (λ c. search needs) (λ c κs. search needs)
     (λ c. rw (← c .before .before .before .list .ensures, c .before .enum-told .given .1) (c .blank .ensures))
     (λ c. rw (← c .before .before .before .list .ensures, c .before .enum-told2 .given .1) (c .with-relays .ensures))
     (λ c. rw (← c .before .before .before .list .ensures, c .before .enum-told3 .given .1) (c .with-link-statuses .ensures))

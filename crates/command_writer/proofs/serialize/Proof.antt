@@ -24,4 +24,6 @@ returns-2 c =
     rw (← test .before .refusal .ensures, test .if1 .left, c .length-of .ensures) (refl, put .write-command .ensures)
 
 pub serialize-spec : {M : Type 1} → statement M
-serialize-spec = tie.close (tie.spec (λ c κs. search needs) returns write-command-requires (λ c κs. search needs) (λ c. search needs) returns-2)
+serialize-spec =
+    tie.close (tie.spec (λ c κs. search needs) returns write-command-requires (λ c κs. search needs) (λ c. search needs)
+    returns-2)

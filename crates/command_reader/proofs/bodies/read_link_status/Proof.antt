@@ -5,14 +5,9 @@ use Rattle.command_reader.proofs.bodies.read_link_status.Statement.{sta
 use Rattle.command_reader.proofs.bodies.read_link_status.Tie as tie
 use Rattle.command_reader.proofs.Layouts.{layouts}
 
-returns : tie.Need-returns
-unfolding layouts
-returns c = rw (← c .before .byte-at .ensures, lt-leb _ _ (c .if1 .taken))
-
-returns-2 : tie.Need-returns-2
-unfolding layouts
-returns-2 c = rw (← c .before .byte-at .ensures, le-leb _ _ (c .if1 .left))
-
 pub read-link-status-spec : {M : Type 1} → statement M
+unfolding layouts
 read-link-status-spec =
-    tie.close (tie.spec (λ c κs. search needs) (λ c. search needs) (λ c. search needs) (λ c. search needs) returns returns-2)
+    tie.close (tie.spec (λ c κs. search needs) (λ c. search needs) (λ c. search needs) (λ c. search needs)
+    (λ c. rw (← c .before .byte-at .ensures, lt-leb _ _ (c .if1 .taken)))
+    (λ c. rw (← c .before .byte-at .ensures, le-leb _ _ (c .if1 .left))))

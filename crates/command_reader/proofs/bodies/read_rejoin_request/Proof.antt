@@ -5,13 +5,8 @@ use Rattle.command_reader.proofs.bodies.read_rejoin_request.Statement.{
 use Rattle.command_reader.proofs.bodies.read_rejoin_request.Tie as tie
 use Rattle.command_reader.proofs.Layouts.{layouts}
 
-returns : tie.Need-returns
-unfolding layouts
-returns c = rw (lt-leb _ _ (c .if1 .taken))
-
-returns-2 : tie.Need-returns-2
-unfolding layouts
-returns-2 c = rw (le-leb _ _ (c .before .before .if1 .left), c .capability-of .ensures, c .before .byte-at .ensures)
-
 pub read-rejoin-request-spec : {M : Type 1} → statement M
-read-rejoin-request-spec = tie.close (tie.spec returns (λ c κs. search needs) (λ c κs. search needs) returns-2)
+unfolding layouts
+read-rejoin-request-spec =
+    tie.close (tie.spec (λ c. rw (lt-leb _ _ (c .if1 .taken))) (λ c κs. search needs) (λ c κs. search needs)
+    (λ c. rw (le-leb _ _ (c .before .before .if1 .left), c .capability-of .ensures, c .before .byte-at .ensures)))

@@ -4,9 +4,8 @@ use Rattle.command_reader.proofs.lists.keep_unparsed.Statement.{stateme
 use Rattle.command_reader.proofs.lists.keep_unparsed.Tie as tie
 use Rattle.commands.specs.Reading.{withLists, unparsed}
 
-returns : tie.Need-returns
-unfolding withLists unparsed
-returns c = rw (c .before .blank .ensures, c .read-bytes .ensures)
-
 pub keep-unparsed-spec : {M : Type 1} → statement M
-keep-unparsed-spec = tie.close (tie.spec (λ c κs. search needs) (λ c κs. search needs) (λ c. search needs) returns)
+unfolding withLists unparsed
+keep-unparsed-spec =
+    tie.close (tie.spec (λ c κs. search needs) (λ c κs. search needs) (λ c. search needs)
+    (λ c. rw (c .before .blank .ensures, c .read-bytes .ensures)))

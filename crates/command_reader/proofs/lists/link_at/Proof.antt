@@ -5,9 +5,8 @@ use Rattle.command_reader.proofs.lists.link_at.Tie as tie
 use Rattle.commands.specs.Commands.{linkOf, linkAt}
 use Rattle.command_reader.proofs.Layouts.{layouts}
 
-returns : tie.Need-returns
-unfolding layouts linkOf linkAt
-returns c = rw (c .read-u16 .ensures, c .before .byte-at .ensures)
-
 pub link-at-spec : {M : Type 1} → statement M
-link-at-spec = tie.close (tie.spec (λ c. search needs) (λ c κs. search needs) (λ c κs. search needs) returns)
+unfolding layouts linkOf linkAt
+link-at-spec =
+    tie.close (tie.spec (λ c. search needs) (λ c κs. search needs) (λ c κs. search needs)
+    (λ c. rw (c .read-u16 .ensures, c .before .byte-at .ensures)))

@@ -9,12 +9,8 @@ use Rattle.commands.specs.Reading.{withLists, listed}
 use Rattle.commands.proofs.Commands.{map-tab}
 use Rattle.command_reader.proofs.Layouts.{layouts}
 
-returns : tie.Need-returns
-unfolding layouts withLists listed linkAt
-returns c =
-    let byte = c .before in
-    rw (byte .before .blank .ensures, map-tab, length-tab, c .read-link-statuses .ensures, byte .byte-at .ensures)
-
 pub with-link-statuses-spec : {M : Type 1} → statement M
+unfolding layouts withLists listed linkAt
 with-link-statuses-spec =
-    tie.close (tie.spec (λ c κs. search needs) (λ c κs. search needs) (λ c. search needs) (λ c κs. search needs) returns)
+    tie.close (tie.spec (λ c κs. search needs) (λ c κs. search needs) (λ c. search needs) (λ c κs. search needs)
+    (λ c. let byte = c .before in rw (byte .before .blank .ensures, map-tab, length-tab, c .read-link-statuses .ensures, byte .byte-at .ensures)))

@@ -7,4 +7,6 @@ use Rattle.commands.specs.Writing.{fieldRefusal}
 
 pub field-refusal-spec : {M : Type 1} → statement M
 unfolding fieldRefusal firstOf
-field-refusal-spec = tie.close (tie.spec (λ c κs. search needs) (λ c. rw (← c .before .misfits .ensures, c .if1 .taken)) (λ c. rw (← c .before .misfits .ensures, c .if1 .left)))
+field-refusal-spec =
+    tie.close (tie.spec (λ c κs. search needs) (λ c. rw (← c .before .misfits .ensures, c .if1 .taken))
+    (λ c. rw (← c .before .misfits .ensures, c .if1 .left)))

@@ -4,11 +4,8 @@ use Rattle.command_writer.proofs.encoders.write_leave.Statement.{statem
 use Rattle.command_writer.proofs.encoders.write_leave.Tie as tie
 use Rattle.command_writer.proofs.Layouts.{layouts}
 
-returns : tie.Need-returns
-unfolding layouts
-returns c =
-    let put = c .before .before in
-    rw (← put .before .before .leave-options .ensures) (put .put-two .ensures)
-
 pub write-leave-spec : {M : Type 1} → statement M
-write-leave-spec = tie.close (tie.spec (λ c κs. search needs) (λ c κs. search needs) (λ c. search needs) returns)
+unfolding layouts
+write-leave-spec =
+    tie.close (tie.spec (λ c κs. search needs) (λ c κs. search needs) (λ c. search needs)
+    (λ c. let put = c .before .before in rw (← put .before .before .leave-options .ensures) (put .put-two .ensures)))

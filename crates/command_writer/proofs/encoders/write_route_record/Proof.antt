@@ -5,11 +5,8 @@ use Rattle.command_writer.proofs.encoders.write_route_record.Statement.
 use Rattle.command_writer.proofs.encoders.write_route_record.Tie as tie
 use Rattle.command_writer.proofs.Layouts.{layouts, behind}
 
-returns : tie.Need-returns
-unfolding layouts
-returns c =
-    let list = c .before .before in
-    behind _ _ _ _ (list .before .before .before .before .put-two .ensures) (list .put-relays .ensures) refl
-
 pub write-route-record-spec : {M : Type 1} → statement M
-write-route-record-spec = tie.close (tie.spec (λ c κs. search needs) (λ c κs. search needs) (λ c. search needs) returns)
+unfolding layouts
+write-route-record-spec =
+    tie.close (tie.spec (λ c κs. search needs) (λ c κs. search needs) (λ c. search needs)
+    (λ c. let list = c .before .before in behind _ _ _ _ (list .before .before .before .before .put-two .ensures) (list .put-relays .ensures) refl))

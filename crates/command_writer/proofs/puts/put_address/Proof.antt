@@ -6,20 +6,10 @@ use Rattle.command_writer.proofs.puts.put_address.Tie as tie
 use Rattle.octets.proofs.Strings.{over-nil}
 use Rattle.command_writer.proofs.Layouts.{layouts}
 
-put-u64-requires : tie.Need-put-u64-requires
-put-u64-requires c κs =
-    let told = c .before .before in
-    rw (told .address .given .1) at (told .before .before .before .pre)
-
-returns : tie.Need-returns
-unfolding layouts
-returns c = rw (c .enum-told .given .1) (sym (over-nil _ _))
-
-returns-2 : tie.Need-returns-2
-unfolding layouts
-returns-2 c =
-    let put = c .before .before in
-    rw (put .before .before .before .address .given .1) (put .put-u64 .ensures)
-
 pub put-address-spec : {M : Type 1} → statement M
-put-address-spec = tie.close (tie.spec (λ c. search needs) (λ c. search needs) put-u64-requires returns (λ c. search needs) returns-2)
+unfolding layouts
+put-address-spec =
+    tie.close (tie.spec (λ c. search needs) (λ c. search needs)
+    (λ c κs. let told = c .before .before in rw (told .address .given .1) at (told .before .before .before .pre))
+    (λ c. rw (c .enum-told .given .1) (sym (over-nil _ _))) (λ c. search needs)
+    (λ c. let put = c .before .before in rw (put .before .before .before .address .given .1) (put .put-u64 .ensures)))
