@@ -8,9 +8,7 @@ ghost use Rattle.commands.specs.Commands.{addressOf};
 ghost use Rattle.commands.specs.Reading.{bodyOf, typed};
 ghost use Rattle.command_reader.specs.Capability.{capabilityOfByte};
 use commands::*;
-use types::Nwk;
-use types::OptionEui64;
-use types::PanId;
+use types::*;
 
 // The IEEE address at place i, if its presence bit is set.
 fn address_at(s: &[u8], i: usize, has: u8) -> OptionEui64

@@ -7,11 +7,7 @@ ghost use Rattle.octets.specs.Strings.{tab};
 ghost use Rattle.commands.specs.Commands.{linkAt, noLink};
 ghost use Rattle.commands.specs.Reading.{listed, places, unparsed};
 ghost use Rattle.commands.specs.declared.NwkCommandList.{NwkCommandList};
-use commands::NO_LINK;
-use commands::NwkCommand;
-use commands::NwkCommandWithLists;
-use commands::NwkLinkStatus;
-use commands::lists;
+use commands::*;
 use types::Nwk;
 
 // The link status entry at place i: an address, and the two costs in one byte.

@@ -13,8 +13,7 @@ ghost use Rattle.command_writer.specs.Reply.{replyHead};
 use crate::options;
 use crate::puts;
 use commands::*;
-use types::Nwk;
-use types::PanId;
+use types::*;
 
 // 3.4.1 Route Request.
 pub fn write_route_request(c: NwkRouteRequestCommand, out: &mut [u8])

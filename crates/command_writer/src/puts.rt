@@ -8,8 +8,7 @@ ghost use Rattle.octets.specs.Strings.{over};
 ghost use Rattle.commands.specs.Format.{writeFields, writeEntries};
 ghost use Rattle.commands.specs.Commands.{routeRequestFormat, linkStatusFormat, has, addressEntry, linkEntry, linkEntries};
 ghost use Rattle.command_writer.specs.Options.{LowCosts};
-use commands::NwkLinkStatus;
-use commands::lists;
+use commands::*;
 use types::OptionEui64;
 
 // The identifier and the byte behind it.
