@@ -5,10 +5,6 @@ use Rattle.command_reader.proofs.bodies.read_link_power_delta.Statement
 use Rattle.command_reader.proofs.bodies.read_link_power_delta.Tie as tie
 use Rattle.command_reader.proofs.Layouts.{layouts}
 
-returns : tie.Need-returns
-unfolding layouts
-returns c = rw (← c .before .byte-at .ensures, lt-leb _ _ (c .if1 .taken))
-
 returns-2 : tie.Need-returns-2
 unfolding layouts
 returns-2 c =
@@ -26,6 +22,8 @@ returns-3 c =
     (rw (← code .try-from .ensures, c .before .command-type .given .1))
 
 pub read-link-power-delta-spec : {M : Type 1} → statement M
+unfolding layouts
 read-link-power-delta-spec =
-    tie.close (tie.spec (λ c κs. search needs) (λ c. search needs) (λ c. search needs) (λ c. search needs) returns
+    tie.close (tie.spec (λ c κs. search needs) (λ c. search needs) (λ c. search needs) (λ c. search needs)
+    (λ c. rw (← c .before .byte-at .ensures, lt-leb _ _ (c .if1 .taken)))
     (λ c κs. search needs) (λ c κs. search needs) (λ c. search needs) (λ c. search needs) returns-2 returns-3)

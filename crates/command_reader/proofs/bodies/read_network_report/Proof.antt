@@ -5,27 +5,19 @@ use Rattle.command_reader.proofs.bodies.read_network_report.Statement.{
 use Rattle.command_reader.proofs.bodies.read_network_report.Tie as tie
 use Rattle.command_reader.proofs.Layouts.{layouts}
 
-returns : tie.Need-returns
-unfolding layouts
-returns c = rw (← c .before .byte-at .ensures, lt-leb _ _ (c .if1 .taken))
-
-returns-2 : tie.Need-returns-2
-unfolding layouts
-returns-2 c =
-    let code = c .before .before in
-    let test = code .before in
-    rw (← test .before .byte-at .ensures, le-leb _ _ (test .if1 .left), ← code .try-from .ensures, c .enum-told .given .1)
-
 returns-3 : tie.Need-returns-3
 unfolding layouts
 returns-3 c =
     let known = c .before .before in
     let code = known .before .before in
-    let test = code .before in
-    rw (← test .before .byte-at .ensures, le-leb _ _ (test .if1 .left), ← code .try-from .ensures)
-    (rw (known .report-command-identifier .given .1, c .read-u64 .ensures))
+    rw (← code .before .before .byte-at .ensures, le-leb _ _ (code .before .if1 .left), ← code .try-from .ensures, known .report-command-identifier .given .1)
+    (rw (c .read-u64 .ensures))
 
 pub read-network-report-spec : {M : Type 1} → statement M
+unfolding layouts
 read-network-report-spec =
-    tie.close (tie.spec (λ c κs. search needs) (λ c. search needs) (λ c. search needs) (λ c. search needs) returns
-    (λ c κs. search needs) (λ c. search needs) (λ c. search needs) returns-2 (λ c κs. search needs) returns-3)
+    tie.close (tie.spec (λ c κs. search needs) (λ c. search needs) (λ c. search needs) (λ c. search needs)
+    (λ c. rw (← c .before .byte-at .ensures, lt-leb _ _ (c .if1 .taken)))
+    (λ c κs. search needs) (λ c. search needs) (λ c. search needs)
+    (λ c. let code = c .before .before in rw (← code .before .before .byte-at .ensures, le-leb _ _ (code .before .if1 .left), ← code .try-from .ensures, c .enum-told .given .1))
+    (λ c κs. search needs) returns-3)
