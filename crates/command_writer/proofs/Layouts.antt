@@ -1,6 +1,6 @@
 -- How the bytes of a command lie in the output: one field behind the other, from its front on.
 -- Assumes nothing.
-use mathlib.Core.Path.{_≡_, sym, _∙_}
+use mathlib.Core.Path.{_≡_, sym}
 use mathlib.Core.List.{List, _++_}
 use Prim.Native.Nat.{ℕ}
 use native.Mathlib.Nat.{zero-add}
@@ -33,5 +33,5 @@ unfolding formats wireBytes bodyBytes partSizes keptCount filled width writeFiel
 layouts = tt
 
 -- the bytes ys right behind xs, which stand at the front
-pub behind : {o₁ o₂ : List ℕ} (o xs ys : List ℕ) (j : ℕ) → o₁ ≡ over o 0 xs → o₂ ≡ over o₁ j ys → j ≡ length xs → o₂ ≡ over o 0 (xs ++ ys)
-behind o xs ys j p q e = over-then o _ _ 0 j xs ys (omega arith) (e ∙ sym (zero-add _)) p q
+pub behind : {o₁ o₂ : List ℕ} (o xs ys : List ℕ) → o₁ ≡ over o 0 xs → o₂ ≡ over o₁ (length xs) ys → o₂ ≡ over o 0 (xs ++ ys)
+behind o xs ys p q = over-then o _ _ 0 (length xs) xs ys (omega arith) (sym (zero-add _)) p q

@@ -3,6 +3,7 @@
 use mathlib.Core.Path.{_≡_, refl, sym, ap, _∙_}
 use mathlib.Core.List.{List, _++_, append-assoc}
 use Prim.Native.Nat.{ℕ, _+_, _*_}
+use native.Mathlib.Omega.{arith}
 use lib.ListN.{length, length-append}
 use Rattle.commands.specs.Format.{writeEntries, bodyBytes}
 use Rattle.commands.specs.Commands.{routeRequestFormat, routeReplyValues, has, addressEntry}
@@ -18,9 +19,10 @@ use Rattle.command_writer.proofs.Layouts.{formats, layouts}
 abbrev pub addressBytes : OptionEui64 → List ℕ
 addressBytes a = writeEntries (routeRequestFormat .entry) (addressEntry a)
 
-pub length-head : (c : NwkRouteReplyCommand) → length (replyHead c) ≡ 8
+-- where the originator's address starts
+pub originator-at : (c : NwkRouteReplyCommand) → 8 ≡ 0 + length (replyHead c)
 unfolding layouts
-length-head c = refl
+originator-at c = refl
 
 length-address : (a : OptionEui64) → length (addressBytes a) ≡ has a * 8
 unfolding layouts
@@ -29,9 +31,11 @@ length-address (OptionEui64.Present x) = refl
 
 -- where the responder's address starts
 pub responder-at : (c : NwkRouteReplyCommand) (n : ℕ) → n ≡ has (c .«originator_eui64»)
-    → 8 + n * 8 ≡ length (replyHead c ++ addressBytes (c .«originator_eui64»))
+    → 8 + n * 8 ≡ 0 + length (replyHead c ++ addressBytes (c .«originator_eui64»))
 responder-at c n e =
-    rw (length-append (replyHead c) (addressBytes (c .«originator_eui64»)), length-head c, length-address (c .«originator_eui64»), e)
+    let h = originator-at c in
+    let l = length-address (c .«originator_eui64») in
+    rw (length-append (replyHead c) (addressBytes (c .«originator_eui64»)), e) (omega arith)
 
 pub reply-bytes : (c : NwkRouteReplyCommand)
     → (replyHead c ++ addressBytes (c .«originator_eui64»)) ++ addressBytes (c .«responder_eui64») ≡ wireBytes (body NwkCommandId.RouteReply (routeReplyValues c))

@@ -1,6 +1,5 @@
 -- `command_writer::encoders::write_link_power_delta` meets its contract: one field behind the other. Assumes nothing.
 use borrow.Author.Needs.{needs}
-use mathlib.Core.Path.{refl}
 use Rattle.command_writer.proofs.encoders.write_link_power_delta.Statement.{statement}
 use Rattle.command_writer.proofs.encoders.write_link_power_delta.Tie as tie
 use Rattle.command_writer.proofs.Layouts.{layouts, behind}
@@ -12,7 +11,7 @@ returns c =
     let head = list .before .before .before .before in
     let flags = head .before .before in
     rw (← flags .before .code .ensures, ← flags .power-options .ensures)
-    (behind _ _ _ _ (head .put-three .ensures) (list .put-powers .ensures) refl)
+    (behind _ _ _ (head .put-three .ensures) (list .put-powers .ensures))
 
 pub write-link-power-delta-spec : {M : Type 1} → statement M
 write-link-power-delta-spec =

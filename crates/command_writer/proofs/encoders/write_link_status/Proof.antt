@@ -1,6 +1,5 @@
 -- `command_writer::encoders::write_link_status` meets its contract: one field behind the other. Assumes nothing.
 use borrow.Author.Needs.{needs}
-use mathlib.Core.Path.{refl}
 use Rattle.command_writer.proofs.encoders.write_link_status.Statement.{statement}
 use Rattle.command_writer.proofs.encoders.write_link_status.Tie as tie
 use Rattle.command_writer.proofs.Layouts.{layouts, behind}
@@ -11,7 +10,7 @@ returns c =
     let list = c .before .before in
     let head = list .before .before .before .before in
     rw (← head .before .before .link-status-options .ensures)
-    (behind _ _ _ _ (head .put-two .ensures) (list .put-links .ensures) refl)
+    (behind _ _ _ (head .put-two .ensures) (list .put-links .ensures))
 
 pub write-link-status-spec : {M : Type 1} → statement M
 write-link-status-spec =

@@ -1,6 +1,5 @@
 -- `command_writer::encoders::write_network_report` meets its contract: one field behind the other. Assumes nothing.
 use borrow.Author.Needs.{needs}
-use mathlib.Core.Path.{refl}
 use native.Mathlib.Omega.{arith}
 use Rattle.commands.proofs.CodeLaws.{reportIdentifier-lt}
 use Rattle.command_writer.proofs.encoders.write_network_report.Statement.{statement}
@@ -19,7 +18,7 @@ returns c =
     let head = epid .before .before .before .before in
     let flags = head .before .before in
     rw (← flags .before .code .ensures, ← flags .count-and-identifier .ensures)
-    (behind _ _ _ _ (behind _ _ _ _ (head .put-two .ensures) (epid .put-u64 .ensures) refl) (list .put-pan-ids .ensures) refl)
+    (behind _ _ _ (behind _ _ _ (head .put-two .ensures) (epid .put-u64 .ensures)) (list .put-pan-ids .ensures))
 
 pub write-network-report-spec : {M : Type 1} → statement M
 write-network-report-spec =

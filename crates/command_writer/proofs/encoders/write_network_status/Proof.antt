@@ -1,6 +1,5 @@
 -- `command_writer::encoders::write_network_status` meets its contract: one field behind the other. Assumes nothing.
 use borrow.Author.Needs.{needs}
-use mathlib.Core.Path.{refl}
 use Rattle.command_writer.proofs.encoders.write_network_status.Statement.{statement}
 use Rattle.command_writer.proofs.encoders.write_network_status.Tie as tie
 use Rattle.command_writer.proofs.Layouts.{layouts, behind}
@@ -10,7 +9,7 @@ unfolding layouts
 returns c =
     let address = c .before .before in
     let status = address .before .before .before .before in
-    rw (← status .before .code .ensures) (behind _ _ _ _ (status .put-two .ensures) (address .put-u16 .ensures) refl)
+    rw (← status .before .code .ensures) (behind _ _ _ (status .put-two .ensures) (address .put-u16 .ensures))
 
 pub write-network-status-spec : {M : Type 1} → statement M
 write-network-status-spec =

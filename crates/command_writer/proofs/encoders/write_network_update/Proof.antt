@@ -1,6 +1,5 @@
 -- `command_writer::encoders::write_network_update` meets its contract: one field behind the other. Assumes nothing.
 use borrow.Author.Needs.{needs}
-use mathlib.Core.Path.{refl}
 use native.Mathlib.Omega.{arith}
 use Rattle.commands.proofs.CodeLaws.{updateIdentifier-lt}
 use Rattle.command_writer.proofs.encoders.write_network_update.Statement.{statement}
@@ -20,9 +19,9 @@ returns c =
     let head = epid .before .before .before .before in
     let flags = head .before .before in
     rw (← flags .before .code .ensures, ← flags .count-and-identifier .ensures)
-    (behind _ _ _ _
-    (behind _ _ _ _ (behind _ _ _ _ (head .put-two .ensures) (epid .put-u64 .ensures) refl) (update .put-byte .ensures) refl)
-    (pan-id .put-u16 .ensures) refl)
+    (behind _ _ _
+    (behind _ _ _ (behind _ _ _ (head .put-two .ensures) (epid .put-u64 .ensures)) (update .put-byte .ensures))
+    (pan-id .put-u16 .ensures))
 
 pub write-network-update-spec : {M : Type 1} → statement M
 write-network-update-spec =

@@ -1,6 +1,5 @@
 -- `command_writer::encoders::write_route_request` meets its contract: one field behind the other. Assumes nothing.
 use borrow.Author.Needs.{needs}
-use mathlib.Core.Path.{refl}
 use native.Mathlib.Omega.{arith}
 use Rattle.commands.proofs.CodeLaws.{manyToOne-lt}
 use Rattle.command_writer.proofs.encoders.write_route_request.Statement.{statement}
@@ -20,9 +19,9 @@ returns c =
     let head = destination .before .before .before .before in
     let flags = head .before .before in
     rw (← flags .before .before .code .ensures, ← flags .before .has-address .ensures .0, ← flags .route-request-options .ensures)
-    (behind _ _ _ _
-    (behind _ _ _ _ (behind _ _ _ _ (head .put-three .ensures) (destination .put-u16 .ensures) refl) (cost .put-byte .ensures) refl)
-    (address .put-address .ensures) refl)
+    (behind _ _ _
+    (behind _ _ _ (behind _ _ _ (head .put-three .ensures) (destination .put-u16 .ensures)) (cost .put-byte .ensures))
+    (address .put-address .ensures))
 
 pub write-route-request-spec : {M : Type 1} → statement M
 write-route-request-spec =
