@@ -1,4 +1,3 @@
--- The loops that fill a list, and a command with its list.
-mod Listed
-mod Whole
+-- How the bytes of a command are read, and the entries that hold optional addresses.
+mod Layouts
 mod Entries

@@ -8,7 +8,7 @@ ghost use Rattle.commands.specs.Commands.{addressOf};
 ghost use Rattle.commands.specs.Reading.{bodyOf, typed};
 ghost use Rattle.command_reader.specs.Capability.{capabilityOfByte};
 use commands::*;
-use types::OptionEui64;
+use types::*;
 
 // The IEEE address at place i, if its presence bit is set.
 fn address_at(s: &[u8], i: usize, has: u8) -> OptionEui64
@@ -55,7 +55,7 @@ fn read_route_request(s: &[u8]) -> TypedBody
     TypedBody::Typed(NwkCommand::RouteRequest(NwkRouteRequestCommand {
         many_to_one,
         route_request_identifier: octets::byte_at(s, 2),
-        destination_address: octets::read_u16(s, 3),
+        destination_address: Nwk(octets::read_u16(s, 3)),
         path_cost: octets::byte_at(s, 5),
         destination_eui64,
     }))
@@ -68,16 +68,16 @@ fn read_route_reply(s: &[u8]) -> TypedBody
     let options = octets::byte_at(s, 1);
     let has_originator_eui64 = options / 16 % 2;
     let has_responder_eui64 = options / 16 / 2 % 2;
-    let responder_at = 8 + (has_originator_eui64 as usize) * 8;
-    if s.len() < responder_at + (has_responder_eui64 as usize) * 8 {
+    if s.len() < 8 + ((has_originator_eui64 + has_responder_eui64) as usize) * 8 {
         return TypedBody::NotTyped;
     }
+    let responder_at = 8 + (has_originator_eui64 as usize) * 8;
     let originator_eui64 = address_at(s, 8, has_originator_eui64);
     let responder_eui64 = address_at(s, responder_at, has_responder_eui64);
     TypedBody::Typed(NwkCommand::RouteReply(NwkRouteReplyCommand {
         route_request_identifier: octets::byte_at(s, 2),
-        originator_nwk: octets::read_u16(s, 3),
-        responder_nwk: octets::read_u16(s, 5),
+        originator_nwk: Nwk(octets::read_u16(s, 3)),
+        responder_nwk: Nwk(octets::read_u16(s, 5)),
         path_cost: octets::byte_at(s, 7),
         originator_eui64,
         responder_eui64,
@@ -97,7 +97,7 @@ fn read_network_status(s: &[u8]) -> TypedBody
     };
     TypedBody::Typed(NwkCommand::NetworkStatus(NwkNetworkStatusCommand {
         status_code,
-        network_address: octets::read_u16(s, 2),
+        network_address: Nwk(octets::read_u16(s, 2)),
     }))
 }
 
@@ -152,7 +152,7 @@ fn read_rejoin_response(s: &[u8]) -> TypedBody
         return TypedBody::NotTyped;
     };
     TypedBody::Typed(NwkCommand::RejoinResponse(NwkRejoinResponseCommand {
-        network_address: octets::read_u16(s, 1),
+        network_address: Nwk(octets::read_u16(s, 1)),
         rejoin_status,
     }))
 }
@@ -209,7 +209,7 @@ fn read_network_update(s: &[u8]) -> TypedBody
         update_command_identifier,
         epid: octets::read_u64(s, 2),
         update_id: octets::byte_at(s, 10),
-        new_pan_id: octets::read_u16(s, 11),
+        new_pan_id: PanId(octets::read_u16(s, 11)),
     }))
 }
 
@@ -296,7 +296,7 @@ fn read_commissioning_response(s: &[u8]) -> TypedBody
         return TypedBody::NotTyped;
     };
     TypedBody::Typed(NwkCommand::NetworkCommissioningResponse(NwkNetworkCommissioningResponseCommand {
-        network_address: octets::read_u16(s, 1),
+        network_address: Nwk(octets::read_u16(s, 1)),
         status,
     }))
 }

@@ -8,11 +8,7 @@ ghost use Prim.Native.Nat.{_≤_};
 ghost use lib.ListN.{length};
 ghost use Rattle.commands.specs.Reading.{listed, listOf, typed, readCommand};
 ghost use Rattle.commands.specs.declared.TypedBody.{TypedBody};
-use commands::NwkCommand;
-use commands::NwkCommandList;
-use commands::NwkCommandRead;
-use commands::NwkCommandWithLists;
-use commands::TypedBody;
+use commands::*;
 use octets::refusals;
 use types::MAX_NSDU_SIZE;
 

@@ -7,11 +7,8 @@ ghost use Rattle.octets.specs.Strings.{tab};
 ghost use Rattle.commands.specs.Commands.{linkAt, noLink};
 ghost use Rattle.commands.specs.Reading.{listed, places, unparsed};
 ghost use Rattle.commands.specs.declared.NwkCommandList.{NwkCommandList};
-use commands::NO_LINK;
-use commands::NwkCommand;
-use commands::NwkCommandWithLists;
-use commands::NwkLinkStatus;
-use commands::lists;
+use commands::*;
+use types::Nwk;
 
 // The link status entry at place i: an address, and the two costs in one byte.
 fn link_at(s: &[u8], i: usize) -> NwkLinkStatus
@@ -20,7 +17,7 @@ fn link_at(s: &[u8], i: usize) -> NwkLinkStatus
 {
     let costs = octets::byte_at(s, i + 2);
     NwkLinkStatus {
-        address: octets::read_u16(s, i),
+        address: Nwk(octets::read_u16(s, i)),
         incoming_cost: costs % 8,
         outgoing_cost: costs / 8 / 2 % 8,
     }

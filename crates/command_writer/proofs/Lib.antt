@@ -1,5 +1,4 @@
--- What is refused, what a command that is not refused gives its writer, and the bytes put one behind the other.
+-- How the bytes of a command lie, what a command that is not refused gives its writer, and the bytes of a route reply.
 mod Ready
-mod LinkCosts
-mod WriteRefusal
 mod ReplyBytes
+mod Layouts

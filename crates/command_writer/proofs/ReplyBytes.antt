@@ -3,41 +3,41 @@
 use mathlib.Core.Path.{_≡_, refl, sym, ap, _∙_}
 use mathlib.Core.List.{List, _++_, append-assoc}
 use Prim.Native.Nat.{ℕ, _+_, _*_}
+use native.Mathlib.Omega.{arith}
 use lib.ListN.{length, length-append}
-use Rattle.octets.specs.Numbers.{le}
-use Rattle.commands.specs.Format.{partSizes, keptCount, filled, width, writeField, writeFields, writeEntries, bodyBytes}
-use Rattle.commands.specs.Commands.{routeRequestFormat, routeReplyFormat, routeReplyValues, has, addressEntry}
-use Rattle.commands.specs.Reading.{formatOf}
+use Rattle.commands.specs.Format.{writeEntries, bodyBytes}
+use Rattle.commands.specs.Commands.{routeRequestFormat, routeReplyValues, has, addressEntry}
 use Rattle.commands.specs.Writing.{wireBytes}
 use Rattle.commands.specs.Writing.Wire.{body}
 use Rattle.commands.proofs.Format.{entries-append}
 use Rattle.types.specs.declared.OptionEui64.{OptionEui64}
 use Rattle.commands.specs.declared.{NwkCommandId.NwkCommandId, NwkRouteReplyCommand.NwkRouteReplyCommand}
 use Rattle.command_writer.specs.Reply.{replyHead}
+use Rattle.command_writer.proofs.Layouts.{formats, layouts}
 
 -- the bytes of an optional address
 abbrev pub addressBytes : OptionEui64 → List ℕ
 addressBytes a = writeEntries (routeRequestFormat .entry) (addressEntry a)
 
-pub length-head : (c : NwkRouteReplyCommand) → length (replyHead c) ≡ 8
-unfolding replyHead routeReplyFormat routeReplyValues partSizes keptCount filled width writeField writeFields le
-length-head c = refl
+-- where the originator's address starts
+pub originator-at : (c : NwkRouteReplyCommand) → 8 ≡ 0 + length (replyHead c)
+unfolding layouts
+originator-at c = refl
 
 length-address : (a : OptionEui64) → length (addressBytes a) ≡ has a * 8
-unfolding routeRequestFormat width writeField writeFields writeEntries le
+unfolding layouts
 length-address OptionEui64.Absent = refl
 length-address (OptionEui64.Present x) = refl
 
 -- where the responder's address starts
-pub responder-at : (c : NwkRouteReplyCommand) (n : ℕ) → n ≡ has (c .«originator_eui64») → 8 + n * 8 ≡ 0 + length (replyHead c ++ addressBytes (c .«originator_eui64»))
+pub responder-at : (c : NwkRouteReplyCommand) (n : ℕ) → n ≡ has (c .«originator_eui64»)
+    → 8 + n * 8 ≡ 0 + length (replyHead c ++ addressBytes (c .«originator_eui64»))
 responder-at c n e =
-    (λ i. 8 + e i * 8)
-    ∙ sym (native.Mathlib.Nat.zero-add _ ∙ length-append (replyHead c) (addressBytes (c .«originator_eui64»)) ∙ rw (length-head c, length-address (c .«originator_eui64»)) refl)
+    let h = originator-at c in
+    let l = length-address (c .«originator_eui64») in
+    rw (length-append (replyHead c) (addressBytes (c .«originator_eui64»)), e) (omega arith)
 
 pub reply-bytes : (c : NwkRouteReplyCommand)
     → (replyHead c ++ addressBytes (c .«originator_eui64»)) ++ addressBytes (c .«responder_eui64») ≡ wireBytes (body NwkCommandId.RouteReply (routeReplyValues c))
-unfolding replyHead wireBytes bodyBytes formatOf routeRequestFormat routeReplyFormat routeReplyValues
-reply-bytes c =
-    append-assoc (replyHead c) (addressBytes (c .«originator_eui64»)) (addressBytes (c .«responder_eui64»))
-    ∙ ap (λ (l : List ℕ). replyHead c ++ l)
-    (sym (entries-append (routeRequestFormat .entry) (addressEntry (c .«originator_eui64»)) (addressEntry (c .«responder_eui64»))))
+unfolding formats wireBytes bodyBytes replyHead
+reply-bytes c = append-assoc (replyHead c) _ _ ∙ ap (λ (l : List ℕ). replyHead c ++ l) (sym (entries-append (routeRequestFormat .entry) _ _))

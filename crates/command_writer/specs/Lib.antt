@@ -1,3 +1,3 @@
--- No definitions of its own: the contracts cite those of `commands`.
+-- What the contracts cite besides the definitions of `commands`.
 pub mod Options
 pub mod Reply

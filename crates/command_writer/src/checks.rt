@@ -2,12 +2,11 @@
 
 ghost use mathlib.Core.Path.{_≡_};
 ghost use mathlib.Core.Bool.{not, _||_};
-ghost use Prim.Native.Nat.{ℕ, _+_, _*_, _≤_};
-ghost use lib.ListN.{length, getD};
+ghost use Prim.Native.Nat.{_+_, _*_, _≤_};
+ghost use lib.ListN.{length};
 ghost use lib.Dec.{ltb};
-ghost use Rattle.octets.specs.Strings.{tab};
 ghost use Rattle.commands.specs.Format.{heldFields, heldEntries};
-ghost use Rattle.commands.specs.Commands.{has, linkStatusFormat, linkEntry, noLink};
+ghost use Rattle.commands.specs.Commands.{has, linkStatusFormat, linkEntry, linkEntries};
 ghost use Rattle.commands.specs.Reading.{listOf};
 ghost use Rattle.commands.specs.Writing.{wire, misfits, updateCount, commandBytes, fieldRefusal, writeRefusal};
 use commands::*;
@@ -87,13 +86,16 @@ fn link_misfits(link: NwkLinkStatus) -> bool
     if link.incoming_cost > 7 {
         return true;
     }
-    link.outgoing_cost > 7
+    if link.outgoing_cost > 7 {
+        return true;
+    }
+    false
 }
 
 // One of the first n link status entries has a cost over 7.
 fn links_misfit(links: [NwkLinkStatus; 31], n: usize) -> bool
     requires { ⌜ n ≤ 31 ⌝ }
-    ensures { λ r. ⌜ r ≡ not (heldEntries (linkStatusFormat .entry) (tab (λ (k : ℕ). linkEntry (getD links k noLink)) n)) ⌝ }
+    ensures { λ r. ⌜ r ≡ not (heldEntries (linkStatusFormat .entry) (linkEntries links n)) ⌝ }
 {
     let mut k = 0;
     while k < n {
@@ -108,7 +110,7 @@ fn links_misfit(links: [NwkLinkStatus; 31], n: usize) -> bool
 
 // A link status has too many entries, or a cost over 7.
 fn link_status_misfits(links: [NwkLinkStatus; 31], n: u8) -> bool
-    ensures { λ r. ⌜ r ≡ (ltb 31 n || not (heldEntries (linkStatusFormat .entry) (tab (λ (k : ℕ). linkEntry (getD links k noLink)) n))) ⌝ }
+    ensures { λ r. ⌜ r ≡ (ltb 31 n || not (heldEntries (linkStatusFormat .entry) (linkEntries links n))) ⌝ }
 {
     if n > 31 {
         return true;

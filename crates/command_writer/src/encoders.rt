@@ -13,6 +13,7 @@ ghost use Rattle.command_writer.specs.Reply.{replyHead};
 use crate::options;
 use crate::puts;
 use commands::*;
+use types::*;
 
 // 3.4.1 Route Request.
 pub fn write_route_request(c: NwkRouteRequestCommand, out: &mut [u8])
@@ -21,9 +22,10 @@ pub fn write_route_request(c: NwkRouteRequestCommand, out: &mut [u8])
 {
     let many_to_one = c.many_to_one;
     let address = c.destination_eui64;
+    let destination = c.destination_address;
     let flags = options::route_request_options(many_to_one.code(), has_address(address));
     puts::put_three(out, 0x01, flags, c.route_request_identifier);
-    octets::put_u16(out, 3, c.destination_address);
+    octets::put_u16(out, 3, destination.0);
     lists::put_byte(out, 5, c.path_cost);
     puts::put_address(out, 6, address);
 }
@@ -35,10 +37,12 @@ fn write_route_reply_head(c: NwkRouteReplyCommand, out: &mut [u8])
 {
     let originator = c.originator_eui64;
     let responder = c.responder_eui64;
+    let originator_nwk = c.originator_nwk;
+    let responder_nwk = c.responder_nwk;
     let flags = options::route_reply_options(has_address(originator), has_address(responder));
     puts::put_three(out, 0x02, flags, c.route_request_identifier);
-    octets::put_u16(out, 3, c.originator_nwk);
-    octets::put_u16(out, 5, c.responder_nwk);
+    octets::put_u16(out, 3, originator_nwk.0);
+    octets::put_u16(out, 5, responder_nwk.0);
     lists::put_byte(out, 7, c.path_cost);
 }
 
@@ -61,8 +65,9 @@ pub fn write_network_status(c: NwkNetworkStatusCommand, out: &mut [u8])
     ensures { λ _. ⌜ now (out .exit) ≡ over (now (out .entry)) 0 (wireBytes (Wire.body NwkCommandId.NetworkStatus (networkStatusValues c))) ⌝ }
 {
     let status_code = c.status_code;
+    let address = c.network_address;
     puts::put_two(out, 0x03, status_code.code());
-    octets::put_u16(out, 2, c.network_address);
+    octets::put_u16(out, 2, address.0);
 }
 
 // 3.4.4 Leave.
@@ -75,12 +80,12 @@ pub fn write_leave(c: NwkLeaveCommand, out: &mut [u8])
 }
 
 // 3.4.5 Route Record.
-pub fn write_route_record(relays: [u16; 53], n: u8, out: &mut [u8])
+pub fn write_route_record(relays: [Nwk; 53], n: u8, out: &mut [u8])
     requires { ⌜ (n ≤ 53) × (2 + n * 2 ≤ length (now out)) ⌝ }
     ensures { λ _. ⌜ now (out .exit) ≡ over (now (out .entry)) 0 (wireBytes (Wire.body NwkCommandId.RouteRecord (routeRecordValues relays n))) ⌝ }
 {
     puts::put_two(out, 0x05, n);
-    lists::put_numbers(out, 2, &relays, n as usize);
+    lists::put_relays(out, 2, relays, n as usize);
 }
 
 // 3.4.6 Rejoin Request.
@@ -98,8 +103,9 @@ pub fn write_rejoin_response(c: NwkRejoinResponseCommand, out: &mut [u8])
     ensures { λ _. ⌜ now (out .exit) ≡ over (now (out .entry)) 0 (wireBytes (Wire.body NwkCommandId.RejoinResponse (rejoinResponseValues c))) ⌝ }
 {
     let rejoin_status = c.rejoin_status;
+    let address = c.network_address;
     lists::put_byte(out, 0, 0x07);
-    octets::put_u16(out, 1, c.network_address);
+    octets::put_u16(out, 1, address.0);
     lists::put_byte(out, 3, rejoin_status.code());
 }
 
@@ -114,7 +120,7 @@ pub fn write_link_status(c: NwkLinkStatusCommand, links: [NwkLinkStatus; 31], n:
 }
 
 // 3.4.9 Network Report.
-pub fn write_network_report(c: NwkNetworkReportCommand, ids: [u16; 31], n: u8, out: &mut [u8])
+pub fn write_network_report(c: NwkNetworkReportCommand, ids: [PanId; 31], n: u8, out: &mut [u8])
     requires { ⌜ (n ≤ 31) × (10 + n * 2 ≤ length (now out)) ⌝ }
     ensures { λ _. ⌜ now (out .exit) ≡ over (now (out .entry)) 0 (wireBytes (Wire.body NwkCommandId.NetworkReport (networkReportValues c ids n))) ⌝ }
 {
@@ -122,7 +128,7 @@ pub fn write_network_report(c: NwkNetworkReportCommand, ids: [u16; 31], n: u8, o
     let flags = options::count_and_identifier(n, identifier.code());
     puts::put_two(out, 0x09, flags);
     octets::put_u64(out, 2, c.epid);
-    lists::put_numbers(out, 10, &ids, n as usize);
+    lists::put_pan_ids(out, 10, ids, n as usize);
 }
 
 // 3.4.10 Network Update.
@@ -131,11 +137,12 @@ pub fn write_network_update(c: NwkNetworkUpdateCommand, out: &mut [u8])
     ensures { λ _. ⌜ now (out .exit) ≡ over (now (out .entry)) 0 (wireBytes (Wire.body NwkCommandId.NetworkUpdate (networkUpdateValues c))) ⌝ }
 {
     let identifier = c.update_command_identifier;
+    let pan_id = c.new_pan_id;
     let flags = options::count_and_identifier(c.update_information_count, identifier.code());
     puts::put_two(out, 0x0a, flags);
     octets::put_u64(out, 2, c.epid);
     lists::put_byte(out, 10, c.update_id);
-    octets::put_u16(out, 11, c.new_pan_id);
+    octets::put_u16(out, 11, pan_id.0);
 }
 
 // 3.4.11 End Device Timeout Request.
@@ -194,7 +201,8 @@ pub fn write_commissioning_response(c: NwkNetworkCommissioningResponseCommand, o
     ensures { λ _. ⌜ now (out .exit) ≡ over (now (out .entry)) 0 (wireBytes (Wire.body NwkCommandId.NetworkCommissioningResponse (commissioningResponseValues c))) ⌝ }
 {
     let status = c.status;
+    let address = c.network_address;
     lists::put_byte(out, 0, 0x0f);
-    octets::put_u16(out, 1, c.network_address);
+    octets::put_u16(out, 1, address.0);
     lists::put_byte(out, 3, status.code());
 }

@@ -9,8 +9,7 @@ ghost use mathlib.Core.Path.{_≡_};
 ghost use lib.ListN.{length};
 ghost use Rattle.octets.specs.Strings.{over};
 ghost use Rattle.commands.specs.Writing.{commandBytes, writeRefusal, writeCommand};
-use commands::NwkCommand;
-use commands::NwkCommandWithLists;
+use commands::*;
 use octets::Written;
 
 // The bytes of a command that is not refused, at the front of the output.

@@ -2,14 +2,13 @@
 
 ghost use mathlib.Core.Path.{_≡_};
 ghost use mathlib.Core.List.{[], _∷_};
-ghost use Prim.Native.Nat.{ℕ, _+_, _*_, _≤_, _<_};
-ghost use lib.ListN.{length, getD};
-ghost use Rattle.octets.specs.Strings.{over, tab};
+ghost use Prim.Native.Nat.{_+_, _*_, _≤_};
+ghost use lib.ListN.{length};
+ghost use Rattle.octets.specs.Strings.{over};
 ghost use Rattle.commands.specs.Format.{writeFields, writeEntries};
-ghost use Rattle.commands.specs.Commands.{routeRequestFormat, linkStatusFormat, has, addressEntry, linkEntry, noLink};
+ghost use Rattle.commands.specs.Commands.{routeRequestFormat, linkStatusFormat, has, addressEntry, linkEntry, linkEntries};
 ghost use Rattle.command_writer.specs.Options.{LowCosts};
-use commands::NwkLinkStatus;
-use commands::lists;
+use commands::*;
 use types::OptionEui64;
 
 // The identifier and the byte behind it.
@@ -49,14 +48,15 @@ fn put_link(out: &mut [u8], i: usize, link: NwkLinkStatus)
     ensures { λ _. ⌜ now (out .exit) ≡ over (now (out .entry)) i (writeFields (linkStatusFormat .entry) (linkEntry link)) ⌝ }
 {
     let costs = crate::options::costs_byte(link.incoming_cost, link.outgoing_cost);
-    octets::put_u16(out, i, link.address);
+    let address = link.address;
+    octets::put_u16(out, i, address.0);
     lists::put_byte(out, i + 2, costs);
 }
 
 // The first n link status entries.
 pub fn put_links(out: &mut [u8], i: usize, links: [NwkLinkStatus; 31], n: usize)
     requires { ⌜ (n ≤ 31) × (i + n * 3 ≤ length (now out)) × LowCosts links n ⌝ }
-    ensures { λ _. ⌜ now (out .exit) ≡ over (now (out .entry)) i (writeEntries (linkStatusFormat .entry) (tab (λ (k : ℕ). linkEntry (getD links k noLink)) n)) ⌝ }
+    ensures { λ _. ⌜ now (out .exit) ≡ over (now (out .entry)) i (writeEntries (linkStatusFormat .entry) (linkEntries links n)) ⌝ }
 {
     let mut k = 0;
     while k < n {

@@ -1,38 +1,34 @@
 -- `command_reader::from_bytes` meets its contract: above 108 bytes the refusal, else the typed command with its list, else all
 -- the bytes. Assumes nothing.
 use borrow.Author.Needs.{needs}
-use mathlib.Core.Path.{sym, ap, _∙_}
+use mathlib.Core.Path.{sym, _∙_}
 use native.Mathlib.Omega.{arith}
 use Rattle.command_reader.proofs.from_bytes.Statement.{statement}
 use Rattle.command_reader.proofs.from_bytes.Tie as tie
-use Rattle.commands.specs.Reading.{readAs, unparsed, parsed}
-use Rattle.commands.specs.declared.TypedBody.{TypedBody}
+use Rattle.commands.specs.Reading.{unparsed, parsed}
 use Rattle.commands.proofs.RoundTrip.{read-accepts, read-refuses}
 
 returns : tie.Need-returns
 unfolding unparsed
-returns c = (λ i. record { refusal = 12; command = c .blank .ensures i }) ∙ sym (read-refuses _ (omega (arith, c .before .if1 .taken)))
+returns c = rw (c .blank .ensures, read-refuses _ (c .before .if1 .taken))
 
 returns-2 : tie.Need-returns-2
 unfolding parsed
 returns-2 c =
-    let s = c .before .before .before .before .before .before .args .s .now in
-    ap readAs (c .keep-unparsed .ensures ∙ ap (λ (b : TypedBody). parsed b s) (sym (c .before .enum-told .given .1) ∙ c .before .before .before .try-parse .ensures))
-    ∙ sym (read-accepts s (c .before .before .before .before .if1 .left))
+    let parse = c .before .before .before in
+    rw (read-accepts _ (parse .before .if1 .left), ← parse .try-parse .ensures, c .before .enum-told .given .1, c .keep-unparsed .ensures)
 
 with-list-requires : tie.Need-with-list-requires
-with-list-requires c κs =
-    (sym (c .before .before .before .try-parse .ensures) ∙ c .before .typed .given .1, omega arith)
+with-list-requires c κs = (sym (c .before .before .before .try-parse .ensures) ∙ c .before .typed .given .1, omega arith)
 
 returns-3 : tie.Need-returns-3
 unfolding parsed
 returns-3 c =
-    let s = c .before .before .before .before .before .before .before .args .s .now in
-    ap readAs (c .with-list .ensures ∙ ap (λ (b : TypedBody). parsed b s) (sym (c .before .before .typed .given .1) ∙ c .before .before .before .before .try-parse .ensures))
-    ∙ sym (read-accepts s (c .before .before .before .before .before .if1 .left))
+    let known = c .before .before in
+    let parse = known .before .before in
+    rw (read-accepts _ (parse .before .if1 .left), ← parse .try-parse .ensures, known .typed .given .1, c .with-list .ensures)
 
 pub from-bytes-spec : {M : Type 1} → statement M
 from-bytes-spec =
-    tie.close
-    (tie.spec (λ c κs. search needs) returns (λ c κs. search needs) (λ c. search needs) (λ c. search needs)
+    tie.close (tie.spec (λ c κs. search needs) returns (λ c κs. search needs) (λ c. search needs) (λ c. search needs)
     (λ c κs. search needs) returns-2 with-list-requires returns-3)

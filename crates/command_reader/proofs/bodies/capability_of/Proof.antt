@@ -6,9 +6,8 @@ use Rattle.octets.specs.Fields.{fields}
 use Rattle.commands.specs.Commands.{capabilityOf}
 use Rattle.command_reader.specs.Capability.{capabilityOfByte}
 
-returns : tie.Need-returns
-unfolding capabilityOfByte capabilityOf fields
-returns c = rw (c .before .from-bit .ensures, c .from-bit2 .ensures)
-
 pub capability-of-spec : {M : Type 1} → statement M
-capability-of-spec = tie.close (tie.spec (λ c κs. search needs) (λ c κs. search needs) returns)
+unfolding capabilityOfByte capabilityOf fields
+capability-of-spec =
+    tie.close (tie.spec (λ c κs. search needs) (λ c κs. search needs)
+    (λ c. rw (c .before .from-bit .ensures, c .from-bit2 .ensures)))

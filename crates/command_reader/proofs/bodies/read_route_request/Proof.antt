@@ -1,53 +1,32 @@
--- `command_reader::bodies::read_route_request` meets its contract: the fields stand at the places of the format, the address in the
--- one entry that its bit counts. Assumes nothing.
+-- `command_reader::bodies::read_route_request` meets its contract: the fields stand at the places of the format, the address in
+-- the one entry that its bit counts. Assumes nothing.
 use borrow.Author.Needs.{needs}
-use mathlib.Core.Path.{sym, ap, _∙_}
-use Prim.Native.Nat.{ℕ, _/_, _%_}
-use native.Mathlib.Nat.{mod-lt}
+use borrow.Author.Tests.{le-leb, lt-leb}
 use native.Mathlib.Omega.{arith}
-use lib.ListN.{getD}
+use Prim.Native.Nat.{_/_, _%_}
+use Rattle.command_reader.proofs.Entries.{address-entry}
 use Rattle.command_reader.proofs.bodies.read_route_request.Statement.{statement}
 use Rattle.command_reader.proofs.bodies.read_route_request.Tie as tie
-use Rattle.octets.specs.Fields.{fields}
-use Rattle.octets.specs.Numbers.{leAt}
-use Rattle.commands.specs.Format.{bodyEnd, headEnd, announced, summed, plus, readFields, readField, kept, partSizes, size, sizes, values}
-use Rattle.commands.specs.Reading.{formatOf, commandOf}
-use Rattle.commands.specs.declared.{NwkCommandId.NwkCommandId, NwkCommand.NwkCommand, TypedBody.TypedBody}
-use Rattle.command_reader.proofs.Whole.{short, whole}
-use Rattle.commands.specs.Codes.{manyToOneOf}
-use Rattle.commands.specs.Commands.{routeRequestFormat, routeRequestOf, routeRequestBy, addressOf}
-use Rattle.command_reader.proofs.Entries.{only-entry}
-
-returns : tie.Need-returns
-unfolding values bodyEnd headEnd announced summed plus readFields readField kept partSizes size sizes fields formatOf commandOf routeRequestFormat routeRequestOf
-returns c =
-    short NwkCommandId.RouteRequest (c .before .before .before .args .s .now) (rw (c .before .byte-at .ensures) at (c .if1 .taken))
-
-returns-2 : tie.Need-returns-2
-unfolding values bodyEnd headEnd announced summed plus readFields readField kept partSizes size sizes fields formatOf commandOf routeRequestFormat routeRequestOf routeRequestBy
-returns-2 c =
-    let s = c .before .before .before .before .before .before .args .s .now in
-    ap (λ k. routeRequestBy k (values routeRequestFormat s)) (sym (c .enum-told .given .1) ∙ c .before .before .try-from .ensures ∙ ap (λ (x : ℕ). manyToOneOf (x / 8 % 4)) (c .before .before .before .before .byte-at .ensures))
-    ∙ whole NwkCommandId.RouteRequest s (rw (c .before .before .before .before .byte-at .ensures) at (c .before .before .before .if1 .left))
+use Rattle.command_reader.proofs.Layouts.{layouts}
 
 returns-3 : tie.Need-returns-3
-unfolding values bodyEnd headEnd announced summed plus readFields readField kept partSizes size sizes fields formatOf commandOf routeRequestFormat routeRequestOf routeRequestBy
+unfolding layouts
 returns-3 c =
-    let s = c .before .before .before .before .before .before .before .before .before .before .before .args .s .now in
-    let has : ℕ = getD s 1 0 / 8 / 4 % 2 in
-    (λ i. TypedBody.Typed (NwkCommand.RouteRequest (record {
-      «many_to_one» = c .before .before .before .before .before .many-to-one .given .0 .0;
-      «route_request_identifier» = c .before .before .byte-at2 .ensures i;
-      «destination_address» = c .before .read-u16 .ensures i;
-      «path_cost» = c .byte-at3 .ensures i;
-      «destination_eui64» = (c .before .before .before .address-at .ensures ∙ ap (λ (x : ℕ). addressOf (x / 8 / 4 % 2) (leAt 8 s 6)) (c .before .before .before .before .before .before .before .before .before .byte-at .ensures) ∙ sym (only-entry s 6 has (mod-lt (getD s 1 0 / 8 / 4) (omega arith)))) i;
-    })))
-    ∙ ap (λ k. routeRequestBy k (values routeRequestFormat s)) (sym (c .before .before .before .before .before .many-to-one .given .1) ∙ c .before .before .before .before .before .before .before .try-from .ensures ∙ ap (λ (x : ℕ). manyToOneOf (x / 8 % 4)) (c .before .before .before .before .before .before .before .before .before .byte-at .ensures))
-    ∙ whole NwkCommandId.RouteRequest s (rw (c .before .before .before .before .before .before .before .before .before .byte-at .ensures) at (c .before .before .before .before .before .before .before .before .if1 .left))
+    let address = c .before .before .before in
+    let known = address .before .before in
+    let code = known .before .before in
+    let test = code .before in
+    let s = test .before .before .before .args .s .now in
+    let has = test .before .byte-at .result / 8 / 4 % 2 in
+    rw (← test .before .byte-at .ensures, le-leb _ _ (test .if1 .left), ← code .try-from .ensures, known .many-to-one .given .1)
+    (rw (address-entry s 6 has has 0 (λ e. omega arith), address .address-at .ensures)
+    (rw (c .before .before .byte-at2 .ensures, c .before .read-u16 .ensures, c .byte-at3 .ensures)))
 
 pub read-route-request-spec : {M : Type 1} → statement M
+unfolding layouts
 read-route-request-spec =
-    tie.close
-    (tie.spec (λ c κs. search needs) (λ c. search needs) (λ c. search needs) (λ c. search needs) returns
-    (λ c κs. search needs) (λ c. search needs) (λ c. search needs) returns-2 (λ c κs. search needs)
-    (λ c κs. search needs) (λ c κs. search needs) (λ c κs. search needs) returns-3)
+    tie.close (tie.spec (λ c κs. search needs) (λ c. search needs) (λ c. search needs) (λ c. search needs)
+    (λ c. rw (← c .before .byte-at .ensures, lt-leb _ _ (c .if1 .taken)))
+    (λ c κs. search needs) (λ c. search needs) (λ c. search needs)
+    (λ c. let code = c .before .before in rw (← code .before .before .byte-at .ensures, le-leb _ _ (code .before .if1 .left), ← code .try-from .ensures, c .enum-told .given .1))
+    (λ c κs. search needs) (λ c κs. search needs) (λ c κs. search needs) (λ c κs. search needs) returns-3)

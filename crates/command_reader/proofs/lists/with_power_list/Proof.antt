@@ -1,18 +1,16 @@
--- `command_reader::lists::with_power_list` meets its contract: the count and the array of the values that are read (`powers-listed`).
+-- `command_reader::lists::with_power_list` meets its contract: the count and the entries that the format reads, in a blank command.
 -- Assumes nothing.
 use borrow.Author.Needs.{needs}
 use Rattle.command_reader.proofs.lists.with_power_list.Statement.{statement}
 use Rattle.command_reader.proofs.lists.with_power_list.Tie as tie
-use Rattle.command_reader.proofs.Listed.{setPowers, powers-listed}
-
-returns : tie.Need-returns
-unfolding setPowers
-returns c =
-    let a = c .before .before .before .before .args in
-    powers-listed (a .command) (a .s .now) (c .before .before .blank .result) (c .before .before .blank .ensures) (c .before .byte-at .result) (c .read-power-list .result)
-    (c .before .byte-at .ensures) (c .read-power-list .ensures)
+use Rattle.octets.proofs.Strings.{length-tab}
+use Rattle.commands.specs.Commands.{powerAt}
+use Rattle.commands.specs.Reading.{withLists, listed}
+use Rattle.commands.proofs.Commands.{map-tab}
+use Rattle.command_reader.proofs.Layouts.{layouts}
 
 pub with-power-list-spec : {M : Type 1} → statement M
+unfolding layouts withLists listed powerAt
 with-power-list-spec =
-    tie.close
-    (tie.spec (λ c κs. search needs) (λ c κs. search needs) (λ c. search needs) (λ c κs. search needs) returns)
+    tie.close (tie.spec (λ c κs. search needs) (λ c κs. search needs) (λ c. search needs) (λ c κs. search needs)
+    (λ c. let byte = c .before in rw (byte .before .blank .ensures, map-tab, length-tab, c .read-power-list .ensures, byte .byte-at .ensures)))

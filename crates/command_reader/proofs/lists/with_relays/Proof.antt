@@ -1,18 +1,16 @@
--- `command_reader::lists::with_relays` meets its contract: the count and the array of the values that are read (`relays-listed`).
+-- `command_reader::lists::with_relays` meets its contract: the count and the entries that the format reads, in a blank command.
 -- Assumes nothing.
 use borrow.Author.Needs.{needs}
 use Rattle.command_reader.proofs.lists.with_relays.Statement.{statement}
 use Rattle.command_reader.proofs.lists.with_relays.Tie as tie
-use Rattle.command_reader.proofs.Listed.{setRelays, relays-listed}
-
-returns : tie.Need-returns
-unfolding setRelays
-returns c =
-    let a = c .before .before .before .before .args in
-    relays-listed (a .command) (a .s .now) (c .before .before .blank .result) (c .before .before .blank .ensures) (c .before .byte-at .result) (c .read-relays .result)
-    (c .before .byte-at .ensures) (c .read-relays .ensures)
+use Rattle.octets.proofs.Strings.{length-tab}
+use Rattle.commands.specs.Commands.{relayOf}
+use Rattle.commands.specs.Reading.{withLists, listed}
+use Rattle.commands.proofs.Commands.{map-tab}
+use Rattle.command_reader.proofs.Layouts.{layouts}
 
 pub with-relays-spec : {M : Type 1} → statement M
+unfolding layouts withLists listed relayOf
 with-relays-spec =
-    tie.close
-    (tie.spec (λ c κs. search needs) (λ c κs. search needs) (λ c. search needs) (λ c κs. search needs) returns)
+    tie.close (tie.spec (λ c κs. search needs) (λ c κs. search needs) (λ c. search needs) (λ c κs. search needs)
+    (λ c. let byte = c .before in rw (byte .before .blank .ensures, map-tab, length-tab, c .read-relays .ensures, byte .byte-at .ensures)))

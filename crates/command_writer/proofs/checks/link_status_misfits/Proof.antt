@@ -4,11 +4,7 @@ use borrow.Author.Tests.{lt-ltb, le-ltb}
 use Rattle.command_writer.proofs.checks.link_status_misfits.Statement.{statement}
 use Rattle.command_writer.proofs.checks.link_status_misfits.Tie as tie
 
-returns : tie.Need-returns
-returns c = rw (lt-ltb _ _ (c .if1 .taken))
-
-returns-2 : tie.Need-returns-2
-returns-2 c = rw (le-ltb _ _ (c .before .if1 .left)) (c .links-misfit .ensures)
-
 pub link-status-misfits-spec : {M : Type 1} → statement M
-link-status-misfits-spec = tie.close (tie.spec returns (λ c κs. search needs) returns-2)
+link-status-misfits-spec =
+    tie.close (tie.spec (λ c. rw (lt-ltb _ _ (c .if1 .taken))) (λ c κs. search needs)
+    (λ c. rw (le-ltb _ _ (c .before .if1 .left)) (c .links-misfit .ensures)))

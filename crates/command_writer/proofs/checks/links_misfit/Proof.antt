@@ -1,7 +1,7 @@
 -- `command_writer::checks::links_misfit` meets its contract. The loop's invariant: the entries passed fit. Assumes nothing.
 use native.Mathlib.Omega.{arith}
-use mathlib.Core.Path.{_≡_, sym, ap, _∙_}
-use mathlib.Core.Bool.{true, not}
+use mathlib.Core.Path.{_≡_, sym, _∙_}
+use mathlib.Core.Bool.{true}
 use Prim.Native.Nat.{ℕ, _-_, _≤_, _<_}
 use borrow.Author.Count.{below-more}
 use borrow.Author.Tests.{not-true, not-false}
@@ -21,23 +21,25 @@ abbrev μ-loop : tie.MeasureT-loop
 
 returns : tie.Need-returns Inv-loop μ-loop
 returns c =
-    let a = c .before .before .before .before .before .args in
-    let l = c .before .before .before .before .loop in
-    sym (ap not (held-not (linkStatusFormat .entry) (λ (j : ℕ). linkEntry (getD (a .t1) j noLink)) (a .n) (l .k) (c .before .before .before .loop-test .taken) (not-true _ (sym (c .before .link-misfits .ensures) ∙ c .if1 .taken))))
+    let entry = c .before in
+    let test = entry .before .before in
+    let links = test .before .before .args .t1 in
+    let misfits = not-true _ (sym (entry .link-misfits .ensures) ∙ c .if1 .taken) in
+    rw (held-not (linkStatusFormat .entry) (λ (j : ℕ). linkEntry (getD links j noLink)) _ _ (test .loop-test .taken) misfits)
 
 loop-again : tie.Need-loop-again Inv-loop μ-loop
 loop-again c =
-    let l = c .before .before .before .before .loop in
-    (omega arith, below-more _ _ (l .inv .1) (not-false _ (sym (c .before .link-misfits .ensures) ∙ c .if1 .left)))
+    let entry = c .before in
+    let l = entry .before .before .before .loop in
+    (omega arith, below-more _ _ (l .inv .1) (not-false _ (sym (entry .link-misfits .ensures) ∙ c .if1 .left)))
 
 returns-2 : tie.Need-returns-2 Inv-loop μ-loop
 returns-2 c =
-    let a = c .before .before .args in
-    let l = c .before .loop in
-    sym (ap not (held-all (linkStatusFormat .entry) (λ (j : ℕ). linkEntry (getD (a .t1) j noLink)) (a .n) (λ j h. l .inv .1 j (omega arith))))
+    let l = c .before in
+    let a = l .before .args in
+    rw (held-all (linkStatusFormat .entry) (λ (j : ℕ). linkEntry (getD (a .t1) j noLink)) (a .n) (λ j h. l .loop .inv .1 j (omega arith)))
 
 pub links-misfit-spec : {M : Type 1} → statement M
 links-misfit-spec =
-    tie.close
-    (tie.spec Inv-loop μ-loop (λ c. (omega arith, λ j l. absurd (omega arith))) (λ c. omega arith) (λ c. omega arith)
-    (λ c κs. tt) returns (λ c. omega arith) (λ c. omega arith) loop-again returns-2)
+    tie.close (tie.spec Inv-loop μ-loop (λ c. (omega arith, λ j l. absurd (omega arith))) (λ c. omega arith)
+    (λ c. omega arith) (λ c κs. tt) returns (λ c. omega arith) (λ c. omega arith) loop-again returns-2)

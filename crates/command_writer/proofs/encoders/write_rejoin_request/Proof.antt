@@ -1,24 +1,11 @@
 -- `command_writer::encoders::write_rejoin_request` meets its contract: one field behind the other. Assumes nothing.
 use borrow.Author.Needs.{needs}
-use mathlib.Core.Path.{_∙_}
-use mathlib.Core.List.{[], _∷_}
 use Rattle.command_writer.proofs.encoders.write_rejoin_request.Statement.{statement}
 use Rattle.command_writer.proofs.encoders.write_rejoin_request.Tie as tie
-use Rattle.octets.specs.Strings.{over}
-use Rattle.octets.specs.Numbers.{le}
-use Rattle.commands.specs.Format.{partSizes, keptCount, filled, width, writeField, writeFields, writeEntries, bodyBytes}
-use Rattle.commands.specs.Commands.{rejoinRequestFormat, rejoinRequestValues, capabilityField, capabilityValues}
-use Rattle.commands.specs.Reading.{formatOf}
-use Rattle.commands.specs.Writing.{wireBytes}
-use Rattle.command_writer.specs.Options.{capabilityByte}
-
-returns : tie.Need-returns
-unfolding wireBytes bodyBytes formatOf partSizes keptCount filled width writeField writeFields le rejoinRequestFormat rejoinRequestValues capabilityField capabilityValues capabilityByte writeEntries
-returns c =
-    let a = c .before .before .before .before .before .before .before .args in
-    (c .before .before .put-two .ensures)
-    ∙ (λ i. over (a .out .now) 0 (0x06 ∷ c .before .before .before .capability-byte .ensures i ∷ []))
+use Rattle.command_writer.proofs.Layouts.{layouts}
 
 pub write-rejoin-request-spec : {M : Type 1} → statement M
+unfolding layouts
 write-rejoin-request-spec =
-    tie.close (tie.spec (λ c κs. search needs) (λ c κs. search needs) (λ c. search needs) returns)
+    tie.close (tie.spec (λ c κs. search needs) (λ c κs. search needs) (λ c. search needs)
+    (λ c. let put = c .before .before in rw (← put .before .capability-byte .ensures) (put .put-two .ensures)))

@@ -1,23 +1,11 @@
 -- `command_writer::encoders::write_timeout_request` meets its contract: one field behind the other. Assumes nothing.
 use borrow.Author.Needs.{needs}
-use mathlib.Core.Path.{_∙_}
-use mathlib.Core.List.{[], _∷_}
 use Rattle.command_writer.proofs.encoders.write_timeout_request.Statement.{statement}
 use Rattle.command_writer.proofs.encoders.write_timeout_request.Tie as tie
-use Rattle.octets.specs.Strings.{over}
-use Rattle.octets.specs.Numbers.{le}
-use Rattle.commands.specs.Format.{partSizes, keptCount, filled, width, writeField, writeFields, writeEntries, bodyBytes}
-use Rattle.commands.specs.Commands.{timeoutRequestFormat, timeoutRequestValues}
-use Rattle.commands.specs.Reading.{formatOf}
-use Rattle.commands.specs.Writing.{wireBytes}
-
-returns : tie.Need-returns
-unfolding wireBytes bodyBytes formatOf partSizes keptCount filled width writeField writeFields le timeoutRequestFormat timeoutRequestValues writeEntries
-returns c =
-    let a = c .before .before .before .before .before .before .args in
-    (c .before .before .put-three .ensures)
-    ∙ (λ i. over (a .out .now) 0 (0x0b ∷ c .before .before .before .code .ensures i ∷ a .c .«end_device_configuration» ∷ []))
+use Rattle.command_writer.proofs.Layouts.{layouts}
 
 pub write-timeout-request-spec : {M : Type 1} → statement M
+unfolding layouts
 write-timeout-request-spec =
-    tie.close (tie.spec (λ c κs. search needs) (λ c κs. search needs) (λ c. search needs) returns)
+    tie.close (tie.spec (λ c κs. search needs) (λ c κs. search needs) (λ c. search needs)
+    (λ c. let put = c .before .before in rw (← put .before .code .ensures) (put .put-three .ensures)))

@@ -11,12 +11,12 @@ use Rattle.command_writer.specs.Options.{capabilityByte}
 returns : tie.Need-returns
 unfolding packed capabilityByte capabilityValues
 returns c =
-    omega (arith, ap bit (c .before .before .before .before .before .before .before .before .bit .ensures), ap bit (c .before .before .before .before .before .before .bit2 .ensures))
+    let power = c .before .before .before .before .before .before in
+    omega (arith, ap bit (power .before .before .bit .ensures), ap bit (power .bit2 .ensures))
 
 pub capability-byte-spec : {M : Type 1} → statement M
 capability-byte-spec =
-    tie.close
-    (tie.spec (λ c κs. search needs) (λ c κs. search needs) (λ c κs. search needs) (λ c. search needs)
+    tie.close (tie.spec (λ c κs. search needs) (λ c κs. search needs) (λ c κs. search needs) (λ c. search needs)
     (λ c. search needs) (λ c κs. search needs) (λ c κs. search needs) (λ c. search needs) (λ c. search needs)
     (λ c κs. search needs) (λ c. search needs) (λ c. search needs) (λ c κs. search needs) (λ c κs. search needs)
     (λ c. search needs) (λ c. search needs) (λ c κs. search needs) (λ c. search needs) (λ c. search needs)

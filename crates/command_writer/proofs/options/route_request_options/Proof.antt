@@ -1,13 +1,9 @@
 -- `command_writer::options::route_request_options` meets its contract: the parts' sum is the packed byte. Assumes nothing.
 use borrow.Author.Needs.{needs}
-use native.Mathlib.Omega.{arith}
 use Rattle.command_writer.proofs.options.route_request_options.Statement.{statement}
 use Rattle.command_writer.proofs.options.route_request_options.Tie as tie
 use Rattle.octets.specs.Fields.{packed}
 
-returns : tie.Need-returns
-unfolding packed
-returns c = omega arith
-
 pub route-request-options-spec : {M : Type 1} → statement M
-route-request-options-spec = tie.close (tie.spec (λ c. search needs) (λ c. search needs) (λ c. search needs) returns)
+unfolding packed
+route-request-options-spec = tie.close (tie.spec (λ c. search needs) (λ c. search needs) (λ c. search needs) (λ c. search needs))
