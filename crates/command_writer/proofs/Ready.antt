@@ -20,7 +20,7 @@ use Rattle.commands.proofs.Lengths.{length-wire}
 use Rattle.commands.proofs.InRange.{InRange, misfits-test}
 use Rattle.commands.proofs.RoundTrip.{Accepted, accepts}
 use Rattle.command_writer.specs.Options.{LowCosts}
-use Rattle.command_writer.proofs.Layouts.{formats}
+use Rattle.commands.proofs.Layouts.{formats, contents}
 use Rattle.types.specs.declared.OptionEui64.{OptionEui64}
 use Rattle.commands.specs.declared.{NwkCommandId.NwkCommandId, NwkCommand.NwkCommand, NwkCommandWithLists.NwkCommandWithLists, NwkLinkStatus.NwkLinkStatus}
 
@@ -52,7 +52,7 @@ addresses-length : (a b : OptionEui64) → length (addressEntry a ++ addressEntr
 addresses-length a b = length-append (addressEntry a) (addressEntry b) ∙ rw (address-length a, address-length b)
 
 pub length-by : (c : NwkCommand) (f : NwkCommandWithLists) → length (wireBytes (wireOf c f)) ≡ lengthBy c f
-unfolding formats wireOf wireBytes firsts size sizes
+unfolding formats contents wireOf wireBytes firsts size sizes
 length-by (NwkCommand.RouteRequest c) f = length-wire NwkCommandId.RouteRequest _ ∙ rw (address-length (c .«destination_eui64»)) (omega arith)
 length-by (NwkCommand.RouteReply c) f = length-wire NwkCommandId.RouteReply _ ∙ rw (addresses-length (c .«originator_eui64») (c .«responder_eui64»)) (omega arith)
 length-by (NwkCommand.NetworkStatus c) f = length-wire NwkCommandId.NetworkStatus _

@@ -13,7 +13,8 @@ use Rattle.commands.proofs.Format.{entries-append}
 use Rattle.types.specs.declared.OptionEui64.{OptionEui64}
 use Rattle.commands.specs.declared.{NwkCommandId.NwkCommandId, NwkRouteReplyCommand.NwkRouteReplyCommand}
 use Rattle.command_writer.specs.Reply.{replyHead}
-use Rattle.command_writer.proofs.Layouts.{formats, layouts}
+use Rattle.commands.proofs.Layouts.{formats, contents}
+use Rattle.command_writer.proofs.Layouts.{layouts}
 
 -- the bytes of an optional address
 abbrev pub addressBytes : OptionEui64 → List ℕ
@@ -39,5 +40,5 @@ responder-at c n e =
 
 pub reply-bytes : (c : NwkRouteReplyCommand)
     → (replyHead c ++ addressBytes (c .«originator_eui64»)) ++ addressBytes (c .«responder_eui64») ≡ wireBytes (body NwkCommandId.RouteReply (routeReplyValues c))
-unfolding formats wireBytes bodyBytes replyHead
+unfolding formats contents wireBytes bodyBytes replyHead
 reply-bytes c = append-assoc (replyHead c) _ _ ∙ ap (λ (l : List ℕ). replyHead c ++ l) (sym (entries-append (routeRequestFormat .entry) _ _))

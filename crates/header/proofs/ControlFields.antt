@@ -11,10 +11,9 @@ use borrow.Author.Tests.{ltb-false}
 use lib.ListN.{getD}
 use lib.Dec.{eqb, ltb}
 use Rattle.octets.proofs.Conditions.{or-false}
-use Rattle.octets.specs.Fields.{fields, packed, bitsOf, Held}
+use Rattle.octets.specs.Fields.{fields, packed, bitsOf, Held, bit}
 use Rattle.octets.proofs.Fields.{fields-packed, packed-fields, packed-lt}
 use Rattle.header.specs.declared.{control.NwkFrameControl.NwkFrameControl, auxiliary.NwkSecurityHeaderControlField.NwkSecurityHeaderControlField}
-use Rattle.octets.specs.Fields.{bit}
 use Rattle.header.specs.Control.{controlSizes, controlValues, controlFrom, controlWord, controlOf}
 use Rattle.header.specs.AuxiliaryControl.{securitySizes, securityValues, securityFrom, securityByte, securityOf}
 use Rattle.header.specs.Writing.{badControl}

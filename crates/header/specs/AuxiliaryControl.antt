@@ -5,9 +5,8 @@ use Prim.Native.Nat.{ℕ, zero, suc}
 use mathlib.Core.List.{List, [], _∷_}
 use lib.ListN.{getD}
 use lib.Dec.{eqb}
-use Rattle.octets.specs.Fields.{fields, packed}
+use Rattle.octets.specs.Fields.{fields, packed, bit}
 use Rattle.header.specs.declared.{auxiliary.NwkSecurityLevel.NwkSecurityLevel, auxiliary.NwkSecurityHeaderKeyId.NwkSecurityHeaderKeyId, auxiliary.NwkSecurityHeaderControlField.NwkSecurityHeaderControlField}
-use Rattle.octets.specs.Fields.{bit}
 
 -- bits 0-2 level, 3-4 key id, 5 extended nonce, 6 verified counter, 7 skipped
 abbrev pub securitySizes : List ℕ

@@ -4,9 +4,8 @@ use Prim.Native.Nat.{ℕ, zero, suc}
 use mathlib.Core.List.{List, [], _∷_}
 use lib.ListN.{getD}
 use lib.Dec.{eqb}
-use Rattle.octets.specs.Fields.{fields, packed}
+use Rattle.octets.specs.Fields.{fields, packed, bit}
 use Rattle.header.specs.declared.{control.NwkFrameType.NwkFrameType, control.NwkRouteDiscovery.NwkRouteDiscovery, control.NwkFrameControl.NwkFrameControl}
-use Rattle.octets.specs.Fields.{bit}
 
 -- bits 0-1 type, 2-5 version, 6-7 discovery, 8 multicast, 9 security, 10 source route, 11 destination IEEE,
 -- 12 source IEEE, 13 end device initiator, 14-15 kept

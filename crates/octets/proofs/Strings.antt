@@ -97,8 +97,8 @@ pub over-then : {A : Type 0} (o o₁ o₂ : List A) (i j : ℕ) (xs ys : List A)
 over-then o o₁ o₂ i j xs ys h e p q = q ∙ ap (λ (l : List _). over l j ys) p ∙ over-over o i j xs ys h e
 
 -- the same at the front
-pub behind : {A : Type 0} {o₁ o₂ : List A} (o xs ys : List A) (j : ℕ) → o₁ ≡ over o 0 xs → o₂ ≡ over o₁ j ys → j ≡ length xs → o₂ ≡ over o 0 (xs ++ ys)
-behind o xs ys j p q e = over-then o _ _ 0 j xs ys (omega arith) (e ∙ sym (zero-add (length xs))) p q
+pub behind : {A : Type 0} {o₁ o₂ : List A} (o xs ys : List A) → o₁ ≡ over o 0 xs → o₂ ≡ over o₁ (length xs) ys → o₂ ≡ over o 0 (xs ++ ys)
+behind o xs ys p q = over-then o _ _ 0 (length xs) xs ys (omega arith) (sym (zero-add (length xs))) p q
 
 -- three writes, each right behind the one before
 pub over-three : {A : Type 0} (o o₁ o₂ o₃ : List A) (i j k : ℕ) (xs ys zs : List A) → i ≤ length o

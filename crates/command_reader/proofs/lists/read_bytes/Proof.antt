@@ -21,7 +21,7 @@ loop-again : tie.Need-loop-again Inv-loop μ-loop
 loop-again c = fill-next (c .before .before .loop .inv) (omega arith) (omega arith) refl
 
 returns : tie.Need-returns Inv-loop μ-loop
-returns c = fill-all (c .before .loop .inv) (c .loop-test .left) ∙ ap (places 0 108) (tab-whole _)
+returns c = fill-all (c .before .loop .inv) (c .loop-test .left) ∙ ap (places 0 108) (tab-whole _ 0)
 
 pub read-bytes-spec : {M : Type 1} → statement M
 read-bytes-spec =

@@ -1,6 +1,5 @@
 -- `put_commissioning_request` meets its contract: two parts, one right behind the other. Assumes nothing.
 use borrow.Author.Needs.{needs}
-use mathlib.Core.Path.{refl}
 use Rattle.command_records.proofs.fields.put_commissioning_request.Statement.{statement}
 use Rattle.command_records.proofs.fields.put_commissioning_request.Tie as tie
 use Rattle.octets.proofs.Strings.{behind}
@@ -11,7 +10,7 @@ unfolding fieldBytes
 returns c =
     let capability = c .before .before in
     let values = capability .before .before .before .before in
-    rw (← values .before .before .before .code .ensures) (behind _ _ _ _ (values .copy-at .ensures) (capability .put-capability .ensures) refl)
+    rw (← values .before .before .before .code .ensures) (behind _ _ _ (values .copy-at .ensures) (capability .put-capability .ensures))
 
 pub put-commissioning-request-spec : {M : Type 1} → statement M
 put-commissioning-request-spec =

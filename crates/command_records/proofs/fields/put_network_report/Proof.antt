@@ -1,6 +1,5 @@
 -- `put_network_report` meets its contract: two parts, one right behind the other. Assumes nothing.
 use borrow.Author.Needs.{needs}
-use mathlib.Core.Path.{refl}
 use Rattle.command_records.proofs.fields.put_network_report.Statement.{statement}
 use Rattle.command_records.proofs.fields.put_network_report.Tie as tie
 use Rattle.octets.proofs.Strings.{behind}
@@ -11,7 +10,7 @@ unfolding fieldBytes
 returns c =
     let epid = c .before .before in
     let values = epid .before .before .before .before in
-    rw (← values .before .before .before .code .ensures) (behind _ _ _ _ (values .copy-at .ensures) (epid .put-u64 .ensures) refl)
+    rw (← values .before .before .before .code .ensures) (behind _ _ _ (values .copy-at .ensures) (epid .put-u64 .ensures))
 
 pub put-network-report-spec : {M : Type 1} → statement M
 put-network-report-spec =

@@ -1,6 +1,5 @@
 -- `put_network_update` meets its contract: four parts, each right behind the one before. Assumes nothing.
 use borrow.Author.Needs.{needs}
-use mathlib.Core.Path.{refl}
 use Rattle.command_records.proofs.fields.put_network_update.Statement.{statement}
 use Rattle.command_records.proofs.fields.put_network_update.Tie as tie
 use Rattle.octets.specs.Numbers.{le}
@@ -15,9 +14,9 @@ returns c =
     let epid = updateId .before .before .before .before in
     let values = epid .before .before .before .before in
     rw (← values .before .before .before .code .ensures)
-    (behind _ _ _ _
-    (behind _ _ _ _ (behind _ _ _ _ (values .copy-at .ensures) (epid .put-u64 .ensures) refl) (updateId .put-byte .ensures) refl)
-    (panId .put-u16 .ensures) refl)
+    (behind _ _ _
+    (behind _ _ _ (behind _ _ _ (values .copy-at .ensures) (epid .put-u64 .ensures)) (updateId .put-byte .ensures))
+    (panId .put-u16 .ensures))
 
 pub put-network-update-spec : {M : Type 1} → statement M
 put-network-update-spec =

@@ -1,6 +1,5 @@
 -- `put_route_request` meets its contract: four parts, each right behind the one before. Assumes nothing.
 use borrow.Author.Needs.{needs}
-use mathlib.Core.Path.{refl}
 use Rattle.command_records.proofs.fields.put_route_request.Statement.{statement}
 use Rattle.command_records.proofs.fields.put_route_request.Tie as tie
 use Rattle.octets.specs.Numbers.{le}
@@ -15,9 +14,9 @@ returns c =
     let destination = cost .before .before .before .before in
     let values = destination .before .before .before .before in
     rw (← values .before .before .before .code .ensures)
-    (behind _ _ _ _
-    (behind _ _ _ _ (behind _ _ _ _ (values .copy-at .ensures) (destination .put-u16 .ensures) refl) (cost .put-byte .ensures) refl)
-    (address .put-address .ensures) refl)
+    (behind _ _ _
+    (behind _ _ _ (behind _ _ _ (values .copy-at .ensures) (destination .put-u16 .ensures)) (cost .put-byte .ensures))
+    (address .put-address .ensures))
 
 pub put-route-request-spec : {M : Type 1} → statement M
 put-route-request-spec =

@@ -2,7 +2,8 @@
 use borrow.Author.Needs.{needs}
 use Rattle.command_writer.proofs.encoders.write_route_record.Statement.{statement}
 use Rattle.command_writer.proofs.encoders.write_route_record.Tie as tie
-use Rattle.command_writer.proofs.Layouts.{layouts, behind}
+use Rattle.octets.proofs.Strings.{behind}
+use Rattle.command_writer.proofs.Layouts.{layouts}
 
 pub write-route-record-spec : {M : Type 1} → statement M
 unfolding layouts

@@ -2,7 +2,8 @@
 use borrow.Author.Needs.{needs}
 use Rattle.command_writer.proofs.encoders.write_route_reply_head.Statement.{statement}
 use Rattle.command_writer.proofs.encoders.write_route_reply_head.Tie as tie
-use Rattle.command_writer.proofs.Layouts.{layouts, behind}
+use Rattle.octets.proofs.Strings.{behind}
+use Rattle.command_writer.proofs.Layouts.{layouts}
 
 returns : tie.Need-returns
 unfolding layouts

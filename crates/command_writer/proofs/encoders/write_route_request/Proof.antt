@@ -4,7 +4,8 @@ use native.Mathlib.Omega.{arith}
 use Rattle.commands.proofs.CodeLaws.{manyToOne-lt}
 use Rattle.command_writer.proofs.encoders.write_route_request.Statement.{statement}
 use Rattle.command_writer.proofs.encoders.write_route_request.Tie as tie
-use Rattle.command_writer.proofs.Layouts.{layouts, behind}
+use Rattle.octets.proofs.Strings.{behind}
+use Rattle.command_writer.proofs.Layouts.{layouts}
 
 route-request-options-requires : tie.Need-route-request-options-requires
 route-request-options-requires c κs =

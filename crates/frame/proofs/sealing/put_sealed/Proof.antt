@@ -7,10 +7,9 @@ use lib.ListN.{length}
 use Rattle.frame.proofs.sealing.put_sealed.Statement.{statement}
 use Rattle.frame.proofs.sealing.put_sealed.Tie as tie
 use Rattle.octets.specs.Strings.{over}
-use Rattle.octets.proofs.Strings.{over-then}
+use Rattle.octets.proofs.Strings.{over-then, part-over}
 use Rattle.ccm.specs.Operations.{sealedBy}
 use Rattle.ccm.proofs.Opening.{length-ciphertext}
-use Rattle.octets.proofs.Strings.{part-over}
 
 returns : tie.Need-returns
 returns c =

@@ -1,11 +1,10 @@
 -- `types::Eui64::deserialize` meets its contract: below eight bytes nothing, else the first eight. Assumes nothing.
 use borrow.Author.Needs.{needs}
-use mathlib.Core.Path.{refl}
+use mathlib.Core.Path.{refl, sym}
 use borrow.Author.Tests.{lt-ltb, le-ltb}
 use lib.Seq.{length-take-le}
 use native.Mathlib.Omega.{arith}
 use lib.ListN.{take}
-use mathlib.Core.Path.{sym}
 use Rattle.types.proofs.Eui64.deserialize.Statement.{statement}
 use Rattle.types.proofs.Eui64.deserialize.Tie as tie
 use Rattle.octets.specs.Strings.{tab}
