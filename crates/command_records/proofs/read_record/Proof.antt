@@ -29,8 +29,8 @@ returns-2 c =
 returns-3 : tie.Need-returns-3
 unfolding recordedBy
 returns-3 c =
-    ap readAs (c .with-lists-at .ensures)
-    ∙ whole (c .before .before .before .before .before) (c .before .before .before .before .command-at .ensures) (c .before .before .said .given .1)
+    let known = c .before .before in
+    ap readAs (c .with-lists-at .ensures) ∙ whole (known .before .before .before) (known .before .before .command-at .ensures) (known .said .given .1)
 
 pub read-record-spec : {M : Type 1} → statement M
 read-record-spec =
