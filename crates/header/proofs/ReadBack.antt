@@ -17,7 +17,8 @@ use Rattle.octets.proofs.Conditions.{accepted, or-false}
 use Rattle.octets.proofs.Strings.{tab-ext, getD-tab}
 use Rattle.octets.proofs.Numbers.{length-le, leAt-le, leAt-behind}
 use Rattle.header.specs.declared.{control.NwkFrameControl.NwkFrameControl, optional.NwkSourceRoute.NwkSourceRoute, nwk.NwkHeader.NwkHeader}
-use Rattle.header.specs.Optional.{multicastIf, multicastBytes, hasMulticast, routeIf, routeBytes, relayCount}
+use Rattle.header.specs.Optional.{multicastIf, multicastBytes, hasMulticast, routeIf, routeBytes, relayCount, noRelay}
+use Rattle.types.specs.Addresses.{nwk}
 use Rattle.types.specs.Optional.{ieeeIf, ieeeBytes, hasIeee}
 use Rattle.octets.specs.Fields.{bit}
 use Rattle.header.specs.Control.{controlWord, controlOf}
@@ -93,7 +94,7 @@ module _ (h : NwkHeader) (agrees : Agrees h) where
 -- ---- what reading finds
 
 -- a choice by one test, where the two values agree if the test holds
-cond-same : (b : Bool) (x y z : ℕ) → (b ≡ true → x ≡ y) → cond b x z ≡ cond b y z
+cond-same : {A : Type 0} (b : Bool) (x y z : A) → (b ≡ true → x ≡ y) → cond b x z ≡ cond b y z
 cond-same true x y z h = h refl
 cond-same false x y z h = refl
 
@@ -183,12 +184,12 @@ module _ (h : NwkHeader) (rest : List ℕ) (fits : HeaderFits h) (agrees : Agree
       ∙ ap relayCount route-read
 
   relay-read : (i : ℕ) → i < relayCount (h .«source_route»)
-      → leAt 2 (headerBytes h ++ rest) (routeAt (h .«frame_control») + 2 + 2 * i) ≡ getD (h .relays) i 0
+      → nwk (leAt 2 (headerBytes h ++ rest) (routeAt (h .«frame_control») + 2 + 2 * i)) ≡ getD (h .relays) i noRelay
   unfolding R
   relay-read i l =
-      ap (leAt 2 (headerBytes h ++ rest)) (add-assoc (routeAt (h .«frame_control»)) 2 (2 * i))
+      ap nwk (ap (leAt 2 (headerBytes h ++ rest)) (add-assoc (routeAt (h .«frame_control»)) 2 (2 * i))
       ∙ (λ k. leAt 2 (at-route h rest k) (sym (route-place h agrees) k + (2 + 2 * i)))
-      ∙ leAt-behind 2 (((fixedBytes h ++ D h) ++ S h) ++ Mc h) (R h ++ rest) (2 + 2 * i)
+      ∙ leAt-behind 2 (((fixedBytes h ++ D h) ++ S h) ++ Mc h) (R h ++ rest) (2 + 2 * i))
       ∙ route-relays (h .«source_route») (h .relays) rest i (fits .route) (fits .relays) l
 
   relays-read : relaysOf (headerBytes h ++ rest) (h .«frame_control») ≡ cleared h .relays
@@ -196,8 +197,8 @@ module _ (h : NwkHeader) (rest : List ℕ) (fits : HeaderFits h) (agrees : Agree
   relays-read =
       tab-ext _ _ 54
       (λ i l.
-      ap (λ (n : ℕ). cond (ltb i n) (leAt 2 (headerBytes h ++ rest) (routeAt (h .«frame_control») + 2 + 2 * i)) 0) count-read
-      ∙ cond-same (ltb i (relayCount (h .«source_route»))) _ _ 0 (λ t. relay-read i (ltb-true i (relayCount (h .«source_route»)) t)))
+      ap (λ (n : ℕ). cond (ltb i n) (nwk (leAt 2 (headerBytes h ++ rest) (routeAt (h .«frame_control») + 2 + 2 * i))) noRelay) count-read
+      ∙ cond-same (ltb i (relayCount (h .«source_route»))) _ _ noRelay (λ t. relay-read i (ltb-true i (relayCount (h .«source_route»)) t)))
 
   end-read : headerEnd (headerBytes h ++ rest) (h .«frame_control») ≡ length (headerBytes h)
   unfolding headerEnd R
@@ -287,8 +288,8 @@ same-cleared h good =
       multicast = refl;
       route = refl;
       relays = λ i l.
-          sym (getD-tab _ 54 i 0 (omega arith)
-          ∙ ap (λ (b : Bool). cond b (getD (h .relays) i 0) 0) (lt-ltb i (relayCount (h .«source_route»)) l));
+          sym (getD-tab _ 54 i noRelay (omega arith)
+          ∙ ap (λ (b : Bool). cond b (getD (h .relays) i noRelay) noRelay) (lt-ltb i (relayCount (h .«source_route»)) l));
     }
 
 -- the same headers have the same bytes

@@ -12,12 +12,14 @@ use Rattle.octets.specs.Strings.{tab, Below}
 use Rattle.octets.specs.Numbers.{leAt}
 use Rattle.octets.proofs.Strings.{length-tab, getD-tab}
 use Rattle.octets.proofs.Numbers.{leAt-lt}
+use Rattle.types.specs.declared.Nwk.{Nwk}
+use Rattle.types.specs.Addresses.{nwk}
 use Rattle.types.specs.Optional.{ieeeIf}
 use Rattle.header.specs.declared.{control.NwkFrameControl.NwkFrameControl, auxiliary.NwkSecurityHeaderControlField.NwkSecurityHeaderControlField}
-use Rattle.header.specs.Optional.{multicastIf, routeIf}
+use Rattle.header.specs.Optional.{multicastIf, routeIf, noRelay}
 use Rattle.header.specs.Reading.{sourceAt, multicastAt, routeAt, relaysAnnounced, relaysOf, headerBy}
 use Rattle.header.specs.Auxiliary.{keySequenceAt, auxBy}
-use Rattle.header.specs.Same.{IeeeFits, MulticastFits, RouteFits, HeaderFits, AuxFits}
+use Rattle.header.specs.Same.{IeeeFits, MulticastFits, RouteFits, RelaysFit, HeaderFits, AuxFits}
 
 ieee-fits : (b : Bool) (x : ℕ) → x < 2 ^ 64 → IeeeFits (ieeeIf b x)
 ieee-fits true x h = h
@@ -31,16 +33,16 @@ route-fits : (b : Bool) (n i : ℕ) → n < 2 ^ 8 → i < 2 ^ 8 → RouteFits (r
 route-fits true n i h k = (h, k)
 route-fits false n i h k = tt
 
-cond-below : (b : Bool) (x m : ℕ) → 0 < m → x < m → cond b x 0 < m
-cond-below true x m z h = h
-cond-below false x m z h = z
+relay-fits : (b : Bool) (x : ℕ) → x < 2 ^ 16 → cond b (nwk x) noRelay .0 < 2 ^ 16
+relay-fits true x h = h
+relay-fits false x h = omega arith
 
--- a list whose entries are below m, and 0 past its end
-tab-below : (f : ℕ → ℕ) (n m : ℕ) → 0 < m → ((i : ℕ) → f i < m) → Below m (tab f n)
-tab-below f n m z h i =
+-- addresses within their range, and 0 past their end
+relays-fit : (f : ℕ → Nwk) (n : ℕ) → ((i : ℕ) → f i .0 < 2 ^ 16) → RelaysFit (tab f n)
+relays-fit f n h i =
     elim (decLt i n) [
-      | yes l ↦ rw (getD-tab f n i 0 l) (h i)
-      | no l ↦ rw (List·getD-eq-default (tab f n) 0 {n = i} (rw (length-tab f n) (omega arith))) z
+      | yes l ↦ rw (getD-tab f n i noRelay l) (h i)
+      | no l ↦ rw (List·getD-eq-default (tab f n) noRelay {n = i} (rw (length-tab f n) (omega arith))) (omega arith)
     ]
 
 pub read-fits : (f : List ℕ) (c : NwkFrameControl) → Below 256 f → HeaderFits (headerBy f c)
@@ -55,7 +57,7 @@ read-fits f c u =
       sourceIeee = ieee-fits (c .«extended_source») (leAt 8 f (sourceAt c)) (leAt-lt 8 f (sourceAt c) u);
       multicast = multicast-fits (c .multicast) (getD f (multicastAt c) 0) (u (multicastAt c));
       route = route-fits (c .«source_route») (getD f (routeAt c) 0) (getD f (routeAt c + 1) 0) (u (routeAt c)) (u (routeAt c + 1));
-      relays = tab-below _ 54 (2 ^ 16) (omega arith) (λ i. cond-below (ltb i (relaysAnnounced f c)) _ (2 ^ 16) (omega arith) (leAt-lt 2 f (routeAt c + 2 + 2 * i) u));
+      relays = relays-fit _ 54 (λ i. relay-fits (ltb i (relaysAnnounced f c)) _ (leAt-lt 2 f (routeAt c + 2 + 2 * i) u));
     }
 
 pub aux-read-fits : (f : List ℕ) (c : NwkSecurityHeaderControlField) → Below 256 f → AuxFits (auxBy f c)

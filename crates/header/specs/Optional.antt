@@ -5,6 +5,8 @@ use mathlib.Core.Bool.{Bool, true, false}
 use mathlib.Core.List.{List, [], _++_}
 use lib.ListN.{getD}
 use Rattle.octets.specs.Numbers.{le}
+use Rattle.types.specs.declared.Nwk.{Nwk}
+use Rattle.types.specs.Addresses.{nwk}
 use Rattle.header.specs.declared.{optional.OptionMulticast.OptionMulticast, optional.NwkSourceRoute.NwkSourceRoute}
 
 -- ---- the multicast control byte
@@ -36,11 +38,15 @@ abbrev pub relayCount : NwkSourceRoute → ℕ
 relayCount NwkSourceRoute.Absent = 0
 relayCount (NwkSourceRoute.Present n i) = n
 
--- the first n relays
-unfoldable pub relayBytes : ℕ → List ℕ → List ℕ
-relayBytes zero rs = []
-relayBytes (suc n) rs = relayBytes n rs ++ le 2 (getD rs n 0)
+-- the address past the relay count
+abbrev pub noRelay : Nwk
+noRelay = nwk 0
 
-abbrev pub routeBytes : NwkSourceRoute → List ℕ → List ℕ
+-- the first n relays
+unfoldable pub relayBytes : ℕ → List Nwk → List ℕ
+relayBytes zero rs = []
+relayBytes (suc n) rs = relayBytes n rs ++ le 2 (getD rs n noRelay .0)
+
+abbrev pub routeBytes : NwkSourceRoute → List Nwk → List ℕ
 routeBytes NwkSourceRoute.Absent rs = []
 routeBytes (NwkSourceRoute.Present n i) rs = le 1 n ++ (le 1 i ++ relayBytes n rs)

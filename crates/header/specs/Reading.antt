@@ -10,7 +10,9 @@ use Rattle.octets.specs.Strings.{tab}
 use Rattle.octets.specs.Numbers.{leAt}
 use Rattle.octets.specs.Refusals.{unless, Condition, on, firstOf}
 use Rattle.header.specs.declared.{control.NwkFrameControl.NwkFrameControl, nwk.NwkHeader.NwkHeader, nwk.HeaderRead.HeaderRead}
-use Rattle.header.specs.Optional.{multicastIf, routeIf}
+use Rattle.header.specs.Optional.{multicastIf, routeIf, noRelay}
+use Rattle.types.specs.declared.Nwk.{Nwk}
+use Rattle.types.specs.Addresses.{nwk}
 use Rattle.types.specs.Optional.{ieeeIf}
 use Rattle.octets.specs.Fields.{bit}
 use Rattle.header.specs.Control.{controlOf}
@@ -62,15 +64,15 @@ headerRefusal f =
 -- ---- the record
 
 -- the addresses of the relays, and 0 past their count
-unfoldable pub relaysOf : List ℕ → NwkFrameControl → List ℕ
-relaysOf f c = tab (λ (i : ℕ). cond (ltb i (relaysAnnounced f c)) (leAt 2 f (routeAt c + 2 + 2 * i)) 0) 54
+unfoldable pub relaysOf : List ℕ → NwkFrameControl → List Nwk
+relaysOf f c = tab (λ (i : ℕ). cond (ltb i (relaysAnnounced f c)) (nwk (leAt 2 f (routeAt c + 2 + 2 * i))) noRelay) 54
 
 unfoldable pub headerBy : List ℕ → NwkFrameControl → NwkHeader
 headerBy f c =
     record {
       «frame_control» = c;
-      destination = record { 0 = leAt 2 f 2 };
-      source = record { 0 = leAt 2 f 4 };
+      destination = nwk (leAt 2 f 2);
+      source = nwk (leAt 2 f 4);
       radius = getD f 6 0;
       «sequence_number» = getD f 7 0;
       «destination_ieee» = ieeeIf (c .destination) (leAt 8 f 8);

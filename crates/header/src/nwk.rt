@@ -16,7 +16,8 @@ ghost use lib.ListN.{length};
 ghost use Rattle.octets.specs.Strings.{over};
 ghost use Rattle.octets.specs.Numbers.{le, leAt};
 ghost use Rattle.octets.specs.Refusals.{firstOf};
-ghost use Rattle.header.specs.Optional.{multicastBytes, routeBytes, relayCount};
+ghost use Rattle.header.specs.Optional.{multicastBytes, routeBytes, relayCount, noRelay};
+ghost use Rattle.types.specs.Addresses.{nwk};
 ghost use Rattle.types.specs.Optional.{ieeeBytes};
 ghost use Rattle.header.specs.Reading.{optionalRefusals, sourceAt, multicastAt, routeAt, relaysAnnounced, headerEnd, headerRefusal, relaysOf, headerBy, blankHeader, readHeader};
 ghost use Rattle.header.specs.Writing.{headerBytes, badHeader, fieldRefusal, headerWriteRefusal, writeHeader};
@@ -29,6 +30,9 @@ pub const MIN_HEADER_OVERHEAD: usize = 8;
 
 // How many relays a header has places for.
 pub const MAX_RELAYS: u8 = 54;
+
+// The address past the relay count.
+pub const NO_RELAY: Nwk = Nwk(0);
 
 // The broadcast addresses (Zigbee Specification 3.6.5).
 pub const BROADCAST_ALL_DEVICES: u16 = 0xFFFF;
@@ -51,7 +55,7 @@ pub struct NwkHeader {
     pub source_ieee: OptionEui64,
     pub multicast_control: OptionMulticast,
     pub source_route: NwkSourceRoute,
-    pub relays: [u16; 54],
+    pub relays: [Nwk; 54],
 }
 
 // What reading a header answers: a refusal's number with length 0 and a blank header, or 0, the header's length in
@@ -147,12 +151,12 @@ fn header_refusal(f: &[u8]) -> u8
 }
 
 // The relays at their places, and 0 past their count.
-fn relays_of(f: &[u8], c: NwkFrameControl) -> [u16; 54]
+fn relays_of(f: &[u8], c: NwkFrameControl) -> [Nwk; 54]
     ensures { λ r. ⌜ r ≡ relaysOf (now (f .entry)) c ⌝ }
 {
     let n = relays_announced(f, c);
     let first = route_at(c) + 2;
-    let mut relays = [0u16; 54];
+    let mut relays = [NO_RELAY; 54];
     let mut i = 0;
     while i < 54 {
         relays[i] = relay_at(f, first, i, n);
@@ -162,14 +166,14 @@ fn relays_of(f: &[u8], c: NwkFrameControl) -> [u16; 54]
 }
 
 // The relay at index i of n, the first standing at the place given.
-fn relay_at(f: &[u8], first: usize, i: usize, n: usize) -> u16
+fn relay_at(f: &[u8], first: usize, i: usize, n: usize) -> Nwk
     requires { ⌜ (first < 256) × (i < 54) ⌝ }
-    ensures { λ r. ⌜ r ≡ cond (ltb i n) (leAt 2 (now (f .entry)) (first + 2 * i)) 0 ⌝ }
+    ensures { λ r. ⌜ r ≡ cond (ltb i n) (nwk (leAt 2 (now (f .entry)) (first + 2 * i))) noRelay ⌝ }
 {
     if i < n {
-        octets::read_u16(f, first + 2 * i)
+        Nwk(octets::read_u16(f, first + 2 * i))
     } else {
-        0
+        NO_RELAY
     }
 }
 
@@ -188,7 +192,7 @@ impl NwkHeader {
             source_ieee: OptionEui64::Absent,
             multicast_control: OptionMulticast::Absent,
             source_route: NwkSourceRoute::Absent,
-            relays: [0u16; 54],
+            relays: [NO_RELAY; 54],
         }
     }
 
@@ -361,7 +365,7 @@ fn put_optional(
     source: OptionEui64,
     multicast: OptionMulticast,
     route: NwkSourceRoute,
-    relays: [u16; 54],
+    relays: [Nwk; 54],
 )
     requires { ⌜ (8 + length (ieeeBytes destination ++ (ieeeBytes source ++ (multicastBytes multicast ++ routeBytes route relays))) ≤ length (now out)) × (relayCount route ≤ 54) ⌝ }
     ensures { λ _. ⌜ now (out .exit) ≡ over (now (out .entry)) 8 (ieeeBytes destination ++ (ieeeBytes source ++ (multicastBytes multicast ++ routeBytes route relays))) ⌝ }

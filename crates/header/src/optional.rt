@@ -1,5 +1,5 @@
 // Fields that may be missing, beside the long addresses (`types::OptionEui64`).
-
+use types::Nwk;
 ghost use mathlib.Core.Path.{_≡_};
 ghost use Prim.Native.Nat.{_+_, _≤_};
 ghost use lib.ListN.{length};
@@ -84,7 +84,7 @@ impl NwkSourceRoute {
     }
 
     // How many bytes it takes in a frame.
-    pub fn size(self, relays: [u16; 54]) -> usize
+    pub fn size(self, relays: [Nwk; 54]) -> usize
         ensures { λ r. ⌜ (r ≡ length (routeBytes self relays)) × (r ≤ 512) ⌝ }
     {
         match self {
@@ -97,7 +97,7 @@ impl NwkSourceRoute {
     }
 
     // Write it at place i, its relays behind it.
-    pub fn put(self, relays: [u16; 54], out: &mut [u8], i: usize)
+    pub fn put(self, relays: [Nwk; 54], out: &mut [u8], i: usize)
         requires { ⌜ (i + length (routeBytes self relays) ≤ length (now out)) × (relayCount self ≤ 54) ⌝ }
         ensures { λ _. ⌜ now (out .exit) ≡ over (now (out .entry)) i (routeBytes self relays) ⌝ }
     {
@@ -114,7 +114,7 @@ impl NwkSourceRoute {
 }
 
 // Write a source route at place i: its count, its index and its relays.
-fn put_route(out: &mut [u8], i: usize, relay_count: u8, relay_index: u8, relays: [u16; 54])
+fn put_route(out: &mut [u8], i: usize, relay_count: u8, relay_index: u8, relays: [Nwk; 54])
     requires { ⌜ (i + length (routeBytes (NwkSourceRoute.Present «relay_count» «relay_index») relays) ≤ length (now out)) × («relay_count» ≤ 54) ⌝ }
     ensures { λ _. ⌜ now (out .exit) ≡ over (now (out .entry)) i (routeBytes (NwkSourceRoute.Present «relay_count» «relay_index») relays) ⌝ }
 {
@@ -124,13 +124,14 @@ fn put_route(out: &mut [u8], i: usize, relay_count: u8, relay_index: u8, relays:
 }
 
 // Write the first n relays at place i.
-fn put_relays(out: &mut [u8], i: usize, n: usize, relays: [u16; 54])
+fn put_relays(out: &mut [u8], i: usize, n: usize, relays: [Nwk; 54])
     requires { ⌜ (i + length (relayBytes n relays) ≤ length (now out)) × (n ≤ 54) ⌝ }
     ensures { λ _. ⌜ now (out .exit) ≡ over (now (out .entry)) i (relayBytes n relays) ⌝ }
 {
     let mut j = 0;
     while j < n {
-        octets::put_u16(out, i + 2 * j, relays[j]);
+        let relay = relays[j];
+        octets::put_u16(out, i + 2 * j, relay.0);
         j += 1;
     }
 }

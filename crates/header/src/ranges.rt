@@ -4,18 +4,13 @@ use crate::auxiliary::NwkAuxHeader;
 use crate::nwk::NwkHeader;
 use crate::optional::NwkSourceRoute;
 use crate::optional::OptionMulticast;
+use types::Nwk;
 use types::OptionEui64;
-ghost use Prim.Native.Nat.{_^_};
 ghost use Rattle.octets.specs.Strings.{Below};
-ghost use Rattle.header.specs.Same.{IeeeFits, MulticastFits, RouteFits, HeaderFits, AuxFits};
+ghost use Rattle.header.specs.Same.{IeeeFits, MulticastFits, RouteFits, RelaysFit, HeaderFits, AuxFits};
 
 // The number of a slice's bytes.
 fn count8(s: &[u8]) -> usize {
-    s.len()
-}
-
-// The number of a slice's 16-bit numbers.
-fn count16(s: &[u16]) -> usize {
     s.len()
 }
 
@@ -26,12 +21,10 @@ pub fn bytes_fit(f: &[u8])
     count8(f);
 }
 
-// Every 16-bit number of a slice is one.
-pub fn numbers_fit(f: &[u16])
-    ensures { λ _. ⌜ Below (2 ^ 16) (now (f .entry)) ⌝ }
-{
-    count16(f);
-}
+// Every relay is within its range.
+pub fn relays_fit(relays: [Nwk; 54])
+    ensures { λ _. ⌜ RelaysFit relays ⌝ }
+{}
 
 // Every optional long address is within its range.
 pub fn ieee_fits(o: OptionEui64)
@@ -86,7 +79,7 @@ pub fn header_fits(h: NwkHeader)
     ieee_fits(source_ieee);
     multicast_fits(multicast_control);
     route_fits(source_route);
-    numbers_fit(&relays);
+    relays_fit(relays);
 }
 
 // Every auxiliary header is within its types' ranges.

@@ -13,7 +13,7 @@ use lib.Seq.{getD-append-add}
 use Rattle.octets.specs.Strings.{Below}
 use Rattle.octets.specs.Numbers.{le}
 use Rattle.octets.proofs.Numbers.{le-below}
-use Rattle.types.specs.declared.OptionEui64.{OptionEui64}
+use Rattle.types.specs.declared.{Nwk.Nwk, OptionEui64.OptionEui64}
 use Rattle.header.specs.declared.{optional.OptionMulticast.OptionMulticast, optional.NwkSourceRoute.NwkSourceRoute, control.NwkFrameControl.NwkFrameControl, nwk.NwkHeader.NwkHeader, auxiliary.NwkAuxHeader.NwkAuxHeader}
 use Rattle.header.specs.Optional.{relayBytes}
 use Rattle.header.specs.Control.{controlValues}
@@ -58,10 +58,10 @@ joined (x ∷ xs) ys p q = cons x (xs ++ ys) (p .each 0) (joined xs ys (record {
 number : (n x : ℕ) → Bytes (le n x)
 number n x = record { each = le-below n x }
 
-relays-bytes : (n : ℕ) (rs : List ℕ) → Bytes (relayBytes n rs)
+relays-bytes : (n : ℕ) (rs : List Nwk) → Bytes (relayBytes n rs)
 unfolding relayBytes
 relays-bytes zero rs = written-out [] tt
-relays-bytes (suc n) rs = joined (relayBytes n rs) (le 2 (getD rs n 0)) (relays-bytes n rs) (number 2 (getD rs n 0))
+relays-bytes (suc n) rs = joined (relayBytes n rs) _ (relays-bytes n rs) (number 2 _)
 
 control-bytes : (c : NwkFrameControl) → c .«protocol_version» < 16 → c .reserved1 < 4 → Bytes (controlValues c)
 control-bytes c v k =

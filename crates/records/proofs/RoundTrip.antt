@@ -4,7 +4,7 @@
 use mathlib.Core.Path.{_≡_, refl, sym, ap, _∙_}
 use mathlib.Core.Bool.{Bool}
 use mathlib.Core.List.{List, [], _++_, append-nil}
-use Prim.Native.Nat.{ℕ, _+_, _*_, _^_, _<_}
+use Prim.Native.Nat.{ℕ, _+_, _*_}
 use native.Mathlib.Nat.{mod-eq-of-lt}
 use native.Mathlib.Omega.{arith}
 use lib.ListN.{length, getD}
@@ -12,11 +12,12 @@ use lib.Seq.{take-all}
 use Rattle.octets.specs.Numbers.{le, leAt}
 use Rattle.octets.proofs.Strings.{tab-ext, tab-getD}
 use Rattle.octets.proofs.Numbers.{leAt-le, leAt-behind}
-use Rattle.types.specs.declared.OptionEui64.{OptionEui64}
+use Rattle.types.specs.declared.{Nwk.Nwk, OptionEui64.OptionEui64}
+use Rattle.types.specs.Addresses.{nwk}
 use Rattle.header.specs.declared.{optional.OptionMulticast.OptionMulticast, optional.NwkSourceRoute.NwkSourceRoute, control.NwkFrameControl.NwkFrameControl, nwk.NwkHeader.NwkHeader, auxiliary.NwkAuxHeader.NwkAuxHeader}
 use Rattle.header.specs.Control.{controlValues, controlFrom}
-use Rattle.header.specs.Optional.{relayBytes}
-use Rattle.header.specs.Same.{IeeeFits, MulticastFits, RouteFits, HeaderFits, AuxFits}
+use Rattle.header.specs.Optional.{noRelay, relayBytes}
+use Rattle.header.specs.Same.{IeeeFits, MulticastFits, RouteFits, RelaysFit, HeaderFits, AuxFits}
 use Rattle.header.proofs.Codes.{bit-back, type-back, discovery-back, level-back, keyId-back}
 use Rattle.header.proofs.OptionalFields.{relay-at}
 use Rattle.records.specs.Optional.{ieeeRecord, ieeeIn, multicastRecord, multicastIn, routeRecord, routeIn}
@@ -66,13 +67,13 @@ front h = controlValues (h .«frame_control») ++ addressRecord (h .destination 
 abbrev beforeRelays : NwkHeader → List ℕ
 beforeRelays h = front h ++ (ieeeRecord (h .«destination_ieee») ++ (ieeeRecord (h .«source_ieee») ++ (multicastRecord (h .«multicast_control») ++ routeRecord (h .«source_route»))))
 
-relays-back : (p rs : List ℕ) (i : ℕ) → length p ≡ i → length rs ≡ 54 → ((k : ℕ) → getD rs k 0 < 2 ^ 16) → relaysFrom (p ++ relayBytes 54 rs) i ≡ rs
+relays-back : (p : List ℕ) (rs : List Nwk) (i : ℕ) → length p ≡ i → length rs ≡ 54 → RelaysFit rs → relaysFrom (p ++ relayBytes 54 rs) i ≡ rs
 unfolding relaysFrom
 relays-back p rs i e l b =
-    tab-ext _ (λ (k : ℕ). getD rs k 0) 54
-    (λ k s. ap (λ (n : ℕ). leAt 2 (p ++ relayBytes 54 rs) (n + 2 * k)) (sym e) ∙ leAt-behind 2 p (relayBytes 54 rs) (2 * k)
-    ∙ ap (λ (s : List ℕ). leAt 2 s (2 * k)) (sym (append-nil (relayBytes 54 rs))) ∙ relay-at 54 rs [] k b s)
-    ∙ tab-getD rs 0 54 (omega arith) ∙ take-all 54 rs (omega arith)
+    tab-ext _ (λ (k : ℕ). getD rs k noRelay) 54
+    (λ k s. ap nwk (ap (λ (n : ℕ). leAt 2 (p ++ relayBytes 54 rs) (n + 2 * k)) (sym e) ∙ leAt-behind 2 p (relayBytes 54 rs) (2 * k)
+    ∙ ap (λ (s : List ℕ). leAt 2 s (2 * k)) (sym (append-nil (relayBytes 54 rs)))) ∙ relay-at 54 rs [] k b s)
+    ∙ tab-getD rs noRelay 54 (omega arith) ∙ take-all 54 rs (omega arith)
 
 -- the header of a header's record, whose relays have their 54 places
 pub header-back : (h : NwkHeader) → HeaderFits h → length (h .relays) ≡ 54 → headerOf (headerRecord h) ≡ h

@@ -10,6 +10,8 @@ use lib.ListN.{length, getD}
 use lib.Dec.{eqb}
 use Rattle.octets.specs.Strings.{tab}
 use Rattle.octets.specs.Numbers.{le, leAt}
+use Rattle.types.specs.declared.Nwk.{Nwk}
+use Rattle.types.specs.Addresses.{nwk}
 use Rattle.header.specs.declared.nwk.NwkHeader.{NwkHeader}
 use Rattle.header.specs.Control.{controlValues, controlFrom}
 use Rattle.header.specs.Optional.{relayBytes}
@@ -38,15 +40,15 @@ headerRecord h =
 -- ---- the header of a record
 
 -- the relays from place i on
-unfoldable pub relaysFrom : List ℕ → ℕ → List ℕ
-relaysFrom r i = tab (λ (k : ℕ). leAt 2 r (i + 2 * k)) 54
+unfoldable pub relaysFrom : List ℕ → ℕ → List Nwk
+relaysFrom r i = tab (λ (k : ℕ). nwk (leAt 2 r (i + 2 * k))) 54
 
 unfoldable pub headerOf : List ℕ → NwkHeader
 headerOf r =
     record {
       «frame_control» = controlFrom r;
-      destination = record { 0 = leAt 2 r 10 };
-      source = record { 0 = leAt 2 r 12 };
+      destination = nwk (leAt 2 r 10);
+      source = nwk (leAt 2 r 12);
       radius = getD r 14 0;
       «sequence_number» = getD r 15 0;
       «destination_ieee» = ieeeIn r 16;

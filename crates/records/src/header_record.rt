@@ -9,6 +9,7 @@ use crate::optional::route_in;
 use header::control::NwkFrameControl;
 use header::control::NwkFrameType;
 use header::control::NwkRouteDiscovery;
+use header::nwk::NO_RELAY;
 use header::nwk::NwkHeader;
 use header::optional::NwkSourceRoute;
 use header::optional::OptionMulticast;
@@ -133,19 +134,20 @@ fn put_optional(
 }
 
 // Write the 54 relays at place 39.
-fn put_relays(out: &mut [u8], relays: [u16; 54])
+fn put_relays(out: &mut [u8], relays: [Nwk; 54])
     requires { ⌜ 147 ≤ length (now out) ⌝ }
     ensures { λ _. ⌜ now (out .exit) ≡ over (now (out .entry)) 39 (relayBytes 54 relays) ⌝ }
 {
     let mut j = 0;
     while j < 54 {
-        octets::put_u16(out, 39 + 2 * j, relays[j]);
+        let relay = relays[j];
+        octets::put_u16(out, 39 + 2 * j, relay.0);
         j += 1;
     }
 }
 
 // Write the source route and its relays at their places.
-fn put_source_route(out: &mut [u8], route: NwkSourceRoute, relays: [u16; 54])
+fn put_source_route(out: &mut [u8], route: NwkSourceRoute, relays: [Nwk; 54])
     requires { ⌜ 147 ≤ length (now out) ⌝ }
     ensures { λ _. ⌜ now (out .exit) ≡ over (now (out .entry)) 36 (routeRecord route ++ relayBytes 54 relays) ⌝ }
 {
@@ -197,13 +199,13 @@ fn control_of(bytes: &[u8]) -> NwkFrameControl
 }
 
 // The 54 relays from place 39.
-fn relays_of(bytes: &[u8]) -> [u16; 54]
+fn relays_of(bytes: &[u8]) -> [Nwk; 54]
     ensures { λ r. ⌜ r ≡ relaysFrom (now (bytes .entry)) 39 ⌝ }
 {
-    let mut relays = [0u16; 54];
+    let mut relays = [NO_RELAY; 54];
     let mut i = 0;
     while i < 54 {
-        relays[i] = octets::read_u16(bytes, 39 + 2 * i);
+        relays[i] = Nwk(octets::read_u16(bytes, 39 + 2 * i));
         i += 1;
     }
     relays
