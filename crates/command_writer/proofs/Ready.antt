@@ -80,10 +80,12 @@ costs-low l e =
     let q = ltb-true (l .«outgoing_cost») 8 (first (ltb (l .«outgoing_cost») 8) true (second (ltb (l .«incoming_cost») 8) _ low)) in
     (omega arith, omega arith)
 
+-- a test holds where its failure would fail one that holds
 true-by : (b d : Bool) → (b ≡ false → d ≡ false) → d ≡ true → b ≡ true
 true-by true d h e = refl
 true-by false d h e = absurd (true≢false (sym e ∙ h refl))
 
+-- entries that fit have low costs
 pub all-low : (links : List NwkLinkStatus) (n : ℕ) → heldEntries (linkStatusFormat .entry) (linkEntries links n) ≡ true → LowCosts links n
 all-low links n e k h =
     costs-low _ (true-by _ _ (held-not (linkStatusFormat .entry) (λ (j : ℕ). linkEntry (getD links j noLink)) n k h) e)

@@ -38,6 +38,7 @@ responder-at c n e =
     let l = length-address (c .«originator_eui64») in
     rw (length-append (replyHead c) (addressBytes (c .«originator_eui64»)), e) (omega arith)
 
+-- the head and both addresses are the bytes of the command
 pub reply-bytes : (c : NwkRouteReplyCommand)
     → (replyHead c ++ addressBytes (c .«originator_eui64»)) ++ addressBytes (c .«responder_eui64») ≡ wireBytes (body NwkCommandId.RouteReply (routeReplyValues c))
 unfolding formats contents wireBytes bodyBytes replyHead

@@ -11,7 +11,7 @@ use Rattle.commands.specs.Writing.{writeCommand}
 
 returns : tie.Need-returns
 unfolding writeCommand written
-returns c = let h = c .if1 .taken in rw (← c .before .refusal .ensures, refused) (refl, refl)
+returns c = rw (← c .before .refusal .ensures, refused _ _ _ (c .if1 .taken)) (refl, refl)
 
 write-command-requires : tie.Need-write-command-requires
 write-command-requires c κs = sym (c .before .before .refusal .ensures) ∙ c .before .if1 .left

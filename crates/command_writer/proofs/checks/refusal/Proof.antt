@@ -9,7 +9,7 @@ use Rattle.commands.specs.Writing.{writeRefusal}
 
 returns : tie.Need-returns
 unfolding writeRefusal firstOf
-returns c = let h = c .if1 .taken in rw (← c .before .field-refusal .ensures, refused)
+returns c = rw (← c .before .field-refusal .ensures, refused _ _ _ (c .if1 .taken))
 
 returns-2 : tie.Need-returns-2
 unfolding writeRefusal firstOf unless

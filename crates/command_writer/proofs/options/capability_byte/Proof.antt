@@ -8,16 +8,12 @@ use Rattle.octets.specs.Fields.{bit, packed}
 use Rattle.commands.specs.Commands.{capabilityValues}
 use Rattle.command_writer.specs.Options.{capabilityByte}
 
-returns : tie.Need-returns
-unfolding packed capabilityByte capabilityValues
-returns c =
-    let power = c .before .before .before .before .before .before in
-    omega (arith, ap bit (power .before .before .bit .ensures), ap bit (power .bit2 .ensures))
-
 pub capability-byte-spec : {M : Type 1} → statement M
+unfolding packed capabilityByte capabilityValues
 capability-byte-spec =
     tie.close (tie.spec (λ c κs. search needs) (λ c κs. search needs) (λ c κs. search needs) (λ c. search needs)
     (λ c. search needs) (λ c κs. search needs) (λ c κs. search needs) (λ c. search needs) (λ c. search needs)
     (λ c κs. search needs) (λ c. search needs) (λ c. search needs) (λ c κs. search needs) (λ c κs. search needs)
     (λ c. search needs) (λ c. search needs) (λ c κs. search needs) (λ c. search needs) (λ c. search needs)
-    (λ c κs. search needs) (λ c. search needs) (λ c. search needs) (λ c. search needs) (λ c. search needs) returns)
+    (λ c κs. search needs) (λ c. search needs) (λ c. search needs) (λ c. search needs) (λ c. search needs)
+    (λ c. let power = c .before .before .before .before .before .before in omega (arith, ap bit (power .before .before .bit .ensures), ap bit (power .bit2 .ensures))))
