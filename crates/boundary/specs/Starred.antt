@@ -7,9 +7,8 @@ use mathlib.Core.List.{List, [], _∷_, _++_}
 use Prim.Native.Nat.{ℕ}
 use lib.ListN.{length, drop, take, replicate}
 use Rattle.header.specs.declared.{control.NwkFrameControl.NwkFrameControl, control.NwkFrameType.NwkFrameType, control.NwkRouteDiscovery.NwkRouteDiscovery, optional.OptionMulticast.OptionMulticast, optional.NwkSourceRoute.NwkSourceRoute, nwk.NwkHeader.NwkHeader}
-use Rattle.types.specs.Addresses.{nwk}
+use Rattle.types.specs.Addresses.{nwk, noNwk}
 use Rattle.types.specs.declared.{Nwk.Nwk, OptionEui64.OptionEui64}
-use Rattle.header.specs.Optional.{noRelay}
 use Rattle.header.specs.Reading.{readHeader, blankHeader}
 use Rattle.commands.specs.declared.{NwkCommand.NwkCommand, NwkCommandWithLists.NwkCommandWithLists, NwkEndDeviceTimeoutRequestCommand.NwkEndDeviceTimeoutRequestCommand, EndDeviceTimeout.EndDeviceTimeout}
 use Rattle.commands.specs.Codes.{timeoutCode}
@@ -130,12 +129,12 @@ oneLink =
 
 unfoldable pub starred : List Case
 starred =
-    reads (plainBytes 0x08 ++ (0xAA ∷ [])) 8 (fromProbe dataControl NwkSourceRoute.Absent (replicate 54 noRelay)) (0xAA ∷ [])
+    reads (plainBytes 0x08 ++ (0xAA ∷ [])) 8 (fromProbe dataControl NwkSourceRoute.Absent (replicate 54 noNwk)) (0xAA ∷ [])
     ∷ refuses (take 7 (plainBytes 0x08)) 2
     ∷ refuses (plainBytes 0x0A ++ (0xAA ∷ [])) 3
     ∷ refuses (plainBytes 0xC8 ++ (0xAA ∷ [])) 4
     ∷ refuses (plainBytes 0xCA ++ (0xAA ∷ [])) 3
-    ∷ reads routedBytes 14 (fromProbe routedControl (NwkSourceRoute.Present 2 1) (nwk 0x1234 ∷ nwk 0x5678 ∷ replicate 52 noRelay)) []
+    ∷ reads routedBytes 14 (fromProbe routedControl (NwkSourceRoute.Present 2 1) (nwk 0x1234 ∷ nwk 0x5678 ∷ replicate 52 noNwk)) []
     ∷ refuses (take 13 routedBytes) 8
     ∷ isCommand (0x04 ∷ 0x40 ∷ []) leaveWithRequest
     ∷ isCommand (0x04 ∷ []) (unparsed (0x04 ∷ []))

@@ -9,9 +9,10 @@ use lib.ListN.{length, getD, length-map}
 use mir.Val.{Val}
 use denote.Shadow.{shadow}
 use denote.Array.{each}
+use Rattle.types.specs.Addresses.{noNwk}
 use Rattle.types.proofs.Nwk as nwk
 use Rattle.types.proofs.PanId as pan-id
-use Rattle.commands.specs.Commands.{noRelay, noLink, noPanId, noPower}
+use Rattle.commands.specs.Commands.{noLink, noPanId, noPower}
 use Rattle.commands.proofs.Ranges.{InPower, Ranged}
 use Rattle.commands.proofs.InRange.{InRange, in-range}
 use Rattle.commands.proofs.NwkCommandWithLists as nwk-command-with-lists
@@ -36,7 +37,7 @@ pub record ListFits {A : Type 0} (Fits : A → Type 0) (d : A) (places : ℕ) (x
 
 pub record CommandFits (f : NwkCommandWithLists) : Type 0 where
   pub command : Ranged (f .command)
-  pub relays : ListFits RelayFits noRelay 53 (f .relays)
+  pub relays : ListFits RelayFits noNwk 53 (f .relays)
   pub links : ListFits LinkFits noLink 31 (f .«link_statuses»)
   pub panIds : ListFits PanIdFits noPanId 31 (f .«pan_ids»)
   pub powers : ListFits InPower noPower 35 (f .«power_list»)

@@ -9,8 +9,9 @@ use lib.Seq.{drop-append-le}
 use Rattle.octets.specs.Strings.{over}
 use Rattle.octets.proofs.Strings.{over-front, over-then, length-tab}
 use Rattle.octets.proofs.Numbers.{length-le}
+use Rattle.types.specs.Addresses.{noNwk}
 use Rattle.commands.specs.Format.{Field, size, sizes}
-use Rattle.commands.specs.Commands.{entriesOf, capabilityValues, routeRecordFormat, relayEntry, noRelay, linkEntry, noLink, networkReportFormat, panIdEntry, noPanId, linkPowerDeltaFormat, powerEntry, noPower}
+use Rattle.commands.specs.Commands.{entriesOf, capabilityValues, routeRecordFormat, relayEntry, linkEntry, noLink, networkReportFormat, panIdEntry, noPanId, linkPowerDeltaFormat, powerEntry, noPower}
 use Rattle.commands.specs.Reading.{places}
 use Rattle.commands.proofs.Format.{length-writeEntries}
 use Rattle.types.specs.declared.OptionEui64.{OptionEui64}
@@ -111,7 +112,7 @@ module _ (f : NwkCommandWithLists) where
 
   pub at-links : length toLinks ≡ 132
   unfolding routeRecordFormat size sizes
-  at-links = joined-length toRelays _ at-relays (length-list (routeRecordFormat .entry) relayEntry noRelay (f .relays) 53 (f .«relay_count»))
+  at-links = joined-length toRelays _ at-relays (length-list (routeRecordFormat .entry) relayEntry noNwk (f .relays) 53 (f .«relay_count»))
 
   pub at-panIds : length toPanIds ≡ 257
   unfolding linkRecordEntry size sizes

@@ -8,8 +8,9 @@ use lib.ListN.{length, getD, length-append}
 use lib.Seq.{getD-at, getD-append-add}
 use Rattle.octets.specs.Strings.{tab}
 use Rattle.octets.proofs.Strings.{length-tab, getD-tab, tab-ext}
+use Rattle.types.specs.Addresses.{noNwk}
 use Rattle.commands.specs.Format.{Field, size, width, sizes, widths, readField, readFields, writeEntries}
-use Rattle.commands.specs.Commands.{entriesOf, routeRecordFormat, relayOf, relayEntry, noRelay, linkOf, linkEntry, noLink, networkReportFormat, panIdOf, panIdEntry, noPanId, linkPowerDeltaFormat, powerOf, powerEntry, powerAt, noPower}
+use Rattle.commands.specs.Commands.{entriesOf, routeRecordFormat, relayOf, relayEntry, linkOf, linkEntry, noLink, networkReportFormat, panIdOf, panIdEntry, noPanId, linkPowerDeltaFormat, powerOf, powerEntry, powerAt, noPower}
 use Rattle.commands.proofs.Format.{HoldFields, entry-back}
 use Rattle.commands.proofs.Commands.{entries-shaped}
 use Rattle.commands.proofs.Ranges.{entries-held}
@@ -52,10 +53,10 @@ module _ {A : Type 0} (fs : List Field) (entry : A → List ℕ) (of : List ℕ 
 -- ---- the five lists
 
 module _ (f : NwkCommandWithLists) (w : CommandFits f) where
-  relays-stand : Stands (routeRecordFormat .entry) relayEntry relayOf noRelay 53 (f .«relay_count») (f .relays) (commandRecord f) 25
+  relays-stand : Stands (routeRecordFormat .entry) relayEntry relayOf noNwk 53 (f .«relay_count») (f .relays) (commandRecord f) 25
   unfolding commandRecord listsRecord routeRecordFormat relayOf relayEntry widths width
   relays-stand =
-      list-back (routeRecordFormat .entry) relayEntry relayOf noRelay (λ x. refl) (λ x. refl) 53 (f .«relay_count») (f .relays) (w .relays .length-is)
+      list-back (routeRecordFormat .entry) relayEntry relayOf noNwk (λ x. refl) (λ x. refl) 53 (f .«relay_count») (f .relays) (w .relays .length-is)
       (λ k. (w .relays .entries k, tt)) (toRelays f) (fromLinks f) (commandRecord f) 25 (at-relays f) refl
 
   links-stand : Stands linkRecordEntry linkEntry linkOf noLink 31 (f .«link_statuses_len») (f .«link_statuses») (commandRecord f) 132

@@ -16,8 +16,9 @@ use Rattle.octets.specs.Fields.{fields}
 use Rattle.octets.specs.Refusals.{on, by, firstOf}
 use Rattle.octets.proofs.Numbers.{leAt-lt}
 use Rattle.octets.proofs.Conditions.{unless-number, skip-by, or-false}
+use Rattle.types.specs.Addresses.{noNwk}
 use Rattle.commands.specs.Format.{partSizes, kept, readField, readFields, values, announced}
-use Rattle.commands.specs.Commands.{noRelay, noLink, noPanId, noPower, linkStatusFormat, linkOf}
+use Rattle.commands.specs.Commands.{noLink, noPanId, noPower, linkStatusFormat, linkOf}
 use Rattle.commands.specs.Reading.{places, withLists, listOf, listed, typed, unparsed, parsed, readCommand}
 use Rattle.commands.specs.Writing.{commandBytes, writeRefusal}
 use Rattle.commands.proofs.Ranges.{InPower, Ranged, RangedList, tooBig}
@@ -64,7 +65,7 @@ filled-fits {A} {Fits} {d} {m} {xs} z w =
     }
 
 with-fits : (c : NwkCommand) {r : List Nwk} {l : List NwkLinkStatus} {p : List PanId} {w : List NwkPowerListEntry} (b : List ℕ) → Ranged c
-    → Filled RelayFits noRelay 53 r → Filled LinkFits noLink 31 l → Filled PanIdFits noPanId 31 p → Filled InPower noPower 35 w
+    → Filled RelayFits noNwk 53 r → Filled LinkFits noLink 31 l → Filled PanIdFits noPanId 31 p → Filled InPower noPower 35 w
     → length b ≤ 108 → CommandFits (withLists c r l p w b)
 unfolding withLists
 with-fits c {r} {l} {p} {w} b h fr fl fp fw fb =

@@ -9,8 +9,9 @@ use native.Mathlib.Nat.{not-suc-le-zero}
 use lib.ListN.{length, getD}
 use Rattle.octets.specs.Strings.{tab}
 use Rattle.octets.proofs.Strings.{length-tab, getD-tab, tab-ext}
+use Rattle.types.specs.Addresses.{noNwk}
 use Rattle.commands.specs.Format.{Field, Values, widths, summed, values}
-use Rattle.commands.specs.Commands.{only, routeRequestFormat, routeRequestValues, routeReplyFormat, routeReplyValues, networkStatusValues, leaveValues, routeRecordFormat, routeRecordValues, rejoinRequestValues, rejoinResponseValues, linkStatusFormat, linkStatusValues, networkReportFormat, networkReportValues, networkUpdateValues, timeoutRequestValues, timeoutResponseValues, linkPowerDeltaFormat, linkPowerDeltaValues, commissioningRequestValues, commissioningResponseValues, routeRequestBy, networkStatusBy, rejoinResponseBy, networkReportBy, networkUpdateBy, timeoutRequestBy, timeoutResponseBy, linkPowerDeltaBy, commissioningRequestBy, commissioningResponseBy, capabilityOf, capabilityValues, has, addressEntry, addressOf, firsts, relayOf, relayEntry, linkOf, linkEntry, noLink, powerOf, powerEntry, noPower, entriesOf, noRelay, panIdOf, panIdEntry, noPanId}
+use Rattle.commands.specs.Commands.{only, routeRequestFormat, routeRequestValues, routeReplyFormat, routeReplyValues, networkStatusValues, leaveValues, routeRecordFormat, routeRecordValues, rejoinRequestValues, rejoinResponseValues, linkStatusFormat, linkStatusValues, networkReportFormat, networkReportValues, networkUpdateValues, timeoutRequestValues, timeoutResponseValues, linkPowerDeltaFormat, linkPowerDeltaValues, commissioningRequestValues, commissioningResponseValues, routeRequestBy, networkStatusBy, rejoinResponseBy, networkReportBy, networkUpdateBy, timeoutRequestBy, timeoutResponseBy, linkPowerDeltaBy, commissioningRequestBy, commissioningResponseBy, capabilityOf, capabilityValues, has, addressEntry, addressOf, firsts, relayOf, relayEntry, linkOf, linkEntry, noLink, powerOf, powerEntry, noPower, entriesOf, panIdOf, panIdEntry, noPanId}
 use Rattle.commands.specs.Reading.{formatOf, commandOf, withLists, listOf, listed, clearedBy}
 use Rattle.commands.specs.Writing.{Wire, wireOf}
 use Rattle.commands.specs.Writing.Wire.{body, raw}
@@ -192,9 +193,9 @@ routeRecord-back f =
     let xs = f .relays in
     let n = f .«relay_count» in
     record {
-      fit = record { head = refl; count = entries-count relayEntry noRelay xs n; entries = entries-shaped relayEntry noRelay xs n (routeRecordFormat .entry) (λ x. refl) };
+      fit = record { head = refl; count = entries-count relayEntry noNwk xs n; entries = entries-shaped relayEntry noNwk xs n (routeRecordFormat .entry) (λ x. refl) };
       command = refl;
-      list = λ s e. ap (λ (x : List Nwk). withLists NwkCommand.RouteRecord x [] [] [] []) (entries-mean relayEntry noRelay xs n relayOf (λ x. refl) _ e);
+      list = λ s e. ap (λ (x : List Nwk). withLists NwkCommand.RouteRecord x [] [] [] []) (entries-mean relayEntry noNwk xs n relayOf (λ x. refl) _ e);
     }
 
 rejoinRequest-back : (c : NwkRejoinRequestCommand) (f : NwkCommandWithLists)

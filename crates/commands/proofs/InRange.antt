@@ -9,7 +9,8 @@ use borrow.Author.Needs.{needs}
 use mir.Val.{Val}
 use denote.Shadow.{shadow}
 use denote.Array.{each}
-use Rattle.commands.specs.Commands.{noRelay, noPanId, noPower}
+use Rattle.types.specs.Addresses.{noNwk}
+use Rattle.commands.specs.Commands.{noPanId, noPower}
 use Rattle.commands.specs.Reading.{listOf}
 use Rattle.commands.specs.Writing.{wire, misfits}
 use Rattle.commands.proofs.Ranges.{InAddress, InPower, Ranged, RangedList, tooBig, misfits-is}
@@ -44,9 +45,9 @@ command-in (NwkCommand.NetworkCommissioningRequest c) vs s = tt
 command-in (NwkCommand.NetworkCommissioningResponse c) vs s = omega arith
 command-in NwkCommand.Unparsed vs s = tt
 
--- each relay, noRelay past the end
+-- each relay, noNwk past the end
 relays-in : (xs : List Nwk) (us : List Val) → shadow (each (nwk.the-field .row .Denot) (nwk.the-field .row .own) (map (nwk.the-field .into) xs) us)
-    → (k : ℕ) → getD xs k noRelay .0 < 65536
+    → (k : ℕ) → getD xs k noNwk .0 < 65536
 relays-in [] us s k = omega arith
 relays-in (x ∷ xs) [] s k = absurd s
 relays-in (x ∷ xs) (u ∷ us) s zero = omega arith
@@ -73,7 +74,7 @@ powers-in (x ∷ xs) (u ∷ us) s (suc k) = powers-in xs us (s .1) k
 -- a command's numbers and lists are within their types
 pub record InRange (f : NwkCommandWithLists) : Type 0 where
   pub command : Ranged (f .command)
-  pub relays : (k : ℕ) → getD (f .relays) k noRelay .0 < 65536
+  pub relays : (k : ℕ) → getD (f .relays) k noNwk .0 < 65536
   pub panIds : (k : ℕ) → getD (f .«pan_ids») k noPanId .0 < 65536
   pub powers : (k : ℕ) → InPower (getD (f .«power_list») k noPower)
   pub bytes : length (f .unparsed) ≡ 108

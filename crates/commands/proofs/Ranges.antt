@@ -12,10 +12,11 @@ use borrow.Author.Tests.{lt-ltb, le-ltb}
 use lib.Dec.{ltb, lit<}
 use lib.ListN.{getD}
 use Rattle.octets.proofs.Strings.{length-tab}
+use Rattle.types.specs.Addresses.{noNwk}
 use Rattle.commands.specs.Codes.{deviceTypeBit, powerSourceBit}
 use Rattle.commands.specs.Format.{Field, Format, Values, heldParts, heldField, heldFields, heldEntries, heldValues}
 use Rattle.commands.specs.Format.Field.{number}
-use Rattle.commands.specs.Commands.{routeRequestFormat, routeRequestValues, routeReplyFormat, routeReplyValues, networkStatusFormat, networkStatusValues, leaveFormat, leaveValues, routeRecordValues, rejoinRequestFormat, rejoinRequestValues, rejoinResponseFormat, rejoinResponseValues, linkStatusFormat, linkStatusValues, networkReportValues, networkUpdateFormat, networkUpdateValues, timeoutRequestFormat, timeoutRequestValues, timeoutResponseFormat, timeoutResponseValues, linkPowerDeltaValues, commissioningRequestFormat, commissioningRequestValues, commissioningResponseFormat, commissioningResponseValues, capabilityField, capabilityValues, has, addressEntry, entriesOf, relayEntry, noRelay, linkEntry, linkEntries, noLink, panIdEntry, noPanId, powerEntry, noPower}
+use Rattle.commands.specs.Commands.{routeRequestFormat, routeRequestValues, routeReplyFormat, routeReplyValues, networkStatusFormat, networkStatusValues, leaveFormat, leaveValues, routeRecordValues, rejoinRequestFormat, rejoinRequestValues, rejoinResponseFormat, rejoinResponseValues, linkStatusFormat, linkStatusValues, networkReportValues, networkUpdateFormat, networkUpdateValues, timeoutRequestFormat, timeoutRequestValues, timeoutResponseFormat, timeoutResponseValues, linkPowerDeltaValues, commissioningRequestFormat, commissioningRequestValues, commissioningResponseFormat, commissioningResponseValues, capabilityField, capabilityValues, has, addressEntry, entriesOf, relayEntry, linkEntry, linkEntries, noLink, panIdEntry, noPanId, powerEntry, noPower}
 use Rattle.commands.specs.Reading.{formatOf, listOf}
 use Rattle.commands.specs.Writing.{wireOf, overPlaces, misfits, updateCount}
 use Rattle.commands.specs.Writing.Wire.{body}
@@ -59,7 +60,7 @@ Ranged NwkCommand.Unparsed = Unit {0}
 -- the entries of a command's own list are within theirs
 abbrev pub RangedList : NwkCommandList → NwkCommandWithLists → Type 0
 RangedList NwkCommandList.NoList f = Unit {0}
-RangedList NwkCommandList.Relays f = (k : ℕ) → k < f .«relay_count» → getD (f .relays) k noRelay .0 < 65536
+RangedList NwkCommandList.Relays f = (k : ℕ) → k < f .«relay_count» → getD (f .relays) k noNwk .0 < 65536
 RangedList NwkCommandList.LinkStatuses f = Unit {0}
 RangedList NwkCommandList.PanIds f = (k : ℕ) → k < f .«report_information_count» → getD (f .«pan_ids») k noPanId .0 < 65536
 RangedList NwkCommandList.PowerList f =
@@ -216,7 +217,7 @@ routeRecord-misfits : (f : NwkCommandWithLists) → RangedList NwkCommandList.Re
     → misfits NwkCommandList.Relays (body NwkCommandId.RouteRecord (routeRecordValues (f .relays) (f .«relay_count»))) ≡ ltb 53 (f .«relay_count»)
 unfolding formats contents shapes overPlaces relayEntry
 routeRecord-misfits f r =
-    list-misfits NwkCommandList.Relays NwkCommandId.RouteRecord _ relayEntry noRelay (f .relays) 53 (f .«relay_count») (λ j. refl)
+    list-misfits NwkCommandList.Relays NwkCommandId.RouteRecord _ relayEntry noNwk (f .relays) 53 (f .«relay_count») (λ j. refl)
     (λ h. (omega arith & tt)) (λ k l. (r k l & tt))
 
 networkReport-misfits : (c : NwkNetworkReportCommand) (f : NwkCommandWithLists) → c .epid < 2 ^ 64 → RangedList NwkCommandList.PanIds f

@@ -15,8 +15,9 @@ use lib.Seq.{take-all}
 use Rattle.octets.specs.Strings.{tab, Below}
 use Rattle.octets.proofs.Strings.{length-tab, getD-tab, tab-ext, tab-getD}
 use Rattle.octets.proofs.Numbers.{leAt-lt}
+use Rattle.types.specs.Addresses.{noNwk}
 use Rattle.commands.specs.Format.{Format, size, sizes, readFields, headEnd, announced, bodyEnd, values, heldEntries, heldFields, heldValues}
-use Rattle.commands.specs.Commands.{routeRequestFormat, routeReplyFormat, routeReplyOf, networkStatusFormat, leaveFormat, leaveOf, routeRecordFormat, routeRecordOf, rejoinRequestFormat, rejoinRequestOf, rejoinResponseFormat, linkStatusFormat, linkStatusOf, networkReportFormat, networkUpdateFormat, timeoutRequestFormat, timeoutResponseFormat, linkPowerDeltaFormat, commissioningRequestFormat, commissioningResponseFormat, routeRequestBy, networkStatusBy, rejoinResponseBy, networkReportBy, networkUpdateBy, timeoutRequestBy, timeoutResponseBy, linkPowerDeltaBy, commissioningRequestBy, commissioningResponseBy, addressOf, firsts, relayOf, noRelay, linkOf, linkEntry, linkEntries, noLink, panIdOf, noPanId, powerOf, noPower}
+use Rattle.commands.specs.Commands.{routeRequestFormat, routeReplyFormat, routeReplyOf, networkStatusFormat, leaveFormat, leaveOf, routeRecordFormat, routeRecordOf, rejoinRequestFormat, rejoinRequestOf, rejoinResponseFormat, linkStatusFormat, linkStatusOf, networkReportFormat, networkUpdateFormat, timeoutRequestFormat, timeoutResponseFormat, linkPowerDeltaFormat, commissioningRequestFormat, commissioningResponseFormat, routeRequestBy, networkStatusBy, rejoinResponseBy, networkReportBy, networkUpdateBy, timeoutRequestBy, timeoutResponseBy, linkPowerDeltaBy, commissioningRequestBy, commissioningResponseBy, addressOf, firsts, relayOf, linkOf, linkEntry, linkEntries, noLink, panIdOf, noPanId, powerOf, noPower}
 use Rattle.commands.specs.Reading.{formatOf, commandOf, places, withLists, listOf, listed, clearedBy}
 use Rattle.commands.proofs.Format.{values-held, length-entries, second}
 use Rattle.commands.proofs.Layouts.{formats, meanings, codings, readings}
@@ -54,7 +55,7 @@ pub cleared-read : (k : NwkCommandList) (c : NwkCommand) (s : List ℕ) → clea
 unfolding clearedBy listed withLists firsts tab
 cleared-read NwkCommandList.NoList c s = refl
 cleared-read NwkCommandList.Relays c s =
-    ap (λ (x : List Nwk). withLists c x [] [] [] []) (firsts-places noRelay 53 (map relayOf (values routeRecordFormat s .entries)))
+    ap (λ (x : List Nwk). withLists c x [] [] [] []) (firsts-places noNwk 53 (map relayOf (values routeRecordFormat s .entries)))
 cleared-read NwkCommandList.LinkStatuses c s =
     ap (λ (x : List NwkLinkStatus). withLists c [] x [] [] []) (firsts-places noLink 31 (map linkOf (values linkStatusFormat s .entries)))
 cleared-read NwkCommandList.PanIds c s =
@@ -110,7 +111,7 @@ Good k c s = RangedList k (listed k c s) × (tooBig k c (listed k c s) ≡ false
 relays-read : (c : NwkCommand) (s : List ℕ) → Below 256 s → length s ≤ 108 → bodyEnd routeRecordFormat s ≤ length s → Good NwkCommandList.Relays c s
 unfolding listed withLists values tooBig
 relays-read c s b short whole = (
-  (λ k h. rw (entry-read relayOf (entryAt routeRecordFormat s) (announced routeRecordFormat s) noRelay 53 k h) (relay-read s k b)),
+  (λ k h. rw (entry-read relayOf (entryAt routeRecordFormat s) (announced routeRecordFormat s) noNwk 53 k h) (relay-read s k b)),
   rw (length-read relayOf routeRecordFormat s) (le-ltb 53 _ (few-relays s whole short)),
 )
 

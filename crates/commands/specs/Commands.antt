@@ -14,7 +14,7 @@ use Rattle.commands.specs.Codes.{manyToOneCode, manyToOneOf, statusCode,
 use Rattle.commands.specs.Format.{Field, Format, Values, readFields}
 use Rattle.commands.specs.Format.Part.{keep, skip}
 use Rattle.commands.specs.Format.Field.{byte, number, bits}
-use Rattle.types.specs.Addresses.{nwk, panId}
+use Rattle.types.specs.Addresses.{nwk, panId, noNwk}
 use Rattle.types.specs.declared.{Nwk.Nwk, OptionEui64.OptionEui64, PanId.PanId}
 use Rattle.commands.specs.declared.{NwkRouteRequestCommand.NwkRouteRequestCommand, NwkRouteReplyCommand.NwkRouteReplyCommand, NwkNetworkStatusCommand.NwkNetworkStatusCommand, NwkLeaveCommand.NwkLeaveCommand, NwkRejoinCapabilityInformation.NwkRejoinCapabilityInformation, NwkRejoinRequestCommand.NwkRejoinRequestCommand, NwkRejoinResponseCommand.NwkRejoinResponseCommand, NwkLinkStatusCommand.NwkLinkStatusCommand, NwkLinkStatus.NwkLinkStatus, NwkNetworkReportCommand.NwkNetworkReportCommand, NwkNetworkUpdateCommand.NwkNetworkUpdateCommand, NwkEndDeviceTimeoutRequestCommand.NwkEndDeviceTimeoutRequestCommand, NwkEndDeviceTimeoutResponseCommand.NwkEndDeviceTimeoutResponseCommand, NwkLinkPowerDeltaCommand.NwkLinkPowerDeltaCommand, NwkPowerListEntry.NwkPowerListEntry, NwkNetworkCommissioningRequestCommand.NwkNetworkCommissioningRequestCommand, NwkNetworkCommissioningResponseCommand.NwkNetworkCommissioningResponseCommand, NwkRouteRequestManyToOneCode.NwkRouteRequestManyToOneCode, NwkNetworkStatusCode.NwkNetworkStatusCode, Nwk802154AssociationStatusCode.Nwk802154AssociationStatusCode, NwkReportCommandIdentifierCode.NwkReportCommandIdentifierCode, NwkUpdateCommandIdentifierCode.NwkUpdateCommandIdentifierCode, EndDeviceTimeoutCode.EndDeviceTimeoutCode, NwkEndDeviceTimeoutResponseStatusCode.NwkEndDeviceTimeoutResponseStatusCode, NwkLinkPowerDeltaTypeCode.NwkLinkPowerDeltaTypeCode, NwkCommissioningTypeCode.NwkCommissioningTypeCode, NwkCommand.NwkCommand, TypedBody.TypedBody}
 
@@ -163,15 +163,12 @@ relayOf e = nwk (getD e 0 0)
 unfoldable pub relayEntry : Nwk → List ℕ
 relayEntry r = r .0 ∷ []
 
-abbrev pub noRelay : Nwk
-noRelay = nwk 0
-
 -- the relay at place i of the bytes s
 abbrev pub relayAt : List ℕ → ℕ → Nwk
 relayAt s i = nwk (leAt 2 s i)
 
 abbrev pub relayEntries : List Nwk → ℕ → List (List ℕ)
-relayEntries = entriesOf relayEntry noRelay
+relayEntries = entriesOf relayEntry noNwk
 
 unfoldable pub routeRecordValues : List Nwk → ℕ → Values
 routeRecordValues relays n = record { head = n ∷ []; entries = relayEntries relays n }
@@ -253,7 +250,7 @@ unfoldable pub linkAt : List ℕ → ℕ → NwkLinkStatus
 linkAt s i = linkOf (readFields (linkStatusFormat .entry) s i)
 
 abbrev pub noLink : NwkLinkStatus
-noLink = record { address = noRelay; «incoming_cost» = 0; «outgoing_cost» = 0 }
+noLink = record { address = noNwk; «incoming_cost» = 0; «outgoing_cost» = 0 }
 
 abbrev pub linkEntries : List NwkLinkStatus → ℕ → List (List ℕ)
 linkEntries = entriesOf linkEntry noLink
@@ -397,7 +394,7 @@ unfoldable pub powerAt : List ℕ → ℕ → NwkPowerListEntry
 powerAt s i = powerOf (readFields (linkPowerDeltaFormat .entry) s i)
 
 abbrev pub noPower : NwkPowerListEntry
-noPower = record { «device_address» = noRelay; «power_delta» = 0 }
+noPower = record { «device_address» = noNwk; «power_delta» = 0 }
 
 abbrev pub powerEntries : List NwkPowerListEntry → ℕ → List (List ℕ)
 powerEntries = entriesOf powerEntry noPower

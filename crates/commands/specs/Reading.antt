@@ -8,9 +8,10 @@ use mathlib.Core.List.{List, [], _∷_, _++_, map}
 use lib.ListN.{length, getD, drop, replicate}
 use lib.Dec.{ltb, leb}
 use Rattle.octets.specs.Refusals.{on, firstOf, unless}
+use Rattle.types.specs.Addresses.{noNwk}
 use Rattle.commands.specs.Codes.{commandIdOf}
 use Rattle.commands.specs.Format.{Format, Values, bodyEnd, values}
-use Rattle.commands.specs.Commands.{routeRequestFormat, routeRequestOf, routeReplyFormat, routeReplyOf, networkStatusFormat, networkStatusOf, leaveFormat, leaveOf, routeRecordFormat, routeRecordOf, rejoinRequestFormat, rejoinRequestOf, rejoinResponseFormat, rejoinResponseOf, linkStatusFormat, linkStatusOf, networkReportFormat, networkReportOf, networkUpdateFormat, networkUpdateOf, timeoutRequestFormat, timeoutRequestOf, timeoutResponseFormat, timeoutResponseOf, linkPowerDeltaFormat, linkPowerDeltaOf, commissioningRequestFormat, commissioningRequestOf, commissioningResponseFormat, commissioningResponseOf, relayOf, noRelay, linkOf, noLink, panIdOf, noPanId, powerOf, noPower, firsts}
+use Rattle.commands.specs.Commands.{routeRequestFormat, routeRequestOf, routeReplyFormat, routeReplyOf, networkStatusFormat, networkStatusOf, leaveFormat, leaveOf, routeRecordFormat, routeRecordOf, rejoinRequestFormat, rejoinRequestOf, rejoinResponseFormat, rejoinResponseOf, linkStatusFormat, linkStatusOf, networkReportFormat, networkReportOf, networkUpdateFormat, networkUpdateOf, timeoutRequestFormat, timeoutRequestOf, timeoutResponseFormat, timeoutResponseOf, linkPowerDeltaFormat, linkPowerDeltaOf, commissioningRequestFormat, commissioningRequestOf, commissioningResponseFormat, commissioningResponseOf, relayOf, linkOf, noLink, panIdOf, noPanId, powerOf, noPower, firsts}
 use Rattle.types.specs.declared.{Nwk.Nwk, PanId.PanId}
 use Rattle.commands.specs.declared.{NwkCommandId.NwkCommandId, NwkCommandIdCode.NwkCommandIdCode, NwkCommand.NwkCommand, NwkCommandWithLists.NwkCommandWithLists, NwkCommandList.NwkCommandList, NwkCommandRead.NwkCommandRead, TypedBody.TypedBody, NwkLinkStatus.NwkLinkStatus, NwkPowerListEntry.NwkPowerListEntry}
 
@@ -66,7 +67,7 @@ withLists c relays links panIds powers bytes =
     record {
       command = c;
       «relay_count» = length relays;
-      relays = places noRelay 53 relays;
+      relays = places noNwk 53 relays;
       «link_statuses_len» = length links;
       «link_statuses» = places noLink 31 links;
       «report_information_count» = length panIds;
@@ -108,7 +109,7 @@ listed NwkCommandList.Bytes c s = withLists c [] [] [] [] []
 -- the same command with the same list, the places past its count and the other lists cleared
 unfoldable pub clearedBy : NwkCommandList → NwkCommand → NwkCommandWithLists → NwkCommandWithLists
 clearedBy NwkCommandList.NoList c f = withLists c [] [] [] [] []
-clearedBy NwkCommandList.Relays c f = withLists c (firsts noRelay (f .relays) (f .«relay_count»)) [] [] [] []
+clearedBy NwkCommandList.Relays c f = withLists c (firsts noNwk (f .relays) (f .«relay_count»)) [] [] [] []
 clearedBy NwkCommandList.LinkStatuses c f = withLists c [] (firsts noLink (f .«link_statuses») (f .«link_statuses_len»)) [] [] []
 clearedBy NwkCommandList.PanIds c f = withLists c [] [] (firsts noPanId (f .«pan_ids») (f .«report_information_count»)) [] []
 clearedBy NwkCommandList.PowerList c f = withLists c [] [] [] (firsts noPower (f .«power_list») (f .«list_count»)) []

@@ -10,6 +10,7 @@ ghost use Prim.Native.Nat.{_≤_};
 ghost use Rattle.commands.specs.Commands.{has};
 ghost use Rattle.commands.specs.Reading.{listOf, withLists};
 ghost use Rattle.commands.specs.Writing.{typedId, commandId};
+use types::NO_NWK;
 use types::Nwk;
 use types::OptionEui64;
 use types::PanId;
@@ -433,18 +434,16 @@ impl NwkCommand {
 }
 
 // What stands past the count in each list.
-pub const NO_RELAY: Nwk = Nwk(0);
-
 pub const NO_PAN_ID: PanId = PanId(0);
 
 pub const NO_LINK: NwkLinkStatus = NwkLinkStatus {
-    address: NO_RELAY,
+    address: NO_NWK,
     incoming_cost: 0,
     outgoing_cost: 0,
 };
 
 pub const NO_POWER: NwkPowerListEntry = NwkPowerListEntry {
-    device_address: NO_RELAY,
+    device_address: NO_NWK,
     power_delta: 0,
 };
 
@@ -463,7 +462,7 @@ impl NwkCommandWithLists {
     pub fn blank(command: NwkCommand) -> Self
         ensures { λ r. ⌜ r ≡ withLists command [] [] [] [] [] ⌝ }
     {
-        let relays = [NO_RELAY; 53];
+        let relays = [NO_NWK; 53];
         let link_statuses = [NO_LINK; 31];
         let pan_ids = [NO_PAN_ID; 31];
         let power_list = [NO_POWER; 35];

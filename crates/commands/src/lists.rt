@@ -6,10 +6,12 @@ ghost use mathlib.Core.List.{[], _∷_};
 ghost use Prim.Native.Nat.{ℕ, _+_, _*_, _≤_};
 ghost use lib.ListN.{length};
 ghost use Rattle.octets.specs.Strings.{over, tab};
+ghost use Rattle.types.specs.Addresses.{noNwk};
 ghost use Rattle.commands.specs.Format.{writeFields, writeEntries};
-ghost use Rattle.commands.specs.Commands.{routeRecordFormat, networkReportFormat, linkPowerDeltaFormat, relayEntries, relayAt, noRelay, panIdEntries, panIdAt, noPanId, powerEntry, powerEntries, powerAt, noPower};
+ghost use Rattle.commands.specs.Commands.{routeRecordFormat, networkReportFormat, linkPowerDeltaFormat, relayEntries, relayAt, panIdEntries, panIdAt, noPanId, powerEntry, powerEntries, powerAt, noPower};
 ghost use Rattle.commands.specs.Reading.{places};
 use crate::*;
+use types::NO_NWK;
 use types::Nwk;
 use types::PanId;
 
@@ -73,9 +75,9 @@ pub fn put_powers(out: &mut [u8], i: usize, powers: [NwkPowerListEntry; 35], n: 
 // n relays from place i on.
 pub fn read_relays(s: &[u8], i: usize, n: usize) -> [Nwk; 53]
     requires { ⌜ (n ≤ 53) × (i ≤ 1000) ⌝ }
-    ensures { λ r. ⌜ r ≡ places noRelay 53 (tab (λ (k : ℕ). relayAt (now (s .entry)) (i + k * 2)) n) ⌝ }
+    ensures { λ r. ⌜ r ≡ places noNwk 53 (tab (λ (k : ℕ). relayAt (now (s .entry)) (i + k * 2)) n) ⌝ }
 {
-    let mut relays = [NO_RELAY; 53];
+    let mut relays = [NO_NWK; 53];
     let mut k = 0;
     while k < n {
         relays[k] = Nwk(octets::read_u16(s, i + k * 2));

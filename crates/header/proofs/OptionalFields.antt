@@ -15,9 +15,9 @@ use Rattle.octets.specs.Numbers.{le, leAt}
 use Rattle.octets.proofs.Strings.{over-over, below-or-last}
 use Rattle.octets.proofs.Numbers.{length-le, leAt-le, le-leAt, leAt-behind}
 use Rattle.types.specs.declared.{Nwk.Nwk, OptionEui64.OptionEui64}
-use Rattle.types.specs.Addresses.{nwk}
+use Rattle.types.specs.Addresses.{nwk, noNwk}
 use Rattle.header.specs.declared.{optional.OptionMulticast.OptionMulticast, optional.NwkSourceRoute.NwkSourceRoute}
-use Rattle.header.specs.Optional.{hasMulticast, multicastIf, multicastBytes, hasRoute, routeIf, relayCount, noRelay, relayBytes, routeBytes}
+use Rattle.header.specs.Optional.{hasMulticast, multicastIf, multicastBytes, hasRoute, routeIf, relayCount, relayBytes, routeBytes}
 use Rattle.types.specs.Optional.{hasIeee, ieeeIf, ieeeBytes}
 use Rattle.octets.specs.Fields.{bit}
 use Rattle.header.specs.Same.{IeeeFits, MulticastFits, RouteFits, RelaysFit}
@@ -83,30 +83,30 @@ relay-length zero rs = refl
 relay-length (suc n) rs = simp (length-append, relay-length n rs, length-le) (omega arith)
 
 -- each relay stands at its place
-pub relay-at : (n : ℕ) (rs : List Nwk) (r : List ℕ) (i : ℕ) → RelaysFit rs → i < n → nwk (leAt 2 (relayBytes n rs ++ r) (2 * i)) ≡ getD rs i noRelay
+pub relay-at : (n : ℕ) (rs : List Nwk) (r : List ℕ) (i : ℕ) → RelaysFit rs → i < n → nwk (leAt 2 (relayBytes n rs ++ r) (2 * i)) ≡ getD rs i noNwk
 unfolding relayBytes
 relay-at zero rs r i b h = absurd (omega arith)
 relay-at (suc n) rs r i b h =
-    rw (append-assoc (relayBytes n rs) (le 2 (getD rs n noRelay .0)) r)
+    rw (append-assoc (relayBytes n rs) (le 2 (getD rs n noNwk .0)) r)
     (⊎-elim
-    (λ l. relay-at n rs (le 2 (getD rs n noRelay .0) ++ r) i b l)
+    (λ l. relay-at n rs (le 2 (getD rs n noNwk .0) ++ r) i b l)
     (λ (e : i ≡ n).
     let place : length (relayBytes n rs) + 0 ≡ 2 * i = rw (relay-length n rs) (omega arith) in
-    ap nwk (ap (λ (k : ℕ). leAt 2 (relayBytes n rs ++ (le 2 (getD rs n noRelay .0) ++ r)) k) (sym place)
-    ∙ leAt-behind 2 (relayBytes n rs) (le 2 (getD rs n noRelay .0) ++ r) 0
-    ∙ leAt-le 2 (getD rs n noRelay .0) r (b n))
-    ∙ ap (λ (k : ℕ). getD rs k noRelay) (sym e))
+    ap nwk (ap (λ (k : ℕ). leAt 2 (relayBytes n rs ++ (le 2 (getD rs n noNwk .0) ++ r)) k) (sym place)
+    ∙ leAt-behind 2 (relayBytes n rs) (le 2 (getD rs n noNwk .0) ++ r) 0
+    ∙ leAt-le 2 (getD rs n noNwk .0) r (b n))
+    ∙ ap (λ (k : ℕ). getD rs k noNwk) (sym e))
     (below-or-last i n h))
 
 -- relays that agree below the count have the same bytes
-pub relay-same : (n : ℕ) (rs ss : List Nwk) → ((i : ℕ) → i < n → getD rs i noRelay ≡ getD ss i noRelay) → relayBytes n rs ≡ relayBytes n ss
+pub relay-same : (n : ℕ) (rs ss : List Nwk) → ((i : ℕ) → i < n → getD rs i noNwk ≡ getD ss i noNwk) → relayBytes n rs ≡ relayBytes n ss
 unfolding relayBytes
 relay-same zero rs ss h = refl
 relay-same (suc n) rs ss h = λ i. relay-same n rs ss (λ k l. h k (omega arith)) i ++ le 2 (h n (omega arith) i .0)
 
 -- the bytes of relays read from place p
 pub relay-read : (f : List ℕ) (n p : ℕ) (rs : List Nwk) → Below 256 f → p + 2 * n ≤ length f
-    → ((i : ℕ) → i < n → getD rs i noRelay ≡ nwk (leAt 2 f (p + 2 * i))) → relayBytes n rs ≡ take (2 * n) (drop p f)
+    → ((i : ℕ) → i < n → getD rs i noNwk ≡ nwk (leAt 2 f (p + 2 * i))) → relayBytes n rs ≡ take (2 * n) (drop p f)
 unfolding relayBytes
 relay-read f zero p rs b l h = refl
 relay-read f (suc n) p rs b l h =
@@ -117,10 +117,10 @@ relay-read f (suc n) p rs b l h =
 
 -- a loop that writes relays: one more stands at its place
 pub relays-more : (o : List ℕ) (i j : ℕ) (rs : List Nwk) → i ≤ length o
-    → over (over o i (relayBytes j rs)) (i + 2 * j) (le 2 (getD rs j noRelay .0)) ≡ over o i (relayBytes (j + 1) rs)
+    → over (over o i (relayBytes j rs)) (i + 2 * j) (le 2 (getD rs j noNwk .0)) ≡ over o i (relayBytes (j + 1) rs)
 unfolding relayBytes
 relays-more o i j rs h =
-    rw (add-one j) (over-over o i (i + 2 * j) (relayBytes j rs) (le 2 (getD rs j noRelay .0)) h (ap (λ (k : ℕ). i + k) (sym (relay-length j rs))))
+    rw (add-one j) (over-over o i (i + 2 * j) (relayBytes j rs) (le 2 (getD rs j noNwk .0)) h (ap (λ (k : ℕ). i + k) (sym (relay-length j rs))))
 
 -- ---- the source route
 
@@ -142,14 +142,14 @@ route-back NwkSourceRoute.Absent rs r h = refl
 route-back (NwkSourceRoute.Present n i) rs r h = rw (le-byte n (h .0), le-byte i (h .1)) refl
 
 pub route-relays : (o : NwkSourceRoute) (rs : List Nwk) (r : List ℕ) (i : ℕ) → RouteFits o → RelaysFit rs → i < relayCount o
-    → nwk (leAt 2 (routeBytes o rs ++ r) (2 + 2 * i)) ≡ getD rs i noRelay
+    → nwk (leAt 2 (routeBytes o rs ++ r) (2 + 2 * i)) ≡ getD rs i noNwk
 route-relays NwkSourceRoute.Absent rs r i h b l = absurd (omega arith)
 route-relays (NwkSourceRoute.Present n k) rs r i h b l =
     rw (le-byte n (h .0), le-byte k (h .1))
     (ap nwk (leAt-behind 2 (n ∷ k ∷ []) (relayBytes n rs ++ r) (2 * i)) ∙ relay-at n rs r i b l)
 
 -- relays that agree below the count make the same source route
-pub route-same : (o : NwkSourceRoute) (rs ss : List Nwk) → ((i : ℕ) → i < relayCount o → getD rs i noRelay ≡ getD ss i noRelay)
+pub route-same : (o : NwkSourceRoute) (rs ss : List Nwk) → ((i : ℕ) → i < relayCount o → getD rs i noNwk ≡ getD ss i noNwk)
     → routeBytes o rs ≡ routeBytes o ss
 route-same NwkSourceRoute.Absent rs ss h = refl
 route-same (NwkSourceRoute.Present n i) rs ss h = ap (λ (l : List ℕ). le 1 n ++ (le 1 i ++ l)) (relay-same n rs ss h)
@@ -157,7 +157,7 @@ route-same (NwkSourceRoute.Present n i) rs ss h = ap (λ (l : List ℕ). le 1 n 
 -- the bytes of a source route read from place p, its relays being those behind
 pub route-read : (f : List ℕ) (b : Bool) (p : ℕ) (rs : List Nwk) → Below 256 f
     → p + cond b (2 + 2 * getD f p 0) 0 ≤ length f
-    → ((i : ℕ) → i < cond b (getD f p 0) 0 → getD rs i noRelay ≡ nwk (leAt 2 f (p + 2 + 2 * i)))
+    → ((i : ℕ) → i < cond b (getD f p 0) 0 → getD rs i noNwk ≡ nwk (leAt 2 f (p + 2 + 2 * i)))
     → routeBytes (routeIf b (getD f p 0) (getD f (p + 1) 0)) rs ≡ take (cond b (2 + 2 * getD f p 0) 0) (drop p f)
 route-read f false p rs u l h = refl
 route-read f true p rs u l h =

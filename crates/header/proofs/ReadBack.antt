@@ -17,8 +17,8 @@ use Rattle.octets.proofs.Conditions.{accepted, or-false}
 use Rattle.octets.proofs.Strings.{tab-ext, getD-tab}
 use Rattle.octets.proofs.Numbers.{length-le, leAt-le, leAt-behind}
 use Rattle.header.specs.declared.{control.NwkFrameControl.NwkFrameControl, optional.NwkSourceRoute.NwkSourceRoute, nwk.NwkHeader.NwkHeader}
-use Rattle.header.specs.Optional.{multicastIf, multicastBytes, hasMulticast, routeIf, routeBytes, relayCount, noRelay}
-use Rattle.types.specs.Addresses.{nwk}
+use Rattle.header.specs.Optional.{multicastIf, multicastBytes, hasMulticast, routeIf, routeBytes, relayCount}
+use Rattle.types.specs.Addresses.{nwk, noNwk}
 use Rattle.types.specs.Optional.{ieeeIf, ieeeBytes, hasIeee}
 use Rattle.octets.specs.Fields.{bit}
 use Rattle.header.specs.Control.{controlWord, controlOf}
@@ -184,7 +184,7 @@ module _ (h : NwkHeader) (rest : List ℕ) (fits : HeaderFits h) (agrees : Agree
       ∙ ap relayCount route-read
 
   relay-read : (i : ℕ) → i < relayCount (h .«source_route»)
-      → nwk (leAt 2 (headerBytes h ++ rest) (routeAt (h .«frame_control») + 2 + 2 * i)) ≡ getD (h .relays) i noRelay
+      → nwk (leAt 2 (headerBytes h ++ rest) (routeAt (h .«frame_control») + 2 + 2 * i)) ≡ getD (h .relays) i noNwk
   unfolding R
   relay-read i l =
       ap nwk (ap (leAt 2 (headerBytes h ++ rest)) (add-assoc (routeAt (h .«frame_control»)) 2 (2 * i))
@@ -197,8 +197,8 @@ module _ (h : NwkHeader) (rest : List ℕ) (fits : HeaderFits h) (agrees : Agree
   relays-read =
       tab-ext _ _ 54
       (λ i l.
-      ap (λ (n : ℕ). cond (ltb i n) (nwk (leAt 2 (headerBytes h ++ rest) (routeAt (h .«frame_control») + 2 + 2 * i))) noRelay) count-read
-      ∙ cond-same (ltb i (relayCount (h .«source_route»))) _ _ noRelay (λ t. relay-read i (ltb-true i (relayCount (h .«source_route»)) t)))
+      ap (λ (n : ℕ). cond (ltb i n) (nwk (leAt 2 (headerBytes h ++ rest) (routeAt (h .«frame_control») + 2 + 2 * i))) noNwk) count-read
+      ∙ cond-same (ltb i (relayCount (h .«source_route»))) _ _ noNwk (λ t. relay-read i (ltb-true i (relayCount (h .«source_route»)) t)))
 
   end-read : headerEnd (headerBytes h ++ rest) (h .«frame_control») ≡ length (headerBytes h)
   unfolding headerEnd R
@@ -288,8 +288,8 @@ same-cleared h good =
       multicast = refl;
       route = refl;
       relays = λ i l.
-          sym (getD-tab _ 54 i noRelay (omega arith)
-          ∙ ap (λ (b : Bool). cond b (getD (h .relays) i noRelay) noRelay) (lt-ltb i (relayCount (h .«source_route»)) l));
+          sym (getD-tab _ 54 i noNwk (omega arith)
+          ∙ ap (λ (b : Bool). cond b (getD (h .relays) i noNwk) noNwk) (lt-ltb i (relayCount (h .«source_route»)) l));
     }
 
 -- the same headers have the same bytes

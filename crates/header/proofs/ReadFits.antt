@@ -13,10 +13,10 @@ use Rattle.octets.specs.Numbers.{leAt}
 use Rattle.octets.proofs.Strings.{length-tab, getD-tab}
 use Rattle.octets.proofs.Numbers.{leAt-lt}
 use Rattle.types.specs.declared.Nwk.{Nwk}
-use Rattle.types.specs.Addresses.{nwk}
+use Rattle.types.specs.Addresses.{nwk, noNwk}
 use Rattle.types.specs.Optional.{ieeeIf}
 use Rattle.header.specs.declared.{control.NwkFrameControl.NwkFrameControl, auxiliary.NwkSecurityHeaderControlField.NwkSecurityHeaderControlField}
-use Rattle.header.specs.Optional.{multicastIf, routeIf, noRelay}
+use Rattle.header.specs.Optional.{multicastIf, routeIf}
 use Rattle.header.specs.Reading.{sourceAt, multicastAt, routeAt, relaysAnnounced, relaysOf, headerBy}
 use Rattle.header.specs.Auxiliary.{keySequenceAt, auxBy}
 use Rattle.header.specs.Same.{IeeeFits, MulticastFits, RouteFits, RelaysFit, HeaderFits, AuxFits}
@@ -33,7 +33,7 @@ route-fits : (b : Bool) (n i : ℕ) → n < 2 ^ 8 → i < 2 ^ 8 → RouteFits (r
 route-fits true n i h k = (h, k)
 route-fits false n i h k = tt
 
-relay-fits : (b : Bool) (x : ℕ) → x < 2 ^ 16 → cond b (nwk x) noRelay .0 < 2 ^ 16
+relay-fits : (b : Bool) (x : ℕ) → x < 2 ^ 16 → cond b (nwk x) noNwk .0 < 2 ^ 16
 relay-fits true x h = h
 relay-fits false x h = omega arith
 
@@ -41,8 +41,8 @@ relay-fits false x h = omega arith
 relays-fit : (f : ℕ → Nwk) (n : ℕ) → ((i : ℕ) → f i .0 < 2 ^ 16) → RelaysFit (tab f n)
 relays-fit f n h i =
     elim (decLt i n) [
-      | yes l ↦ rw (getD-tab f n i noRelay l) (h i)
-      | no l ↦ rw (List·getD-eq-default (tab f n) noRelay {n = i} (rw (length-tab f n) (omega arith))) (omega arith)
+      | yes l ↦ rw (getD-tab f n i noNwk l) (h i)
+      | no l ↦ rw (List·getD-eq-default (tab f n) noNwk {n = i} (rw (length-tab f n) (omega arith))) (omega arith)
     ]
 
 pub read-fits : (f : List ℕ) (c : NwkFrameControl) → Below 256 f → HeaderFits (headerBy f c)

@@ -16,8 +16,8 @@ use Rattle.octets.proofs.Strings.{getD-tab}
 use Rattle.octets.proofs.Numbers.{le-leAt, leAt-lt}
 use Rattle.octets.proofs.Conditions.{none}
 use Rattle.header.specs.declared.control.NwkFrameControl.{NwkFrameControl}
-use Rattle.header.specs.Optional.{multicastIf, multicastBytes, routeIf, routeBytes, noRelay}
-use Rattle.types.specs.Addresses.{nwk}
+use Rattle.header.specs.Optional.{multicastIf, multicastBytes, routeIf, routeBytes}
+use Rattle.types.specs.Addresses.{nwk, noNwk}
 use Rattle.types.specs.Optional.{ieeeIf, ieeeBytes}
 use Rattle.octets.specs.Fields.{bit}
 use Rattle.header.specs.Control.{controlWord}
@@ -73,11 +73,11 @@ few f r =
 
 -- a relay below the count is the one at its place
 relay-kept : (f : List ℕ) (c : NwkFrameControl) (i : ℕ) → relaysAnnounced f c ≤ 54 → i < relaysAnnounced f c
-    → getD (relaysOf f c) i noRelay ≡ nwk (leAt 2 f (routeAt c + 2 + 2 * i))
+    → getD (relaysOf f c) i noNwk ≡ nwk (leAt 2 f (routeAt c + 2 + 2 * i))
 unfolding relaysOf
 relay-kept f c i h l =
-    getD-tab _ 54 i noRelay (omega arith)
-    ∙ ap (λ (b : Bool). cond b (nwk (leAt 2 f (routeAt c + 2 + 2 * i))) noRelay) (lt-ltb i (relaysAnnounced f c) l)
+    getD-tab _ 54 i noNwk (omega arith)
+    ∙ ap (λ (b : Bool). cond b (nwk (leAt 2 f (routeAt c + 2 + 2 * i))) noNwk) (lt-ltb i (relaysAnnounced f c) l)
 
 pub write-back : (f : List ℕ) → Below 256 f → headerRefusal f ≡ 0
     → headerBytes (headerBy f (control f)) ≡ take (headerEnd f (control f)) f

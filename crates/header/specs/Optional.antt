@@ -6,7 +6,7 @@ use mathlib.Core.List.{List, [], _++_}
 use lib.ListN.{getD}
 use Rattle.octets.specs.Numbers.{le}
 use Rattle.types.specs.declared.Nwk.{Nwk}
-use Rattle.types.specs.Addresses.{nwk}
+use Rattle.types.specs.Addresses.{noNwk}
 use Rattle.header.specs.declared.{optional.OptionMulticast.OptionMulticast, optional.NwkSourceRoute.NwkSourceRoute}
 
 -- ---- the multicast control byte
@@ -38,14 +38,10 @@ abbrev pub relayCount : NwkSourceRoute → ℕ
 relayCount NwkSourceRoute.Absent = 0
 relayCount (NwkSourceRoute.Present n i) = n
 
--- the address past the relay count
-abbrev pub noRelay : Nwk
-noRelay = nwk 0
-
 -- the first n relays
 unfoldable pub relayBytes : ℕ → List Nwk → List ℕ
 relayBytes zero rs = []
-relayBytes (suc n) rs = relayBytes n rs ++ le 2 (getD rs n noRelay .0)
+relayBytes (suc n) rs = relayBytes n rs ++ le 2 (getD rs n noNwk .0)
 
 abbrev pub routeBytes : NwkSourceRoute → List Nwk → List ℕ
 routeBytes NwkSourceRoute.Absent rs = []

@@ -10,9 +10,9 @@ use Rattle.octets.specs.Strings.{tab}
 use Rattle.octets.specs.Numbers.{leAt}
 use Rattle.octets.specs.Refusals.{unless, Condition, on, firstOf}
 use Rattle.header.specs.declared.{control.NwkFrameControl.NwkFrameControl, nwk.NwkHeader.NwkHeader, nwk.HeaderRead.HeaderRead}
-use Rattle.header.specs.Optional.{multicastIf, routeIf, noRelay}
+use Rattle.header.specs.Optional.{multicastIf, routeIf}
 use Rattle.types.specs.declared.Nwk.{Nwk}
-use Rattle.types.specs.Addresses.{nwk}
+use Rattle.types.specs.Addresses.{nwk, noNwk}
 use Rattle.types.specs.Optional.{ieeeIf}
 use Rattle.octets.specs.Fields.{bit}
 use Rattle.header.specs.Control.{controlOf}
@@ -65,7 +65,7 @@ headerRefusal f =
 
 -- the addresses of the relays, and 0 past their count
 unfoldable pub relaysOf : List ℕ → NwkFrameControl → List Nwk
-relaysOf f c = tab (λ (i : ℕ). cond (ltb i (relaysAnnounced f c)) (nwk (leAt 2 f (routeAt c + 2 + 2 * i))) noRelay) 54
+relaysOf f c = tab (λ (i : ℕ). cond (ltb i (relaysAnnounced f c)) (nwk (leAt 2 f (routeAt c + 2 + 2 * i))) noNwk) 54
 
 unfoldable pub headerBy : List ℕ → NwkFrameControl → NwkHeader
 headerBy f c =

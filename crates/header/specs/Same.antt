@@ -8,9 +8,10 @@ use mathlib.Core.List.{List}
 use lib.ListN.{getD}
 use lib.Dec.{ltb}
 use Rattle.octets.specs.Strings.{tab}
+use Rattle.types.specs.Addresses.{noNwk}
 use Rattle.types.specs.declared.{Nwk.Nwk, OptionEui64.OptionEui64}
 use Rattle.header.specs.declared.{optional.OptionMulticast.OptionMulticast, optional.NwkSourceRoute.NwkSourceRoute, nwk.NwkHeader.NwkHeader, auxiliary.NwkAuxHeader.NwkAuxHeader}
-use Rattle.header.specs.Optional.{hasMulticast, hasRoute, relayCount, noRelay}
+use Rattle.header.specs.Optional.{hasMulticast, hasRoute, relayCount}
 use Rattle.types.specs.Optional.{hasIeee}
 
 -- bits 11, 12, 8 and 10 of frame control are set exactly when their fields are present
@@ -35,7 +36,7 @@ pub record SameHeader (h k : NwkHeader) : Type 0 where
   pub sourceIeee : h .«source_ieee» ≡ k .«source_ieee»
   pub multicast : h .«multicast_control» ≡ k .«multicast_control»
   pub route : h .«source_route» ≡ k .«source_route»
-  pub relays : (i : ℕ) → i < relayCount (h .«source_route») → getD (h .relays) i noRelay ≡ getD (k .relays) i noRelay
+  pub relays : (i : ℕ) → i < relayCount (h .«source_route») → getD (h .relays) i noNwk ≡ getD (k .relays) i noNwk
 
 -- the header with the places past the relay count at 0
 unfoldable pub cleared : NwkHeader → NwkHeader
@@ -50,7 +51,7 @@ cleared h =
       «source_ieee» = h .«source_ieee»;
       «multicast_control» = h .«multicast_control»;
       «source_route» = h .«source_route»;
-      relays = tab (λ (i : ℕ). cond (ltb i (relayCount (h .«source_route»))) (getD (h .relays) i noRelay) noRelay) 54;
+      relays = tab (λ (i : ℕ). cond (ltb i (relayCount (h .«source_route»))) (getD (h .relays) i noNwk) noNwk) 54;
     }
 
 -- ---- what every value has
@@ -68,7 +69,7 @@ RouteFits NwkSourceRoute.Absent = Unit {0}
 RouteFits (NwkSourceRoute.Present n i) = (n < 2 ^ 8) × (i < 2 ^ 8)
 
 abbrev pub RelaysFit : List Nwk → Type 0
-RelaysFit rs = (i : ℕ) → getD rs i noRelay .0 < 2 ^ 16
+RelaysFit rs = (i : ℕ) → getD rs i noNwk .0 < 2 ^ 16
 
 pub record HeaderFits (h : NwkHeader) : Type 0 where
   pub destination : h .destination .0 < 2 ^ 16

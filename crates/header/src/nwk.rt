@@ -5,6 +5,7 @@ use crate::optional::OptionMulticast;
 use octets::Written;
 use octets::bit_of;
 use octets::refusals;
+use types::NO_NWK;
 use types::Nwk;
 use types::OptionEui64;
 ghost use mathlib.Core.Path.{_≡_};
@@ -16,8 +17,8 @@ ghost use lib.ListN.{length};
 ghost use Rattle.octets.specs.Strings.{over};
 ghost use Rattle.octets.specs.Numbers.{le, leAt};
 ghost use Rattle.octets.specs.Refusals.{firstOf};
-ghost use Rattle.header.specs.Optional.{multicastBytes, routeBytes, relayCount, noRelay};
-ghost use Rattle.types.specs.Addresses.{nwk};
+ghost use Rattle.header.specs.Optional.{multicastBytes, routeBytes, relayCount};
+ghost use Rattle.types.specs.Addresses.{nwk, noNwk};
 ghost use Rattle.types.specs.Optional.{ieeeBytes};
 ghost use Rattle.header.specs.Reading.{optionalRefusals, sourceAt, multicastAt, routeAt, relaysAnnounced, headerEnd, headerRefusal, relaysOf, headerBy, blankHeader, readHeader};
 ghost use Rattle.header.specs.Writing.{headerBytes, badHeader, fieldRefusal, headerWriteRefusal, writeHeader};
@@ -30,9 +31,6 @@ pub const MIN_HEADER_OVERHEAD: usize = 8;
 
 // How many relays a header has places for.
 pub const MAX_RELAYS: u8 = 54;
-
-// The address past the relay count.
-pub const NO_RELAY: Nwk = Nwk(0);
 
 // The broadcast addresses (Zigbee Specification 3.6.5).
 pub const BROADCAST_ALL_DEVICES: u16 = 0xFFFF;
@@ -156,7 +154,7 @@ fn relays_of(f: &[u8], c: NwkFrameControl) -> [Nwk; 54]
 {
     let n = relays_announced(f, c);
     let first = route_at(c) + 2;
-    let mut relays = [NO_RELAY; 54];
+    let mut relays = [NO_NWK; 54];
     let mut i = 0;
     while i < 54 {
         relays[i] = relay_at(f, first, i, n);
@@ -168,12 +166,12 @@ fn relays_of(f: &[u8], c: NwkFrameControl) -> [Nwk; 54]
 // The relay at index i of n, the first standing at the place given.
 fn relay_at(f: &[u8], first: usize, i: usize, n: usize) -> Nwk
     requires { ⌜ (first < 256) × (i < 54) ⌝ }
-    ensures { λ r. ⌜ r ≡ cond (ltb i n) (nwk (leAt 2 (now (f .entry)) (first + 2 * i))) noRelay ⌝ }
+    ensures { λ r. ⌜ r ≡ cond (ltb i n) (nwk (leAt 2 (now (f .entry)) (first + 2 * i))) noNwk ⌝ }
 {
     if i < n {
         Nwk(octets::read_u16(f, first + 2 * i))
     } else {
-        NO_RELAY
+        NO_NWK
     }
 }
 
@@ -192,7 +190,7 @@ impl NwkHeader {
             source_ieee: OptionEui64::Absent,
             multicast_control: OptionMulticast::Absent,
             source_route: NwkSourceRoute::Absent,
-            relays: [NO_RELAY; 54],
+            relays: [NO_NWK; 54],
         }
     }
 

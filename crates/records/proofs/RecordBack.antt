@@ -15,8 +15,8 @@ use Rattle.octets.specs.Strings.{tab, Below}
 use Rattle.octets.specs.Numbers.{leAt}
 use Rattle.octets.proofs.Strings.{getD-tab, tab-getD}
 use Rattle.octets.proofs.Numbers.{le-leAt}
-use Rattle.types.specs.Addresses.{nwk}
-use Rattle.header.specs.Optional.{noRelay, relayBytes}
+use Rattle.types.specs.Addresses.{nwk, noNwk}
+use Rattle.header.specs.Optional.{relayBytes}
 use Rattle.header.specs.Control.{controlValues, controlFrom}
 use Rattle.header.proofs.Codes.{bit-of, type-of, discovery-of, level-of, keyId-of}
 use Rattle.octets.proofs.Conditions.{or-false}
@@ -75,7 +75,7 @@ address-piece r b l =
 
 relays-piece : (r : List ℕ) → Below 256 r → length r ≡ 147 → Piece r 39 108 (relayBytes 54 (relaysFrom r 39))
 unfolding relaysFrom
-relays-piece r b l = relay-read r 54 39 _ b (omega arith) (λ i h. getD-tab (λ (k : ℕ). nwk (leAt 2 r (39 + 2 * k))) 54 i noRelay h)
+relays-piece r b l = relay-read r 54 39 _ b (omega arith) (λ i h. getD-tab (λ (k : ℕ). nwk (leAt 2 r (39 + 2 * k))) 54 i noNwk h)
 
 pub headerRecord-back : (r : List ℕ) → HeaderPlain r → headerRecord (headerOf r) ≡ r
 unfolding headerRecord optionalRecord headerOf

@@ -13,10 +13,10 @@ use Rattle.octets.specs.Numbers.{le, leAt}
 use Rattle.octets.proofs.Strings.{tab-ext, tab-getD}
 use Rattle.octets.proofs.Numbers.{leAt-le, leAt-behind}
 use Rattle.types.specs.declared.{Nwk.Nwk, OptionEui64.OptionEui64}
-use Rattle.types.specs.Addresses.{nwk}
+use Rattle.types.specs.Addresses.{nwk, noNwk}
 use Rattle.header.specs.declared.{optional.OptionMulticast.OptionMulticast, optional.NwkSourceRoute.NwkSourceRoute, control.NwkFrameControl.NwkFrameControl, nwk.NwkHeader.NwkHeader, auxiliary.NwkAuxHeader.NwkAuxHeader}
 use Rattle.header.specs.Control.{controlValues, controlFrom}
-use Rattle.header.specs.Optional.{noRelay, relayBytes}
+use Rattle.header.specs.Optional.{relayBytes}
 use Rattle.header.specs.Same.{IeeeFits, MulticastFits, RouteFits, RelaysFit, HeaderFits, AuxFits}
 use Rattle.header.proofs.Codes.{bit-back, type-back, discovery-back, level-back, keyId-back}
 use Rattle.header.proofs.OptionalFields.{relay-at}
@@ -70,10 +70,10 @@ beforeRelays h = front h ++ (ieeeRecord (h .«destination_ieee») ++ (ieeeRecord
 relays-back : (p : List ℕ) (rs : List Nwk) (i : ℕ) → length p ≡ i → length rs ≡ 54 → RelaysFit rs → relaysFrom (p ++ relayBytes 54 rs) i ≡ rs
 unfolding relaysFrom
 relays-back p rs i e l b =
-    tab-ext _ (λ (k : ℕ). getD rs k noRelay) 54
+    tab-ext _ (λ (k : ℕ). getD rs k noNwk) 54
     (λ k s. ap nwk (ap (λ (n : ℕ). leAt 2 (p ++ relayBytes 54 rs) (n + 2 * k)) (sym e) ∙ leAt-behind 2 p (relayBytes 54 rs) (2 * k)
     ∙ ap (λ (s : List ℕ). leAt 2 s (2 * k)) (sym (append-nil (relayBytes 54 rs)))) ∙ relay-at 54 rs [] k b s)
-    ∙ tab-getD rs noRelay 54 (omega arith) ∙ take-all 54 rs (omega arith)
+    ∙ tab-getD rs noNwk 54 (omega arith) ∙ take-all 54 rs (omega arith)
 
 -- the header of a header's record, whose relays have their 54 places
 pub header-back : (h : NwkHeader) → HeaderFits h → length (h .relays) ≡ 54 → headerOf (headerRecord h) ≡ h

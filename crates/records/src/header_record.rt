@@ -9,11 +9,11 @@ use crate::optional::route_in;
 use header::control::NwkFrameControl;
 use header::control::NwkFrameType;
 use header::control::NwkRouteDiscovery;
-use header::nwk::NO_RELAY;
 use header::nwk::NwkHeader;
 use header::optional::NwkSourceRoute;
 use header::optional::OptionMulticast;
 use octets::bit_of;
+use types::NO_NWK;
 use types::Nwk;
 use types::OptionEui64;
 ghost use mathlib.Core.Path.{_≡_};
@@ -202,7 +202,7 @@ fn control_of(bytes: &[u8]) -> NwkFrameControl
 fn relays_of(bytes: &[u8]) -> [Nwk; 54]
     ensures { λ r. ⌜ r ≡ relaysFrom (now (bytes .entry)) 39 ⌝ }
 {
-    let mut relays = [NO_RELAY; 54];
+    let mut relays = [NO_NWK; 54];
     let mut i = 0;
     while i < 54 {
         relays[i] = Nwk(octets::read_u16(bytes, 39 + 2 * i));

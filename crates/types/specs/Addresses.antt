@@ -14,6 +14,10 @@ use Rattle.types.specs.declared.{Nwk.Nwk, NwkRead.NwkRead, PanId.PanId, 
 abbrev pub nwk : ℕ → Nwk
 nwk x = record { 0 = x }
 
+-- what stands in a list of addresses past its count
+abbrev pub noNwk : Nwk
+noNwk = nwk 0
+
 -- the PAN identifier of a number
 abbrev pub panId : ℕ → PanId
 panId x = record { 0 = x }

@@ -19,6 +19,9 @@ pub const MAX_NSDU_SIZE: usize = 108;
 // A 16-bit network address.
 pub struct Nwk(pub u16);
 
+// What stands in a list of addresses past its count.
+pub const NO_NWK: Nwk = Nwk(0);
+
 // A 16-bit PAN identifier.
 pub struct PanId(pub u16);
 

@@ -1,9 +1,10 @@
 -- `with_lists_at` meets its contract, field by field; every place of a list is read. Assumes nothing.
 use borrow.Author.Needs.{needs}
 use mathlib.Core.Path.{_∙_}
+use Rattle.types.specs.Addresses.{noNwk}
 use Rattle.command_records.proofs.read_lists.with_lists_at.Statement.{statement}
 use Rattle.command_records.proofs.read_lists.with_lists_at.Tie as tie
-use Rattle.commands.specs.Commands.{noRelay, noPanId, noPower}
+use Rattle.commands.specs.Commands.{noPanId, noPower}
 use Rattle.commands.proofs.Filling.{places-whole}
 use Rattle.command_records.specs.Lists.{withListsAt}
 
@@ -17,7 +18,7 @@ returns c =
     λ i. record {
       command = relays .before .before .before .args .command;
       «relay_count» = relays .before .byte-at .ensures i;
-      relays = (relays .read-relays .ensures ∙ places-whole _ noRelay 53) i;
+      relays = (relays .read-relays .ensures ∙ places-whole _ noNwk 53) i;
       «link_statuses_len» = links .before .byte-at2 .ensures i;
       «link_statuses» = links .links-at .ensures i;
       «report_information_count» = panIds .before .byte-at3 .ensures i;

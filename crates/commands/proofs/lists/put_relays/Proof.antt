@@ -6,14 +6,15 @@ use lib.ListN.{getD}
 use mathlib.Core.Path.{sym, ap, _∙_}
 use mathlib.Core.List.{append-nil}
 use Rattle.octets.specs.Strings.{over}
+use Rattle.types.specs.Addresses.{noNwk}
 use Rattle.commands.proofs.lists.put_relays.Statement.{statement}
 use Rattle.commands.proofs.lists.put_relays.Tie as tie
 use Rattle.commands.specs.Format.{size, sizes, width, writeField, writeFields}
 use Rattle.commands.proofs.EntriesWritten.{Put, put-none, put-next, put-all}
-use Rattle.commands.specs.Commands.{routeRecordFormat, relayEntry, noRelay}
+use Rattle.commands.specs.Commands.{routeRecordFormat, relayEntry}
 
 abbrev Inv-loop : tie.InvT-loop
-Inv-loop out₀ i n xs k₀ out k = Put (routeRecordFormat .entry) (λ (j : ℕ). relayEntry (getD xs j noRelay)) n k out₀ i out
+Inv-loop out₀ i n xs k₀ out k = Put (routeRecordFormat .entry) (λ (j : ℕ). relayEntry (getD xs j noNwk)) n k out₀ i out
 
 abbrev μ-loop : tie.MeasureT-loop
 μ-loop out₀ i n xs k₀ out k = n - k

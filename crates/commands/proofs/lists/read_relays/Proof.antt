@@ -5,17 +5,17 @@ use Rattle.commands.proofs.lists.read_relays.Statement.{statement}
 use Rattle.commands.proofs.lists.read_relays.Tie as tie
 use Rattle.commands.proofs.Filling.{Filled, fill-none, fill-next, fill-all}
 use mathlib.Core.Path.{ap}
-use Rattle.types.specs.Addresses.{nwk}
-use Rattle.commands.specs.Commands.{relayAt, noRelay}
+use Rattle.types.specs.Addresses.{nwk, noNwk}
+use Rattle.commands.specs.Commands.{relayAt}
 
 abbrev Inv-loop : tie.InvT-loop
-Inv-loop s i n relays₀ k₀ relays k = Filled (λ (j : ℕ). relayAt s (i + j * 2)) 53 noRelay n k relays
+Inv-loop s i n relays₀ k₀ relays k = Filled (λ (j : ℕ). relayAt s (i + j * 2)) 53 noNwk n k relays
 
 abbrev μ-loop : tie.MeasureT-loop
 μ-loop s i n relays₀ k₀ relays k = n - k
 
 loop-holds : tie.Need-loop-holds Inv-loop μ-loop
-loop-holds c = fill-none _ 53 noRelay _
+loop-holds c = fill-none _ 53 noNwk _
 
 loop-again : tie.Need-loop-again Inv-loop μ-loop
 loop-again c = fill-next (c .before .before .loop .inv) (omega arith) (omega arith) (ap nwk (c .read-u16 .ensures))

@@ -12,13 +12,12 @@ use Rattle.header.proofs.nwk.relays_of.Tie as tie
 use Rattle.octets.specs.Strings.{tab}
 use Rattle.octets.specs.Numbers.{leAt}
 use Rattle.octets.proofs.Strings.{fill-turn, filled}
-use Rattle.types.specs.Addresses.{nwk}
-use Rattle.header.specs.Optional.{noRelay}
+use Rattle.types.specs.Addresses.{nwk, noNwk}
 use Rattle.header.specs.Reading.{relaysOf}
 
 abbrev Inv-loop : tie.InvT-loop
 Inv-loop f n first relays₀ i₀ relays i =
-    (i ≤ 54) × (length relays ≡ 54) × (relays ≡ tab (λ (k : ℕ). cond (ltb k n) (nwk (leAt 2 f (first + 2 * k))) noRelay) i ++ drop i relays₀)
+    (i ≤ 54) × (length relays ≡ 54) × (relays ≡ tab (λ (k : ℕ). cond (ltb k n) (nwk (leAt 2 f (first + 2 * k))) noNwk) i ++ drop i relays₀)
 
 abbrev μ-loop : tie.MeasureT-loop
 μ-loop f n first relays₀ i₀ relays i = 54 - i
