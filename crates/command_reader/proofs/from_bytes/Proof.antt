@@ -10,7 +10,9 @@ use Rattle.commands.proofs.RoundTrip.{read-accepts, read-refuses}
 
 returns : tie.Need-returns
 unfolding unparsed
-returns c = rw (c .blank .ensures, read-refuses _ (c .before .if1 .taken))
+returns c =
+    let test = c .before in
+    rw (c .blank .ensures, read-refuses (test .before .before .args .s .now) (omega (arith, test .if1 .taken)))
 
 returns-2 : tie.Need-returns-2
 unfolding parsed
