@@ -1,6 +1,5 @@
 // Opening a frame (Zigbee Specification 4.3.1.2).
 use crate::FrameOpened;
-use crate::FrameRead;
 use crate::OptionAuxHeader;
 use crate::behind;
 use crate::read_frame;

@@ -19,10 +19,11 @@ both-headers-requires c κs =
     let e = ap (λ (z : NwkAuxHeader). length (auxBytes z)) (c .at-level .ensures) ∙ level-length networkLevel networkLevel (args .aux) in
     (pre .0, omega (arith, e, pre .1))
 
--- the first bytes of the local array, as many as the sizes say, are the authenticated ones
+-- where the function begins
 abbrev start : tie.After-size2 → tie.Start
 start s = s .before .before .before .before .before .before .before
 
+-- the first bytes of the local array, as many as the sizes say, are the authenticated ones
 taken : (s : tie.After-size2) → take (s .before .size .result + s .size2 .result) (s .before .before .both-headers .result)
     ≡ authenticated networkLevel (start s .args .h) (start s .args .aux)
 taken s =

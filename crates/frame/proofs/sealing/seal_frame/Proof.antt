@@ -14,10 +14,11 @@ use Rattle.frame.specs.Security.{networkLevel, sentLevel, authenticated}
 use Rattle.frame.specs.Sealing.{sealedLength}
 use Rattle.frame.proofs.Answers.{auth-length, auth-taken, sealed-done}
 
--- the first bytes of the local array, as many as the sizes say, are the authenticated ones
+-- where the function begins
 abbrev start : tie.After-size2 → tie.Start
 start s = s .before .before .before .before .before .before .before
 
+-- the first bytes of the local array, as many as the sizes say, are the authenticated ones
 taken : (s : tie.After-size2) → take (s .before .size .result + s .size2 .result) (s .before .before .both-headers .result)
     ≡ authenticated networkLevel (start s .args .h) (start s .args .aux)
 taken s =
