@@ -33,22 +33,10 @@ pub fn from_bytes(s: &[u8]) -> NwkCommandRead
     ensures { λ r. ⌜ r ≡ readCommand (now (s .entry)) ⌝ }
 {
     if s.len() > MAX_NSDU_SIZE {
-        let command = NwkCommandWithLists::blank(NwkCommand::Unparsed);
-        return NwkCommandRead {
-            refusal: refusals::PAYLOAD,
-            command,
-        };
+        return NwkCommandRead::refused(refusals::PAYLOAD);
     }
     let TypedBody::Typed(typed) = bodies::try_parse(s) else {
-        let command = lists::keep_unparsed(s);
-        return NwkCommandRead {
-            refusal: 0,
-            command,
-        };
+        return NwkCommandRead::accepted(lists::keep_unparsed(s));
     };
-    let command = with_list(typed, s);
-    NwkCommandRead {
-        refusal: 0,
-        command,
-    }
+    NwkCommandRead::accepted(with_list(typed, s))
 }

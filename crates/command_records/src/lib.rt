@@ -11,7 +11,6 @@ ghost use Prim.Native.Nat.{_≤_};
 ghost use lib.ListN.{length};
 ghost use Rattle.octets.specs.Strings.{over};
 ghost use Rattle.command_records.specs.CommandRecord.{commandRecord, readRecord};
-use commands::NwkCommand;
 use commands::NwkCommandRead;
 use commands::NwkCommandWithLists;
 use commands::TypedBody;
@@ -44,22 +43,10 @@ pub fn read_record(bytes: &[u8]) -> NwkCommandRead
     ensures { λ r. ⌜ r ≡ readRecord (now (bytes .entry)) ⌝ }
 {
     if bytes.len() != COMMAND_RECORD_SIZE {
-        let command = NwkCommandWithLists::blank(NwkCommand::Unparsed);
-        return NwkCommandRead {
-            refusal: refusals::FIELD,
-            command,
-        };
+        return NwkCommandRead::refused(refusals::FIELD);
     }
     let TypedBody::Typed(said) = read_fields::command_at(bytes) else {
-        let command = NwkCommandWithLists::blank(NwkCommand::Unparsed);
-        return NwkCommandRead {
-            refusal: refusals::FIELD,
-            command,
-        };
+        return NwkCommandRead::refused(refusals::FIELD);
     };
-    let command = read_lists::with_lists_at(bytes, said);
-    NwkCommandRead {
-        refusal: 0,
-        command,
-    }
+    NwkCommandRead::accepted(read_lists::with_lists_at(bytes, said))
 }

@@ -8,7 +8,7 @@ ghost use mathlib.Core.Path.{_≡_};
 ghost use mathlib.Core.List.{[]};
 ghost use Prim.Native.Nat.{_≤_};
 ghost use Rattle.commands.specs.Commands.{has};
-ghost use Rattle.commands.specs.Reading.{listOf, withLists};
+ghost use Rattle.commands.specs.Reading.{listOf, withLists, readAs, readNothing};
 ghost use Rattle.commands.specs.Writing.{typedId, commandId};
 use types::NO_NWK;
 use types::Nwk;
@@ -494,5 +494,25 @@ impl NwkCommandWithLists {
             return NwkCommandId::try_from(self.unparsed[0]);
         };
         NwkCommandIdCode::Known(id)
+    }
+}
+
+impl NwkCommandRead {
+    // A command that was read.
+    pub fn accepted(command: NwkCommandWithLists) -> Self
+        ensures { λ r. ⌜ r ≡ readAs command ⌝ }
+    {
+        NwkCommandRead {
+            refusal: 0,
+            command,
+        }
+    }
+
+    // A refusal, with the blank command beside it.
+    pub fn refused(refusal: u8) -> Self
+        ensures { λ r. ⌜ r ≡ readNothing refusal ⌝ }
+    {
+        let command = NwkCommandWithLists::blank(NwkCommand::Unparsed);
+        NwkCommandRead { refusal, command }
     }
 }
