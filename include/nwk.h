@@ -8,7 +8,7 @@
  * Every function answers one number: the length in bits 0 to 31 (NWK_LENGTH), the refusal in bits 32 to 39 (NWK_REFUSAL,
  * 0: accepted), the other bits 0. A refusal has length 0 and leaves every lent byte as it was, records included. Where
  * nothing is refused, each result stands at the front of its buffer and the rest of the buffer stays. Refusals are checked
- * in rising order; each function's comment lists those that it can answer.
+ * in the order in which each function's comment lists those that it can answer: rising, but for 20, which is first of all.
  *
  * Example:
  *
@@ -56,6 +56,9 @@ extern "C" {
 #define NWK_MAX_FRAME 118
 #define NWK_MAX_PAYLOAD 108
 
+/* The most frames of a burst. */
+#define NWK_MAX_BURST 16
+
 /* ---- refusals; nwk_refusal_text gives their conditions in words */
 
 enum nwk_refusal {
@@ -78,7 +81,8 @@ enum nwk_refusal {
   NWK_REFUSED_NO_MIC = 16,
   NWK_REFUSED_LENGTH = 17,
   NWK_REFUSED_NO_ROOM = 18,
-  NWK_REFUSED_WRONG_MIC = 19
+  NWK_REFUSED_WRONG_MIC = 19,
+  NWK_REFUSED_BURST = 20
 };
 
 /* ---- records
@@ -137,7 +141,8 @@ enum nwk_refusal {
  * address of the byte at 163 that of an auxiliary record.
  *
  *   offset  bytes  field
- *        0      1  refusal; 0, since a refused frame changes no byte of the record
+ *        0      1  refusal; nwk_open leaves a record as it was where it refuses, so that 0 stands here. In a burst the number of
+ *                  a refused frame, beside which all the rest of its record is 0
  *        1      1  mark: room for what is said of a frame beside; 0
  *        2      2  length of the payload
  *        4      1  count of cipher blocks; 0 until it is reported
@@ -295,6 +300,19 @@ uint64_t nwk_seal(uint64_t key_first, uint64_t key_second, const uint8_t *header
 uint64_t nwk_open(uint64_t key_first, uint64_t key_second, const uint8_t *bytes, size_t bytes_len, uint8_t *opened,
                   size_t opened_len, uint8_t *out, size_t out_len);
 
+/* Open a burst: up to 16 frames under one key, frames being their bytes end to end and lengths the number of bytes of each.
+ * answers is a list of answers_count opened records. Length: the number of frames. Refusals: 20, first of all: more than 16
+ * lengths; lengths whose sum is not frames_len; out shorter than 108 times lengths_count; fewer answers than lengths. Nothing
+ * else refuses a burst: no frames are accepted with 0, and a frame that opening alone refuses has its number in its own record
+ * and stops no other.
+ * Afterwards answers[k] is the opened record of frame k (from 0), number and length included, and its payload stands at the front
+ * of its own part of out, the 108 bytes from 108 * k: what nwk_open would leave of frame k alone with that part lent. Beside
+ * a refused frame's number all the rest of its record is 0, and its part stays. So do the bytes behind a payload and behind the last
+ * part, and the records past the number of frames. */
+uint64_t nwk_open_burst(uint64_t key_first, uint64_t key_second, const uint8_t *frames, size_t frames_len,
+                        const uint16_t *lengths, size_t lengths_count, uint8_t (*answers)[NWK_OPENED_RECORD],
+                        size_t answers_count, uint8_t *out, size_t out_len);
+
 /* What a payload is: bytes for the layer above, or a command. */
 #define NWK_PAYLOAD_OPAQUE 0
 #define NWK_PAYLOAD_COMMAND 1
@@ -369,6 +387,8 @@ static inline const char *nwk_refusal_text(uint8_t refusal) {
       "the bytes to write exceed 118 for a header or frame, or 108 for a payload, alone or in a frame",
       "the lent output is shorter than what is to be written",
       "the MIC is not the one computed",
+      "a burst has more than 16 lengths, they do not add up to the bytes lent, the output is shorter than 108 times "
+      "their number, or the list for the answers is shorter than their number",
   };
   return refusal < sizeof texts / sizeof texts[0] ? texts[refusal] : "a number that the list does not have";
 }
@@ -462,6 +482,17 @@ static inline uint64_t nwk_open_or_null(uint64_t key_first, uint64_t key_second,
                   nwk_lent(out, out_len), out_len);
 }
 
+static inline uint64_t nwk_open_burst_or_null(uint64_t key_first, uint64_t key_second, const uint8_t *frames,
+                                              size_t frames_len, const uint16_t *lengths, size_t lengths_count,
+                                              uint8_t (*answers)[NWK_OPENED_RECORD], size_t answers_count, uint8_t *out,
+                                              size_t out_len) {
+  static const uint16_t no_length = 0;
+  static uint8_t no_answer[1][NWK_OPENED_RECORD];
+  return nwk_open_burst(key_first, key_second, nwk_given(frames, frames_len), frames_len,
+                        lengths_count == 0 ? &no_length : lengths, lengths_count, answers_count == 0 ? no_answer : answers,
+                        answers_count, nwk_lent(out, out_len), out_len);
+}
+
 static inline uint64_t nwk_read_command_or_null(const uint8_t *bytes, size_t bytes_len, uint8_t *command,
                                                 size_t command_len) {
   return nwk_read_command(nwk_given(bytes, bytes_len), bytes_len, nwk_lent(command, command_len), command_len);
@@ -497,6 +528,7 @@ static inline uint64_t nwk_split_mic_or_null(const uint8_t *bytes, size_t bytes_
 #define nwk_write_frame nwk_write_frame_or_null
 #define nwk_seal nwk_seal_or_null
 #define nwk_open nwk_open_or_null
+#define nwk_open_burst nwk_open_burst_or_null
 #define nwk_read_command nwk_read_command_or_null
 #define nwk_write_command nwk_write_command_or_null
 #define nwk_encrypt_ccm nwk_encrypt_ccm_or_null

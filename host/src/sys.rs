@@ -42,6 +42,18 @@ extern "C" {
         out: *mut u8,
         out_len: usize,
     ) -> u64;
+    pub fn nwk_open_burst(
+        key_first: u64,
+        key_second: u64,
+        frames: *const u8,
+        frames_len: usize,
+        lengths: *const u16,
+        lengths_count: usize,
+        answers: *mut [u8; 182],
+        answers_count: usize,
+        out: *mut u8,
+        out_len: usize,
+    ) -> u64;
     pub fn nwk_payload_kind(frame_type: u8) -> u64;
     pub fn nwk_read_command(bytes: *const u8, bytes_len: usize, command: *mut u8, command_len: usize) -> u64;
     pub fn nwk_write_command(command: *const u8, command_len: usize, out: *mut u8, out_len: usize) -> u64;

@@ -1,4 +1,4 @@
-// The refusals, each by its name: document 01's list, its numbers and its words. 0 is no refusal.
+// The refusals, each by its name: the numbers and the words of document 01's list and of document 02's. 0 is no refusal.
 
 // 1: a frame, or the bytes given to read a header or an auxiliary header, are more than 118; or authenticated data or a payload handed to CCM alone is more than 127
 pub const TOO_LONG: u8 = 1;
@@ -56,3 +56,6 @@ pub const NO_ROOM: u8 = 18;
 
 // 19: the MIC is not the one computed
 pub const WRONG_MIC: u8 = 19;
+
+// 20: a burst has more than 16 lengths, they do not add up to the bytes lent, the output is shorter than 108 times their number, or the list for the answers is shorter than their number
+pub const BURST: u8 = 20;
