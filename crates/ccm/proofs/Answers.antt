@@ -14,16 +14,16 @@ use Rattle.octets.specs.Strings.{tab, over}
 use Rattle.octets.specs.Refusals.{firstOf}
 use Rattle.octets.proofs.Strings.{tab-ext, tab-getD}
 use Rattle.octets.proofs.Conditions.{none}
-use Rattle.aes.specs.KeyExpansion.{keyExpansion}
 use Rattle.aes.specs.Cipher.{cipher, aes128}
 use Rattle.aes.proofs.Block.{cipher-aes128}
 use Rattle.ccm.specs.Counters.{counterMode}
 use Rattle.ccm.specs.Generation.{encryptedTag, generationEncryption}
 use Rattle.ccm.specs.Verification.{Verified, tagValid, decryptionVerification}
-use Rattle.ccm.specs.Operations.{micLength, sealRefusal, givenIf}
+use Rattle.ccm.specs.Operations.{micLength, sealedBy, openedBy, expanded, Under, sealRefusal, givenIf}
 
 -- the cipher under expanded round keys is AES-128
-pub cipher-is : (key : List ℕ) (w : List (List (List ℕ))) → w ≡ keyExpansion key → cipher w ≡ aes128 key
+pub cipher-is : (key : List ℕ) (w : List (List (List ℕ))) → w ≡ expanded key → cipher w ≡ aes128 key
+unfolding expanded
 cipher-is key w e = fun-ext (λ b. cipher-aes128 key b e refl)
 
 -- ---- the refusals in their order
@@ -53,32 +53,32 @@ within a n₀ room e =
 
 -- ---- sealing
 
-module _ (key : List ℕ) (w : List (List (List ℕ))) (nonce a p : List ℕ) (e : w ≡ keyExpansion key) where
-  pub tag-given : (r : List ℕ) → r ≡ encryptedTag micLength (cipher w) nonce a p → r ≡ generationEncryption micLength (aes128 key) nonce a p .tag
+module _ (key : List ℕ) (w : List (List (List ℕ))) (nonce a p : List ℕ) (e : w ≡ expanded key) where
+  pub tag-given : (r : List ℕ) → r ≡ encryptedTag micLength (cipher w) nonce a p → r ≡ sealedBy micLength key nonce a p .tag
   unfolding generationEncryption
   tag-given r h = h ∙ ap (λ (f : List ℕ → List ℕ). encryptedTag micLength f nonce a p) (cipher-is key w e)
 
   pub ciphertext-given : (c out o : List ℕ) → take (length p) c ≡ counterMode (cipher w) nonce p → o ≡ over out 0 (take (length p) c)
-      → o ≡ over out 0 (generationEncryption micLength (aes128 key) nonce a p .ciphertext)
+      → o ≡ over out 0 (sealedBy micLength key nonce a p .ciphertext)
   unfolding generationEncryption
   ciphertext-given c out o h g = g ∙ ap (over out 0) (h ∙ ap (λ (f : List ℕ → List ℕ). counterMode f nonce p) (cipher-is key w e))
 
--- ---- opening
+-- ---- opening, under the round keys w
 
-module _ (key : List ℕ) (w : List (List (List ℕ))) (nonce a c mic : List ℕ) (e : w ≡ keyExpansion key) (p : List ℕ) (h : p ≡ counterMode (cipher w) nonce c) where
+module _ (w : List (List (List ℕ))) (nonce a c mic p : List ℕ) (h : p ≡ counterMode (cipher w) nonce c) where
   -- the payload is the one of the definition
-  payload-is : p ≡ counterMode (aes128 key) nonce c
-  payload-is = h ∙ ap (λ (f : List ℕ → List ℕ). counterMode f nonce c) (cipher-is key w e)
+  payload-is : (key : List ℕ) → w ≡ expanded key → p ≡ counterMode (aes128 key) nonce c
+  payload-is key e = h ∙ ap (λ (f : List ℕ → List ℕ). counterMode f nonce c) (cipher-is key w e)
 
-  pub valid-given : (v : Bool) → v ≡ tagValid micLength (cipher w) nonce a p mic → v ≡ decryptionVerification micLength (aes128 key) nonce a c mic .valid
+  pub valid-given : (v : Bool) → v ≡ tagValid micLength (cipher w) nonce a p mic → Under w (λ (key : List ℕ). v ≡ openedBy micLength key nonce a c mic .valid)
   unfolding decryptionVerification
-  valid-given v g =
+  valid-given v g key e =
       g ∙ ap (λ (f : List ℕ → List ℕ). tagValid micLength f nonce a p mic) (cipher-is key w e)
-      ∙ ap (λ (x : List ℕ). tagValid micLength (aes128 key) nonce a x mic) payload-is
+      ∙ ap (λ (x : List ℕ). tagValid micLength (aes128 key) nonce a x mic) (payload-is key e)
 
-  pub payload-given : (v : Bool) (out o : List ℕ) → v ≡ true → o ≡ over out 0 p → o ≡ givenIf v (decryptionVerification micLength (aes128 key) nonce a c mic) out
+  pub payload-given : (v : Bool) (out o : List ℕ) → v ≡ true → o ≡ over out 0 p → Under w (λ (key : List ℕ). o ≡ givenIf v (openedBy micLength key nonce a c mic) out)
   unfolding decryptionVerification givenIf
-  payload-given v out o t g = rw t (g ∙ ap (over out 0) payload-is)
+  payload-given v out o t g key e = rw t (g ∙ ap (over out 0) (payload-is key e))
 
 pub nothing-given : (v : Bool) (d : Verified) (out : List ℕ) → v ≡ false → out ≡ givenIf v d out
 unfolding givenIf

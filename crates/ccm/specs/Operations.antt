@@ -1,6 +1,7 @@
 -- The operations (document 01, CCM and the refusal list): each gives its whole answer and what the lent output holds after,
 -- refusals included. The tag is the 4-byte MIC. A refusal is its number, with length 0, zeros for a MIC and the output as it was.
 -- Assumes nothing.
+use mathlib.Core.Path.{_≡_}
 use mathlib.Core.Bool.{Bool, cond, not}
 use mathlib.Core.List.{List, [], _∷_}
 use Prim.Native.Nat.{ℕ, _-_}
@@ -9,6 +10,7 @@ use lib.ListN.{length, drop}
 use Rattle.octets.specs.Strings.{over}
 use Rattle.octets.specs.Refusals.{unless, on, by, firstOf}
 use Rattle.octets.specs.Writing.{Run, written}
+use Rattle.aes.specs.KeyExpansion.{keyExpansion}
 use Rattle.aes.specs.Cipher.{aes128}
 use Rattle.ccm.specs.Generation.{Generated, generationEncryption}
 use Rattle.ccm.specs.Verification.{Verified, decryptionVerification}
@@ -28,6 +30,14 @@ sealedBy t key nonce a p = generationEncryption t (aes128 key) nonce a p
 
 abbrev pub openedBy : ℕ → List ℕ → List ℕ → List ℕ → List ℕ → List ℕ → Verified
 openedBy t key nonce a c mic = decryptionVerification t (aes128 key) nonce a c mic
+
+-- the round keys of a key, for a caller that opens more than once under it
+unfoldable pub expanded : List ℕ → List (List (List ℕ))
+expanded key = keyExpansion key
+
+-- a promise made under the round keys w: it is kept of the key that they are expanded from
+abbrev pub Under : List (List (List ℕ)) → (List ℕ → Type 0) → Type 0
+Under w Kept = (key : List ℕ) → w ≡ expanded key → Kept key
 
 -- ---- encrypt_ccm
 

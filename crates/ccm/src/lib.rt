@@ -3,13 +3,11 @@
 use octets::Written;
 use octets::refusals;
 ghost use mathlib.Core.Path.{_≡_};
-ghost use Prim.Native.Nat.{_≤_};
+ghost use mathlib.Core.List.{List};
+ghost use Prim.Native.Nat.{ℕ, _≤_};
 ghost use lib.ListN.{length};
 ghost use Rattle.octets.specs.Strings.{over};
-ghost use Rattle.aes.specs.Cipher.{aes128};
-ghost use Rattle.ccm.specs.Generation.{generationEncryption};
-ghost use Rattle.ccm.specs.Verification.{decryptionVerification};
-ghost use Rattle.ccm.specs.Operations.{micLength, sealRefusal, encryptCcm, givenIf, decryptCcm, splitMic};
+ghost use Rattle.ccm.specs.Operations.{micLength, sealedBy, openedBy, expanded, Under, sealRefusal, encryptCcm, givenIf, decryptCcm, splitMic};
 
 mod counter;
 mod formatting;
@@ -50,24 +48,31 @@ fn refusal(a: usize, n: usize, room: usize) -> u8
     0
 }
 
+// The round keys of a key, for a caller that opens more than once under it.
+pub fn expand(key: [u8; 16]) -> [[[u8; 4]; 4]; 11]
+    ensures { λ r. ⌜ r ≡ expanded key ⌝ }
+{
+    aes::key_expansion(key)
+}
+
 // Generation-encryption (SP 800-38C, 6.1), for a caller that has checked the lengths: the ciphertext goes to the front of
 // the output, the MIC is given.
 pub fn seal(key: [u8; 16], nonce: [u8; 13], auth: &[u8], payload: &[u8], out: &mut [u8]) -> [u8; 4]
     requires { ⌜ (length (now auth) ≤ 127) × (length (now payload) ≤ 127) × (length (now payload) ≤ length (now out)) ⌝ }
-    ensures mic { λ r. ⌜ r ≡ generationEncryption micLength (aes128 key) nonce (now (auth .entry)) (now (payload .entry)) .tag ⌝ }
-    ensures buffer { λ _. ⌜ now (out .exit) ≡ over (now (out .entry)) 0 (generationEncryption micLength (aes128 key) nonce (now (auth .entry)) (now (payload .entry)) .ciphertext) ⌝ }
+    ensures mic { λ r. ⌜ r ≡ sealedBy micLength key nonce (now (auth .entry)) (now (payload .entry)) .tag ⌝ }
+    ensures buffer { λ _. ⌜ now (out .exit) ≡ over (now (out .entry)) 0 (sealedBy micLength key nonce (now (auth .entry)) (now (payload .entry)) .ciphertext) ⌝ }
 {
-    let keys = aes::key_expansion(key);
+    let keys = expand(key);
     let n = payload.len();
     let ciphertext = counter::counter_mode(&keys, nonce, payload);
     octets::copy_at(out, 0, &ciphertext[..n]);
     mac::encrypted_tag(&keys, nonce, auth, payload)
 }
 
-// Decryption-verification (SP 800-38C, 6.2), for a caller that has checked the lengths: whether the MIC is the one computed;
-// only then the payload goes to the front of the output.
-pub fn open(
-    key: [u8; 16],
+// Decryption-verification (SP 800-38C, 6.2) under a key's round keys, for a caller that has checked the lengths: whether the
+// MIC is the one computed; only then the payload goes to the front of the output.
+pub fn open_under(
+    keys: &[[[u8; 4]; 4]; 11],
     nonce: [u8; 13],
     auth: &[u8],
     ciphertext: &[u8],
@@ -75,13 +80,12 @@ pub fn open(
     out: &mut [u8],
 ) -> bool
     requires { ⌜ (length (now auth) ≤ 127) × (length (now ciphertext) ≤ 127) × (length (now ciphertext) ≤ length (now out)) ⌝ }
-    ensures valid { λ r. ⌜ r ≡ decryptionVerification micLength (aes128 key) nonce (now (auth .entry)) (now (ciphertext .entry)) mic .valid ⌝ }
-    ensures buffer { λ r. ⌜ now (out .exit) ≡ givenIf r (decryptionVerification micLength (aes128 key) nonce (now (auth .entry)) (now (ciphertext .entry)) mic) (now (out .entry)) ⌝ }
+    ensures valid { λ r. ⌜ Under (now (keys .entry)) (λ (key : List ℕ). r ≡ openedBy micLength key nonce (now (auth .entry)) (now (ciphertext .entry)) mic .valid) ⌝ }
+    ensures buffer { λ r. ⌜ Under (now (keys .entry)) (λ (key : List ℕ). now (out .exit) ≡ givenIf r (openedBy micLength key nonce (now (auth .entry)) (now (ciphertext .entry)) mic) (now (out .entry))) ⌝ }
 {
-    let keys = aes::key_expansion(key);
     let n = ciphertext.len();
-    let payload = counter::counter_mode(&keys, nonce, ciphertext);
-    let valid = mac::tag_valid(&keys, nonce, auth, &payload[..n], mic);
+    let payload = counter::counter_mode(keys, nonce, ciphertext);
+    let valid = mac::tag_valid(keys, nonce, auth, &payload[..n], mic);
     if valid {
         octets::copy_at(out, 0, &payload[..n]);
     }
@@ -134,7 +138,8 @@ pub fn decrypt_ccm(
             length: 0,
         };
     }
-    if open(key, nonce, auth, ciphertext, mic, out) {
+    let keys = expand(key);
+    if open_under(&keys, nonce, auth, ciphertext, mic, out) {
         return Written {
             refusal: 0,
             length: ciphertext.len(),

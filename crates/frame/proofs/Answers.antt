@@ -1,7 +1,7 @@
 -- What the functions return, over plain values: each lemma turns what the calls promised into the answer of one `return`.
 -- Assumes nothing.
 use mathlib.Core.Path.{_≡_, refl, sym, ap, _∙_}
-use mathlib.Core.Bool.{Bool, true, false, cond, not, _||_}
+use mathlib.Core.Bool.{Bool, true, false, not, _||_}
 use mathlib.Core.List.{List, _++_}
 use Prim.Native.Nat.{ℕ, _+_, _-_, _≤_, _<_}
 use lib.ListN.{length, drop, take, length-append, length-drop}
@@ -21,11 +21,11 @@ use Rattle.header.specs.Auxiliary.{auxBytes, readAux}
 use Rattle.header.proofs.ReadFacts.{header-facts, aux-facts}
 use Rattle.ccm.specs.declared.Split.{Split}
 use Rattle.ccm.specs.Verification.{Verified}
-use Rattle.ccm.specs.Operations.{micLength, sealedBy, openedBy, splitMic, givenIf}
+use Rattle.ccm.specs.Operations.{micLength, sealedBy, openedBy, Under, splitMic, givenIf}
 use Rattle.frame.specs.declared.{OptionAuxHeader.OptionAuxHeader, FrameRead.FrameRead}
 use Rattle.frame.specs.Security.{networkLevel, sentLevel, atLevel, isAbsent, orBlank, nonce, authenticated}
 use Rattle.frame.specs.Sealing.{generated, sealedBytes}
-use Rattle.frame.specs.Opening.{behind, ciphertextOf, micOf, verified, openRefusals, openRefusal, openGiven, openNothing, openBy, openFrame}
+use Rattle.frame.specs.Opening.{behind, ciphertextOf, micOf, verified, openRefusals, openRefusal, Run, openGiven, openNothing, openBy, openFrame}
 use Rattle.frame.proofs.Levels.{level-length}
 use Rattle.frame.proofs.SecondHalf.{secured-facts, payload-length}
 use Rattle.frame.specs.Reading.{secured, auxBehind, frameRefusal, frameNumber, frameBy, readFrame}
@@ -134,25 +134,16 @@ module _ (key f part o : List ℕ) (r : FrameRead) (n : ℕ) (read : r ≡ readF
   unfolding openBy openRefusal
   open-stopped h = refused-by _ n _ (λ (m : ℕ). openNothing m o) (keyless ∙ sym (stop-by _ _ (λ z. h (keyless ∙ z)))) h ∙ run
 
-  pub open-invalid : n ≡ 0 → verified networkLevel micLength key f r .valid ≡ false → openNothing 19 o ≡ openFrame key f o
+  open-invalid : n ≡ 0 → verified networkLevel micLength key f r .valid ≡ false → openNothing 19 o ≡ openFrame key f o
   unfolding openBy openRefusal
   open-invalid e bad =
       refused-by _ 19 _ (λ (m : ℕ). openNothing m o) (sym (skip-by _ _ (sym keyless ∙ e) ∙ stop 19 _ _ (ap not bad))) (λ z. omega arith) ∙ run
 
-  pub open-valid : n ≡ 0 → verified networkLevel micLength key f r .valid ≡ true
+  open-valid : n ≡ 0 → verified networkLevel micLength key f r .valid ≡ true
       → openGiven r (verified networkLevel micLength key f r) o ≡ openFrame key f o
   unfolding openBy openRefusal
   open-valid e good =
       accepted-by _ 0 _ _ (sym (skip-by _ _ (sym keyless ∙ e) ∙ skip 19 _ _ (ap not good) ∙ empty)) refl ∙ run
-
--- what the output holds by the verdict on the MIC
-pub given-valid : (b : Bool) (v : Verified) (o : List ℕ) → b ≡ true → givenIf b v o ≡ over o 0 (v .payload)
-unfolding givenIf
-given-valid b v o e = ap (λ (x : Bool). cond x (over o 0 (v .payload)) o) e
-
-pub given-invalid : (b : Bool) (v : Verified) (o : List ℕ) → b ≡ false → givenIf b v o ≡ o
-unfolding givenIf
-given-invalid b v o e = ap (λ (x : Bool). cond x (over o 0 (v .payload)) o) e
 
 -- ---- sealing
 
@@ -172,7 +163,7 @@ sealed-done key h x y p o o₁ o₂ start n a size sent first en ea second =
 
 -- ---- opening, by what the calls gave
 
-pub verified-is : (key f part : List ℕ) (r : FrameRead) (x : NwkAuxHeader) → x ≡ orBlank (r .aux) → part ≡ drop (r .length) f
+verified-is : (key f part : List ℕ) (r : FrameRead) (x : NwkAuxHeader) → x ≡ orBlank (r .aux) → part ≡ drop (r .length) f
     → openedBy 4 key (nonce networkLevel (r .header) x) (authenticated networkLevel (r .header) x) (ciphertextOf 4 part) (micOf 4 part)
     ≡ verified networkLevel 4 key f r
 unfolding verified behind
@@ -185,6 +176,34 @@ pub ready-facts : (f : List ℕ) (r : FrameRead) → Below 256 f → r ≡ readF
     × (length (drop (r .length) f) ≤ 127)
 ready-facts f r u e read present = rw e (open-facts f u (rw e at read) (rw e at present))
 
-pub payload-size : (key f part : List ℕ) (r : FrameRead) → part ≡ drop (r .length) f → length part - 4 ≡ length (verified networkLevel 4 key f r .payload)
+payload-size : (key f part : List ℕ) (r : FrameRead) → part ≡ drop (r .length) f → length part - 4 ≡ length (verified networkLevel 4 key f r .payload)
 unfolding behind
 payload-size key f part r e = ap (λ (l : List ℕ). length l - 4) e ∙ sym (payload-length networkLevel 4 key f r)
+
+-- what CCM makes of the part p, x being the auxiliary header
+abbrev made : List ℕ → NwkHeader → NwkAuxHeader → List ℕ → Verified
+made key h x p = openedBy 4 key (nonce networkLevel h x) (authenticated networkLevel h x) (ciphertextOf 4 p) (micOf 4 p)
+
+-- under the round keys w no other refusal holds, and CCM found the MIC valid or not (b), and left o′ for o
+module _ (w : List (List (List ℕ))) (f part o o′ : List ℕ) (r : FrameRead) (x : NwkAuxHeader) (n : ℕ) (b : Bool)
+    (read : r ≡ readFrame f) (rest : part ≡ drop (r .length) f) (present : x ≡ orBlank (r .aux))
+    (number : n ≡ firstOf (openRefusals micLength (r .refusal) (r .header) (r .aux) (length part) (length o))) (passed : n ≡ 0)
+    (valid : Under w (λ (key : List ℕ). b ≡ made key (r .header) x part .valid))
+    (given : Under w (λ (key : List ℕ). o′ ≡ givenIf b (made key (r .header) x part) o)) where
+  pub opened-valid : b ≡ true → Under w (λ (key : List ℕ).
+      _≡_ {A = Run} (record { answer = record { refusal = 0; length = length part - 4; header = r .header; aux = r .aux }; out = o′ }) (openFrame key f o))
+  unfolding givenIf
+  opened-valid t key e =
+      let v = verified-is key f part r x present rest in
+      (λ i. record {
+        answer = record { refusal = 0; length = payload-size key f part r rest i; header = r .header; aux = r .aux };
+        out = (rw (t, v) at (given key e)) i;
+      })
+      ∙ open-valid key f part o r n read rest number passed (sym (valid key e ∙ ap (λ (y : Verified). y .valid) v) ∙ t)
+
+  pub opened-invalid : b ≡ false → Under w (λ (key : List ℕ). openNothing 19 o′ ≡ openFrame key f o)
+  unfolding givenIf
+  opened-invalid t key e =
+      let v = verified-is key f part r x present rest in
+      ap (openNothing 19) (rw t at (given key e))
+      ∙ open-invalid key f part o r n read rest number passed (sym (valid key e ∙ ap (λ (y : Verified). y .valid) v) ∙ t)

@@ -5,4 +5,5 @@ pub mod FirstHalf
 pub mod SecondHalf
 pub mod SealingLaw
 pub mod Answers
+pub mod Opened
 pub mod ClearFrames

@@ -11,12 +11,13 @@ use octets::refusals;
 use types::Key;
 ghost use mathlib.Core.Path.{_≡_};
 ghost use mathlib.Core.Bool.{false};
-ghost use Prim.Native.Nat.{_+_, _-_, _≤_, _<_};
+ghost use mathlib.Core.List.{List};
+ghost use Prim.Native.Nat.{ℕ, _+_, _-_, _≤_, _<_};
 ghost use lib.ListN.{length};
 ghost use Rattle.octets.specs.Refusals.{firstOf};
 ghost use Rattle.header.specs.Auxiliary.{auxBytes};
 ghost use Rattle.header.specs.Writing.{badHeader, headerBytes};
-ghost use Rattle.ccm.specs.Operations.{micLength, openedBy, givenIf};
+ghost use Rattle.ccm.specs.Operations.{micLength, openedBy, Under, givenIf};
 ghost use Rattle.frame.specs.Security.{networkLevel, nonce, authenticated};
 ghost use Rattle.frame.specs.Opening.{ciphertextOf, micOf, openRefusals, openRefused, openFrame};
 
@@ -59,34 +60,45 @@ pub fn open_refusal(number: u8, h: NwkHeader, aux: OptionAuxHeader, part: usize,
 }
 
 // Open ciphertext and MIC: whether the MIC is the one computed; only then the payload goes to the front of the output.
-fn open_part(key: [u8; 16], nonce: [u8; 13], auth: &[u8], part: &[u8], out: &mut [u8]) -> bool
+fn open_part(
+    keys: &[[[u8; 4]; 4]; 11],
+    nonce: [u8; 13],
+    auth: &[u8],
+    part: &[u8],
+    out: &mut [u8],
+) -> bool
     requires { ⌜ (length (now auth) ≤ 127) × (length (now part) ≤ 127) × (4 ≤ length (now part)) × (length (now part) - 4 ≤ length (now out)) ⌝ }
-    ensures valid { λ r. ⌜ r ≡ openedBy micLength key nonce (now (auth .entry)) (ciphertextOf micLength (now (part .entry))) (micOf micLength (now (part .entry))) .valid ⌝ }
-    ensures buffer { λ r. ⌜ now (out .exit) ≡ givenIf r (openedBy micLength key nonce (now (auth .entry)) (ciphertextOf micLength (now (part .entry))) (micOf micLength (now (part .entry)))) (now (out .entry)) ⌝ }
+    ensures valid { λ r. ⌜ Under (now (keys .entry)) (λ (key : List ℕ). r ≡ openedBy micLength key nonce (now (auth .entry)) (ciphertextOf micLength (now (part .entry))) (micOf micLength (now (part .entry))) .valid) ⌝ }
+    ensures buffer { λ r. ⌜ Under (now (keys .entry)) (λ (key : List ℕ). now (out .exit) ≡ givenIf r (openedBy micLength key nonce (now (auth .entry)) (ciphertextOf micLength (now (part .entry))) (micOf micLength (now (part .entry)))) (now (out .entry))) ⌝ }
 {
     let split = ccm::split_mic(part);
     let mic = split.mic;
     let n = part.len() - ccm::MIC_LENGTH;
-    ccm::open(key, nonce, auth, &part[..n], mic, out)
+    ccm::open_under(keys, nonce, auth, &part[..n], mic, out)
 }
 
 // Open a frame that was read and meets no refusal but perhaps 19.
-fn open_frame(key: [u8; 16], h: NwkHeader, aux: NwkAuxHeader, part: &[u8], out: &mut [u8]) -> bool
+fn open_frame(
+    keys: &[[[u8; 4]; 4]; 11],
+    h: NwkHeader,
+    aux: NwkAuxHeader,
+    part: &[u8],
+    out: &mut [u8],
+) -> bool
     requires { ⌜ (badHeader h ≡ false) × (length (headerBytes h) + length (auxBytes aux) ≤ 118) × (length (now part) ≤ 127) × (4 ≤ length (now part)) × (length (now part) - 4 ≤ length (now out)) ⌝ }
-    ensures valid { λ r. ⌜ r ≡ openedBy micLength key (nonce networkLevel h aux) (authenticated networkLevel h aux) (ciphertextOf micLength (now (part .entry))) (micOf micLength (now (part .entry))) .valid ⌝ }
-    ensures buffer { λ r. ⌜ now (out .exit) ≡ givenIf r (openedBy micLength key (nonce networkLevel h aux) (authenticated networkLevel h aux) (ciphertextOf micLength (now (part .entry))) (micOf micLength (now (part .entry)))) (now (out .entry)) ⌝ }
+    ensures valid { λ r. ⌜ Under (now (keys .entry)) (λ (key : List ℕ). r ≡ openedBy micLength key (nonce networkLevel h aux) (authenticated networkLevel h aux) (ciphertextOf micLength (now (part .entry))) (micOf micLength (now (part .entry))) .valid) ⌝ }
+    ensures buffer { λ r. ⌜ Under (now (keys .entry)) (λ (key : List ℕ). now (out .exit) ≡ givenIf r (openedBy micLength key (nonce networkLevel h aux) (authenticated networkLevel h aux) (ciphertextOf micLength (now (part .entry))) (micOf micLength (now (part .entry)))) (now (out .entry))) ⌝ }
 {
     let nonce = security::nonce_of(h, aux, NwkSecurityLevel::EncMic32);
     let auth = security::both_headers(h, security::at_level(aux, NwkSecurityLevel::EncMic32));
     let start = h.size() + aux.size();
-    open_part(key, nonce, &auth[..start], part, out)
+    open_part(keys, nonce, &auth[..start], part, out)
 }
 
-// Open a frame (`EncryptedNwkFrame::from_bytes` and `decrypt`); refusals 1 to 12, 14, 15, 16, 18 and 19, which change
-// nothing: no plaintext is left after 19.
-pub fn open(key: Key, frame: &[u8], out: &mut [u8]) -> FrameOpened
-    ensures answer { λ r. ⌜ r ≡ openFrame (key .0) (now (frame .entry)) (now (out .entry)) .answer ⌝ }
-    ensures buffer { λ _. ⌜ now (out .exit) ≡ openFrame (key .0) (now (frame .entry)) (now (out .entry)) .out ⌝ }
+// Open a frame under a key's round keys, for a caller that opens more than one; the same refusals as `open`.
+pub fn open_under(keys: &[[[u8; 4]; 4]; 11], frame: &[u8], out: &mut [u8]) -> FrameOpened
+    ensures answer { λ r. ⌜ Under (now (keys .entry)) (λ (key : List ℕ). r ≡ openFrame key (now (frame .entry)) (now (out .entry)) .answer) ⌝ }
+    ensures buffer { λ _. ⌜ Under (now (keys .entry)) (λ (key : List ℕ). now (out .exit) ≡ openFrame key (now (frame .entry)) (now (out .entry)) .out) ⌝ }
 {
     let read = read_frame(frame);
     let header = read.header;
@@ -96,9 +108,8 @@ pub fn open(key: Key, frame: &[u8], out: &mut [u8]) -> FrameOpened
     if refusal != 0 {
         return FrameOpened::refused(refusal);
     }
-    let bytes = key.0;
     let present = aux.or_blank();
-    if open_frame(bytes, header, present, part, out) {
+    if open_frame(keys, header, present, part, out) {
         return FrameOpened {
             refusal: 0,
             length: part.len() - ccm::MIC_LENGTH,
@@ -107,4 +118,15 @@ pub fn open(key: Key, frame: &[u8], out: &mut [u8]) -> FrameOpened
         };
     }
     FrameOpened::refused(refusals::WRONG_MIC)
+}
+
+// Open a frame (`EncryptedNwkFrame::from_bytes` and `decrypt`); refusals 1 to 12, 14, 15, 16, 18 and 19, which change
+// nothing: no plaintext is left after 19.
+pub fn open(key: Key, frame: &[u8], out: &mut [u8]) -> FrameOpened
+    ensures answer { λ r. ⌜ r ≡ openFrame (key .0) (now (frame .entry)) (now (out .entry)) .answer ⌝ }
+    ensures buffer { λ _. ⌜ now (out .exit) ≡ openFrame (key .0) (now (frame .entry)) (now (out .entry)) .out ⌝ }
+{
+    let bytes = key.0;
+    let keys = ccm::expand(bytes);
+    open_under(&keys, frame, out)
 }

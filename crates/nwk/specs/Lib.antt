@@ -1,5 +1,5 @@
--- What the C functions promise: the number each answers, and what each lent buffer holds after. CCM and AES called alone
--- promise what the operations below do.
+-- What the C functions promise: the number each answers, and what each lent buffer holds after. Opening a burst, and CCM and AES
+-- called alone, promise what the operations below do.
 pub mod Answer
 pub mod Headers
 pub mod Frames

@@ -1,4 +1,4 @@
-// Reading, writing, sealing and opening frames, and what a payload is.
+// Reading, writing, sealing and opening frames, one or a burst of them, and what a payload is.
 use crate::answer::answer;
 use frame::NwkPayload;
 use header::control::NwkFrameType;
@@ -11,6 +11,8 @@ ghost use mathlib.Core.Path.{_≡_};
 ghost use mathlib.Core.List.{[], _∷_};
 ghost use Rattle.octets.specs.Refusals.{by, firstOf};
 ghost use Rattle.types.specs.Keys.{keyBytes};
+ghost use Rattle.burst.specs.Burst.{openBurst};
+ghost use Rattle.nwk.specs.Answer.{answer};
 ghost use Rattle.nwk.specs.Frames.{openNumber, readFrameAnswer, readFrameHeader, readFrameAuxiliary, writeFrameAnswer, writeFrameOutput, sealAnswer, sealOutput, openAnswer, openRecord, openOutput, payloadCode, payloadKindAnswer};
 
 // Read a frame into a header record and an auxiliary record, and give how many bytes the two headers take; the payload
@@ -117,6 +119,26 @@ pub extern "C" fn nwk_open(
     }
     opened_record::put_opened(opened, run);
     answer(0, run.length)
+}
+
+// Open a burst: frames end to end, as long as the lengths say, under one key. Frame k goes to the 108 bytes of the output from
+// 108 × k, and its answer to place k of the answers; the length is the number of frames. Refusal 20.
+#[no_mangle]
+pub extern "C" fn nwk_open_burst(
+    key_first: u64,
+    key_second: u64,
+    frames: &[u8],
+    lengths: &[u16],
+    answers: &mut [[u8; 182]],
+    out: &mut [u8],
+) -> u64
+    ensures answer { λ r. ⌜ r ≡ answer (openBurst (keyBytes «key_first» «key_second») (now (frames .entry)) (now (lengths .entry)) (now (out .entry)) (now (answers .entry)) .answer .refusal) (openBurst (keyBytes «key_first» «key_second») (now (frames .entry)) (now (lengths .entry)) (now (out .entry)) (now (answers .entry)) .answer .frames) ⌝ }
+    ensures answers { λ _. ⌜ now (answers .exit) ≡ openBurst (keyBytes «key_first» «key_second») (now (frames .entry)) (now (lengths .entry)) (now (out .entry)) (now (answers .entry)) .answers ⌝ }
+    ensures out { λ _. ⌜ now (out .exit) ≡ openBurst (keyBytes «key_first» «key_second») (now (frames .entry)) (now (lengths .entry)) (now (out .entry)) (now (answers .entry)) .out ⌝ }
+{
+    let key = Key::from_halves(key_first, key_second);
+    let opened = burst::open_burst(key, frames, lengths, out, answers);
+    answer(opened.refusal, opened.frames)
 }
 
 // The number of a kind of payload.

@@ -9,4 +9,5 @@ pub mod FieldsBack
 pub mod RecordBack
 pub mod Plain
 pub mod RoundTrip
+pub mod Zeros
 pub mod OpenedBack

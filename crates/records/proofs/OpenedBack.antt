@@ -1,5 +1,5 @@
 -- The answer that its opened record says is the answer itself: the header record and the auxiliary record stand at their
--- places and are read back by their own laws. Beside a refusal's number all the rest of a record is zeros.
+-- places and are read back by their own laws.
 -- Assumes nothing.
 use mathlib.Core.Path.{_≡_, refl, ap, _∙_}
 use mathlib.Core.Bool.{Bool, true, false}

@@ -14,30 +14,35 @@ returns c =
     let e = decrypt-refused (a .key) (a .nonce) (a .auth .now) (a .ciphertext .now) (a .mic) (a .out .now) (r .result) (r .ensures) (c .if1 .taken) in
     (λ i. e i .answer, λ i. e i .out)
 
-open-requires : tie.Need-open-requires
-open-requires c κs =
-    let a = c .before .before .before .before .before .before .args in
-    let r = c .before .before .refusal in
-    within (length (a .auth .now)) (length (a .ciphertext .now)) (length (a .out .now)) (sym (r .ensures) ∙ c .before .if1 .left)
+open-under-requires : tie.Need-open-under-requires
+open-under-requires c κs =
+    let passed = c .before .before .before in
+    let a = passed .before .before .before .before .before .args in
+    let r = passed .before .refusal in
+    within (length (a .auth .now)) (length (a .ciphertext .now)) (length (a .out .now)) (sym (r .ensures) ∙ passed .if1 .left)
 
 returns-2 : tie.Need-returns-2
 returns-2 c =
     let opened = c .before .before .before in
-    let passed = opened .before .before in
-    let s = opened .«open» .ensures in
-    let e = decrypt-done _ _ _ _ _ _ _ _ (sym (passed .before .refusal .ensures) ∙ passed .if1 .left) (s .0) (s .1) (c .if2 .taken) in
+    let keys = opened .before .before .before in
+    let passed = keys .before in
+    let s = opened .open-under .ensures in
+    let k = keys .expand .ensures in
+    let e = decrypt-done _ _ _ _ _ _ _ _ (sym (passed .before .refusal .ensures) ∙ passed .if1 .left) (s .0 _ k) (s .1 _ k) (c .if2 .taken) in
     (λ i. e i .answer, λ i. e i .out)
 
 returns-3 : tie.Need-returns-3
 returns-3 c =
     let opened = c .before .before .before in
-    let passed = opened .before .before in
-    let s = opened .«open» .ensures in
-    let e = decrypt-not _ _ _ _ _ _ _ _ (sym (passed .before .refusal .ensures) ∙ passed .if1 .left) (s .0) (s .1) (c .if2 .left) in
+    let keys = opened .before .before .before in
+    let passed = keys .before in
+    let s = opened .open-under .ensures in
+    let k = keys .expand .ensures in
+    let e = decrypt-not _ _ _ _ _ _ _ _ (sym (passed .before .refusal .ensures) ∙ passed .if1 .left) (s .0 _ k) (s .1 _ k) (c .if2 .left) in
     (λ i. e i .answer, λ i. e i .out)
 
 pub decrypt-ccm-spec : {M : Type 1} → statement M
 decrypt-ccm-spec =
     tie.close
-    (tie.spec (λ c κs. search needs) returns open-requires (λ c. search needs) returns-2 (λ c. search needs)
+    (tie.spec (λ c κs. search needs) returns (λ c κs. search needs) open-under-requires (λ c. search needs) returns-2 (λ c. search needs)
     returns-3)

@@ -29,7 +29,7 @@ returns : tie.Need-returns
 returns c =
     let copied = c .before .before .before .before in
     let ciphertext = copied .before .before .before .counter-mode .ensures in
-    let keys = copied .before .before .before .before .before .key-expansion .ensures in
+    let keys = copied .before .before .before .before .before .expand .ensures in
     (tag-given _ _ _ _ _ keys _ (c .encrypted-tag .ensures), ciphertext-given _ _ _ _ _ keys _ _ _ ciphertext (copied .copy-at .ensures))
 
 pub seal-spec : {M : Type 1} → statement M

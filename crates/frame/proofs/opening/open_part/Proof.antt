@@ -10,12 +10,12 @@ use Rattle.frame.proofs.opening.open_part.Tie as tie
 use Rattle.frame.specs.Opening.{ciphertextOf}
 use Rattle.frame.proofs.Answers.{mic-split}
 
-slice-aggregate-open : tie.Need-slice-aggregate-open
-slice-aggregate-open c =
+slice-aggregate-open-under : tie.Need-slice-aggregate-open-under
+slice-aggregate-open-under c =
     sym (length-take-le _ (c .before .before .before .before .before .before .args .part .now) (omega arith))
 
-open-requires : tie.Need-open-requires
-open-requires c κs =
+open-under-requires : tie.Need-open-under-requires
+open-under-requires c κs =
     let start = c .before .before .before .before .before .before .before in
     let l = length-take-le (length (start .args .part .now) - 4) (start .args .part .now) (omega arith) in
     (start .pre .0, omega (arith, l, start .pre .1), omega (arith, l, start .pre .3))
@@ -26,10 +26,11 @@ returns c =
     let opened = c .before .before in
     let split = opened .before .before .before .before in
     let m = mic-split _ _ (split .split-mic .ensures) (split .before .before .before .before .pre .2) in
-    (opened .«open» .ensures .0 ∙ rw m, opened .«open» .ensures .1 ∙ rw m)
+    let e = opened .open-under .ensures in
+    (λ key k. e .0 key k ∙ rw m, λ key k. e .1 key k ∙ rw m)
 
 pub open-part-spec : {M : Type 1} → statement M
 open-part-spec =
     tie.close
-    (tie.spec (λ c κs. search needs) (λ c. search needs) slice-aggregate-open open-requires (λ c. search needs)
+    (tie.spec (λ c κs. search needs) (λ c. search needs) slice-aggregate-open-under open-under-requires (λ c. search needs)
     returns)

@@ -1,0 +1,5 @@
+-- Laws of a burst's frames and parts, its claims, and the proofs of the functions.
+pub mod Sums
+pub mod Parts
+pub mod Accepted
+pub mod Claims

@@ -1,0 +1,76 @@
+-- Opening a burst (document 02, 1): up to 16 frames, end to end with a list of their lengths, under one key in one call. Each
+-- frame has its own part of the output and its own place in the list for the answers, which are opened records.
+-- Assumes nothing.
+use Prim.Native.Nat.{ℕ, zero, suc, _+_, _*_}
+use mathlib.Core.Bool.{not}
+use mathlib.Core.List.{List, [], _∷_, _++_}
+use lib.ListN.{length, getD, take, drop}
+use lib.Dec.{eqb, ltb}
+use Rattle.octets.specs.Strings.{tab}
+use Rattle.octets.specs.Refusals.{unless, on, firstOf}
+use Rattle.frame.specs.Opening as opening
+use Rattle.records.specs.OpenedRecord.{openedRecord}
+use Rattle.burst.specs.declared.BurstOpened.{BurstOpened}
+
+-- the most frames of a burst
+abbrev pub mostFrames : ℕ
+mostFrames = 16
+
+-- the bytes of a frame's part of the output
+abbrev pub partSize : ℕ
+partSize = 108
+
+-- the sum of the lengths
+unfoldable pub total : List ℕ → ℕ
+total [] = 0
+total (n ∷ ns) = n + total ns
+
+-- frame k of the bytes fs with the lengths ns: the bytes behind the first k lengths
+unfoldable pub frameAt : List ℕ → List ℕ → ℕ → List ℕ
+frameAt fs ns k = take (getD ns k 0) (drop (total (take k ns)) fs)
+
+-- part k of the output o: the 108 bytes from 108 × k
+unfoldable pub partAt : List ℕ → ℕ → List ℕ
+partAt o k = take partSize (drop (partSize * k) o)
+
+-- frame k opened alone into its part
+unfoldable pub alone : List ℕ → List ℕ → List ℕ → List ℕ → ℕ → opening.Run
+alone key fs ns o k = opening.openFrame key (frameAt fs ns k) (partAt o k)
+
+-- document 02's number 20, for the bytes lent, the output's room and the places of the list
+unfoldable pub burstRefusal : List ℕ → ℕ → ℕ → ℕ → ℕ
+burstRefusal ns bytes room places =
+    firstOf (on 20 (ltb mostFrames (length ns))
+    ∷ on 20 (not (eqb (total ns) bytes))
+    ∷ on 20 (ltb room (partSize * length ns))
+    ∷ on 20 (ltb places (length ns))
+    ∷ [])
+
+-- f 0, f 1, .., f (n - 1), one behind the other
+unfoldable pub joined : (ℕ → List ℕ) → ℕ → List ℕ
+joined f zero = []
+joined f (suc n) = joined f n ++ f n
+
+-- what opening a burst leaves: its answer, and the whole of the output and of the list for the answers
+pub record Run : Type 0 where
+  pub answer : BurstOpened
+  pub out : List ℕ
+  pub answers : List (List ℕ)
+
+-- the number of frames; each part as opening its frame leaves it, each place the record of its answer, and the rest as it was
+unfoldable pub burstGiven : List ℕ → List ℕ → List ℕ → List ℕ → List (List ℕ) → Run
+burstGiven key fs ns o list =
+    record {
+      answer = record { refusal = 0; frames = length ns };
+      out = joined (λ (k : ℕ). alone key fs ns o k .out) (length ns) ++ drop (partSize * length ns) o;
+      answers = tab (λ (k : ℕ). openedRecord (alone key fs ns o k .answer)) (length ns) ++ drop (length ns) list;
+    }
+
+-- refused by a number, nothing changed
+abbrev pub burstNothing : ℕ → List ℕ → List (List ℕ) → Run
+burstNothing n o list = record { answer = record { refusal = n; frames = 0 }; out = o; answers = list }
+
+unfoldable pub openBurst : List ℕ → List ℕ → List ℕ → List ℕ → List (List ℕ) → Run
+openBurst key fs ns o list =
+    unless (burstRefusal ns (length fs) (length o) (length list)) (burstGiven key fs ns o list)
+    (burstNothing (burstRefusal ns (length fs) (length o) (length list)) o list)

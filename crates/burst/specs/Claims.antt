@@ -1,0 +1,96 @@
+-- Document 02, 1, sentence by sentence: each is one claim over all keys, bytes, lengths, outputs and lists for the answers.
+-- Assumes nothing.
+use Prim.Native.Nat.{ℕ, _*_, _<_}
+use mathlib.Core.Path.{_≡_}
+use mathlib.Core.Logic.{_⊎_}
+use mathlib.Core.List.{List, [], _∷_}
+use lib.ListN.{length, getD, drop}
+use Rattle.octets.specs.Strings.{tab}
+use Rattle.frame.specs.Opening.{openFrame}
+use Rattle.records.specs.OpenedRecord.{openedRecord}
+use Rattle.burst.specs.declared.BurstOpened.{BurstOpened}
+use Rattle.burst.specs.Burst.{mostFrames, partSize, total, frameAt, partAt, burstRefusal, joined, burstNothing, openBurst}
+
+-- a burst that is accepted: the bytes fs with the lengths ns, the output o and the list for the answers
+abbrev pub Accepted : List ℕ → List ℕ → List ℕ → List (List ℕ) → Type 0
+Accepted fs ns o list = burstRefusal ns (length fs) (length o) (length list) ≡ 0
+
+-- ---- "up to 16 frames at once, end to end, with a list of lengths"
+
+-- the frames are the bytes lent, one behind the other, and each has its length
+pub record EndToEnd (fs ns : List ℕ) : Type 0 where
+  pub whole : joined (frameAt fs ns) (length ns) ≡ fs
+  pub each : (k : ℕ) → k < length ns → length (frameAt fs ns k) ≡ getD ns k 0
+
+abbrev pub FramesEndToEnd : Type 0
+FramesEndToEnd = (fs ns o : List ℕ) (list : List (List ℕ)) → Accepted fs ns o list → EndToEnd fs ns
+
+-- ---- "each answer equals opening that frame alone into that part", so that "a refused frame does not stop the next one"
+
+-- answer k and part k are those of opening frame k alone into part k
+pub record AsAlone (key fs ns o : List ℕ) (list : List (List ℕ)) (k : ℕ) : Type 0 where
+  pub answer : getD (openBurst key fs ns o list .answers) k [] ≡ openedRecord (openFrame key (frameAt fs ns k) (partAt o k) .answer)
+  pub part : partAt (openBurst key fs ns o list .out) k ≡ openFrame key (frameAt fs ns k) (partAt o k) .out
+
+abbrev pub EachAsAlone : Type 0
+EachAsAlone = (key fs ns o : List ℕ) (list : List (List ℕ)) → Accepted fs ns o list → (k : ℕ) → k < length ns → AsAlone key fs ns o list k
+
+-- the answer of a frame of no bytes is 2, and that of one over 118 is 1; beside a refused frame's number its record is zeros
+pub record OwnNumber (key fs ns o : List ℕ) (list : List (List ℕ)) (k : ℕ) : Type 0 where
+  pub empty : getD ns k 0 ≡ 0 → openFrame key (frameAt fs ns k) (partAt o k) .answer .refusal ≡ 2
+  pub long : 118 < getD ns k 0 → openFrame key (frameAt fs ns k) (partAt o k) .answer .refusal ≡ 1
+  pub zeros : (n : ℕ) → openFrame key (frameAt fs ns k) (partAt o k) .answer .refusal ≡ n → (n ≡ 0 → ⊥)
+      → getD (openBurst key fs ns o list .answers) k [] ≡ n ∷ tab (λ (i : ℕ). 0) 181
+
+abbrev pub EachItsOwnNumber : Type 0
+EachItsOwnNumber = (key fs ns o : List ℕ) (list : List (List ℕ)) → Accepted fs ns o list → (k : ℕ) → k < length ns → OwnNumber key fs ns o list k
+
+-- ---- what stays
+
+-- "places of the answers' list past the number of frames stay", and so do the bytes behind the last part
+pub record RestStays (key fs ns o : List ℕ) (list : List (List ℕ)) : Type 0 where
+  pub answers : drop (length ns) (openBurst key fs ns o list .answers) ≡ drop (length ns) list
+  pub out : drop (partSize * length ns) (openBurst key fs ns o list .out) ≡ drop (partSize * length ns) o
+
+abbrev pub TheRestStays : Type 0
+TheRestStays = (key fs ns o : List ℕ) (list : List (List ℕ)) → Accepted fs ns o list → RestStays key fs ns o list
+
+-- the bytes of a part behind its plaintext stay: all of them where the frame is refused, since the length is then 0
+abbrev pub BehindStays : Type 0
+BehindStays =
+    (key fs ns o : List ℕ) (list : List (List ℕ)) → Accepted fs ns o list → (k : ℕ) → k < length ns
+    → drop (openFrame key (frameAt fs ns k) (partAt o k) .answer .length) (partAt (openBurst key fs ns o list .out) k)
+    ≡ drop (openFrame key (frameAt fs ns k) (partAt o k) .answer .length) (partAt o k)
+
+-- ---- "20, first of all"
+
+-- "if there are more than 16 lengths, they do not add up to the bytes lent, the output is shorter than 108 times their
+-- number, or the list for the answers is shorter than their number"
+abbrev pub Refusable : List ℕ → ℕ → ℕ → ℕ → Type 0
+Refusable ns bytes room places =
+    (mostFrames < length ns) ⊎ ((total ns ≡ bytes → ⊥) ⊎ ((room < partSize * length ns) ⊎ (places < length ns)))
+
+-- 20 exactly there, and every other burst is accepted
+pub record Exactly20 (ns : List ℕ) (bytes room places : ℕ) : Type 0 where
+  pub refused : Refusable ns bytes room places → burstRefusal ns bytes room places ≡ 20
+  pub accepted : (Refusable ns bytes room places → ⊥) → burstRefusal ns bytes room places ≡ 0
+
+abbrev pub TwentyExactly : Type 0
+TwentyExactly = (ns : List ℕ) (bytes room places : ℕ) → Exactly20 ns bytes room places
+
+-- it changes nothing
+abbrev pub TwentyChangesNothing : Type 0
+TwentyChangesNothing =
+    (key fs ns o : List ℕ) (list : List (List ℕ)) → Refusable ns (length fs) (length o) (length list)
+    → openBurst key fs ns o list ≡ burstNothing 20 o list
+
+-- ---- "which answers the number of frames"
+
+abbrev pub NumberAnswered : Type 0
+NumberAnswered =
+    (key fs ns o : List ℕ) (list : List (List ℕ)) → Accepted fs ns o list
+    → _≡_ {A = BurstOpened} (openBurst key fs ns o list .answer) (record { refusal = 0; frames = length ns })
+
+-- "no frames at all is accepted", and nothing changes
+abbrev pub NoFrames : Type 0
+NoFrames = (key o : List ℕ) (list : List (List ℕ)) → openBurst key [] [] o list ≡ burstNothing 0 o list

@@ -1,0 +1,3 @@
+-- Opening a burst of frames in one call, and what is claimed of it.
+pub mod Burst
+pub mod Claims

@@ -1,0 +1,122 @@
+// Opening a burst of frames in one call (document 02, 1).
+use octets::refusals;
+use records::opened_record;
+use types::Key;
+use types::MAX_NSDU_SIZE;
+ghost use mathlib.Core.Path.{_≡_};
+ghost use mathlib.Core.List.{List};
+ghost use Prim.Native.Nat.{ℕ, _*_, _≤_};
+ghost use lib.ListN.{length};
+ghost use Rattle.ccm.specs.Operations.{Under};
+ghost use Rattle.frame.specs.Opening.{openFrame};
+ghost use Rattle.records.specs.OpenedRecord.{openedRecord};
+ghost use Rattle.burst.specs.Burst.{total, burstRefusal, burstGiven, openBurst};
+
+// The most frames of a burst.
+pub const MAX_FRAMES: usize = 16;
+
+// What opening a burst answers: a refusal's number with no frames, or 0 and the number of frames.
+pub struct BurstOpened {
+    pub refusal: u8,
+    pub frames: usize,
+}
+
+// The sum of the lengths.
+fn total(lengths: &[u16]) -> usize
+    requires { ⌜ length (now lengths) ≤ 16 ⌝ }
+    ensures { λ r. ⌜ r ≡ total (now (lengths .entry)) ⌝ }
+{
+    let mut sum = 0;
+    let mut k = 0;
+    while k < lengths.len() {
+        sum += lengths[k] as usize;
+        k += 1;
+    }
+    sum
+}
+
+// 20 or 0, for the bytes lent, the output's room and the places of the list for the answers.
+fn refusal(lengths: &[u16], bytes: usize, room: usize, places: usize) -> u8
+    ensures { λ r. ⌜ r ≡ burstRefusal (now (lengths .entry)) bytes room places ⌝ }
+{
+    let count = lengths.len();
+    if MAX_FRAMES < count {
+        return refusals::BURST;
+    }
+    if total(lengths) != bytes {
+        return refusals::BURST;
+    }
+    if room < MAX_NSDU_SIZE * count {
+        return refusals::BURST;
+    }
+    if places < count {
+        return refusals::BURST;
+    }
+    0
+}
+
+// Open one frame under a key's round keys into its part of the output, its answer to its place.
+fn open_one(keys: &[[[u8; 4]; 4]; 11], frame: &[u8], part: &mut [u8], place: &mut [u8; 182])
+    ensures part { λ _. ⌜ Under (now (keys .entry)) (λ (key : List ℕ). now (part .exit) ≡ openFrame key (now (frame .entry)) (now (part .entry)) .out) ⌝ }
+    ensures place { λ _. ⌜ Under (now (keys .entry)) (λ (key : List ℕ). now (place .exit) ≡ openedRecord (openFrame key (now (frame .entry)) (now (part .entry)) .answer)) ⌝ }
+{
+    let opened = frame::opening::open_under(keys, frame, part);
+    opened_record::put_opened(place, opened);
+}
+
+// Open each frame of a burst that is not refused, under a key's round keys.
+fn open_each(
+    keys: &[[[u8; 4]; 4]; 11],
+    frames: &[u8],
+    lengths: &[u16],
+    out: &mut [u8],
+    answers: &mut [[u8; 182]],
+)
+    requires { ⌜ burstRefusal (now lengths) (length (now frames)) (length (now out)) (length (now answers)) ≡ 0 ⌝ }
+    ensures out { λ _. ⌜ Under (now (keys .entry)) (λ (key : List ℕ). now (out .exit) ≡ burstGiven key (now (frames .entry)) (now (lengths .entry)) (now (out .entry)) (now (answers .entry)) .out) ⌝ }
+    ensures answers { λ _. ⌜ Under (now (keys .entry)) (λ (key : List ℕ). now (answers .exit) ≡ burstGiven key (now (frames .entry)) (now (lengths .entry)) (now (out .entry)) (now (answers .entry)) .answers) ⌝ }
+{
+    let mut at = 0;
+    let mut k = 0;
+    while k < lengths.len() {
+        let end = at + lengths[k] as usize;
+        let part = MAX_NSDU_SIZE * k;
+        open_one(
+            keys,
+            &frames[at..end],
+            &mut out[part..part + MAX_NSDU_SIZE],
+            &mut answers[k],
+        );
+        at = end;
+        k += 1;
+    }
+}
+
+// Open a burst of frames that stand end to end, as long as the lengths say. Frame k goes to the 108 bytes of the output from
+// 108 × k, and its answer to place k of the list; 20 refuses the burst and changes nothing, a frame's own refusal only its place.
+pub fn open_burst(
+    key: Key,
+    frames: &[u8],
+    lengths: &[u16],
+    out: &mut [u8],
+    answers: &mut [[u8; 182]],
+) -> BurstOpened
+    ensures answer { λ r. ⌜ r ≡ openBurst (key .0) (now (frames .entry)) (now (lengths .entry)) (now (out .entry)) (now (answers .entry)) .answer ⌝ }
+    ensures out { λ _. ⌜ now (out .exit) ≡ openBurst (key .0) (now (frames .entry)) (now (lengths .entry)) (now (out .entry)) (now (answers .entry)) .out ⌝ }
+    ensures answers { λ _. ⌜ now (answers .exit) ≡ openBurst (key .0) (now (frames .entry)) (now (lengths .entry)) (now (out .entry)) (now (answers .entry)) .answers ⌝ }
+{
+    let number = refusal(lengths, frames.len(), out.len(), answers.len());
+    if number != 0 {
+        return BurstOpened {
+            refusal: number,
+            frames: 0,
+        };
+    }
+    let bytes = key.0;
+    let keys = ccm::expand(bytes);
+    open_each(&keys, frames, lengths, out, answers);
+    BurstOpened {
+        refusal: 0,
+        frames: lengths.len(),
+    }
+}
