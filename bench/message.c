@@ -36,13 +36,15 @@ static void make_key(struct message *m) {
 }
 
 /* A data frame of version 2 with the security bit, the network key and an extended nonce. */
-static void make_records(struct message *m) {
+static void make_records(struct message *m, uint8_t number) {
   static const uint8_t header[16] = {0, 2, 1, 0, 1, 0, 0, 0, 0, 0, 0x00, 0x00, 0x34, 0x12, 30, 7};
   static const uint8_t auxiliary[NWK_AUXILIARY_RECORD] = {1, 0, 1, 1, 0, 0x45, 0x23, 0x01, 0x00, 1,
                                                           1, 2, 3, 4, 5, 6,    7,    8,    0};
   memset(m->header, 0, sizeof m->header);
   memcpy(m->header, header, sizeof header);
   memcpy(m->auxiliary, auxiliary, sizeof auxiliary);
+  m->header[NWK_HEADER_SEQUENCE] += number;
+  m->auxiliary[NWK_AUXILIARY_COUNTER] += number;
 }
 
 /* The nonce is IEEE, frame counter and security control; level 5 is authenticated (Zigbee 4.3.1, 4.5.2.2). */
@@ -60,14 +62,14 @@ static void make_nonce_and_auth(struct message *m) {
   m->nonce[12] = control[0];
 }
 
-void make_message(struct message *m, size_t length) {
+void make_numbered_message(struct message *m, size_t length, uint8_t number) {
   memset(m, 0, sizeof *m);
   make_key(m);
-  make_records(m);
+  make_records(m, number);
   make_nonce_and_auth(m);
   m->length = length;
   for (size_t i = 0; i < length; i++) {
-    m->payload[i] = (uint8_t)(7 * i + 3);
+    m->payload[i] = (uint8_t)(7 * i + 3 + number);
   }
   m->frame_length = accepted(nwk_seal(m->key_first, m->key_second, m->header, sizeof m->header, m->auxiliary,
                                       sizeof m->auxiliary, m->payload, m->length, m->frame, sizeof m->frame),
@@ -76,4 +78,8 @@ void make_message(struct message *m, size_t length) {
     fail("another length than headers, payload and MIC", "nwk_seal");
   }
   memcpy(m->sealed, m->frame + AUTH_LENGTH, length + MIC_LENGTH);
+}
+
+void make_message(struct message *m, size_t length) {
+  make_numbered_message(m, length, 0);
 }

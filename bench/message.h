@@ -41,6 +41,9 @@ typedef bool call(void *input);
 /* The message with a payload of so many bytes, sealed by the codec. Ends the program if the codec refuses it. */
 void make_message(struct message *m, size_t length);
 
+/* The same with sequence number and frame counter so much higher, and another payload; 0 gives the message itself. */
+void make_numbered_message(struct message *m, size_t length, uint8_t number);
+
 /* End the program: what did not come out as it has to. */
 _Noreturn void fail(const char *what, const char *who);
 

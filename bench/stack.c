@@ -1,6 +1,7 @@
 #define _XOPEN_SOURCE 700
 #include "stack.h"
 
+#include "bursts.h"
 #include "codecs.h"
 #include "readings.h"
 
@@ -106,6 +107,20 @@ static size_t over_messages(call *run) {
   return most;
 }
 
+/* Bursts of 16 frames, opened and refused. */
+static size_t over_bursts(call *run) {
+  static struct burst b;
+  size_t most = 0;
+  for (size_t n = 0; n <= MAX_MESSAGE; n++) {
+    make_burst(&b, n);
+    most = larger(most, touched(run, &b));
+  }
+  make_short_burst(&b);
+  most = larger(most, touched(run, &b));
+  make_unsecured_burst(&b);
+  return larger(most, touched(run, &b));
+}
+
 /* Every second byte of frame control, which has the presence bits. */
 static size_t over_headers(call *run) {
   size_t most = 0;
@@ -138,6 +153,16 @@ struct use {
   call *run;
 };
 
+/* A burst may need as much as two nested calls of opening, and no more. */
+static void compare_burst_with_two_calls(void) {
+  size_t burst = over_bursts(open_burst), two = 2 * over_messages(open_frame);
+  printf("\nA burst of %d frames touched %zu bytes; two nested calls of nwk_open would touch %zu.\n", NWK_MAX_BURST,
+         burst, two);
+  if (burst > two) {
+    fail("a burst of 16 frames needs more stack than two nested calls of nwk_open", "nwk_open_burst");
+  }
+}
+
 void print_stack_use(void) {
   const struct use uses[] = {
       {"nwk_read_header", over_headers, read_header},
@@ -148,6 +173,7 @@ void print_stack_use(void) {
       {"nwk_write_frame", over_messages, write_frame},
       {"nwk_seal", over_messages, seal_frame},
       {"nwk_open", over_messages, open_frame},
+      {"nwk_open_burst", over_bursts, open_burst},
       {"nwk_payload_kind", over_messages, payload_kind},
       {"nwk_read_command", over_commands, read_command},
       {"nwk_write_command", over_commands, write_command},
@@ -162,4 +188,5 @@ void print_stack_use(void) {
   for (size_t i = 0; i < sizeof uses / sizeof uses[0]; i++) {
     printf("| %-19s | %5zu |\n", uses[i].name, uses[i].over(uses[i].run));
   }
+  compare_burst_with_two_calls();
 }

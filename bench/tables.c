@@ -26,9 +26,9 @@ static void print_time(const struct job *job) {
   }
 }
 
-static void print_ratio(double ours, double peer) {
-  if (ours > 0 && peer > 0) {
-    printf(" %11.2f |", ours / peer);
+static void print_ratio(double ours, double other) {
+  if (ours > 0 && other > 0) {
+    printf(" %11.2f |", ours / other);
   } else {
     printf(" %11s |", "-");
   }
@@ -55,6 +55,21 @@ void compare(const char *title, const char *work, struct row *rows, size_t count
     print_ratio(jobs[OURS].ns, n);
     print_ratio(jobs[OURS].ns, m);
     print_ratio(jobs[OURS].ns, n > m ? n : m);
+    printf("\n");
+  }
+}
+
+void compare_ways(const char *title, const char *work, struct row *rows, size_t count) {
+  measure_rows(rows, count, WAYS);
+  print_title(title);
+  printf("| %-20s | %13s | %13s | %11s |\n", work, "one burst, ns", "16 calls, ns", "burst/calls");
+  printf("|----------------------|--------------:|--------------:|------------:|\n");
+  for (size_t i = 0; i < count; i++) {
+    const struct job *jobs = rows[i].jobs;
+    printf("| %-20s |", rows[i].label);
+    print_time(&jobs[BURST]);
+    print_time(&jobs[CALLS]);
+    print_ratio(jobs[BURST].ns, jobs[CALLS].ns);
     printf("\n");
   }
 }

@@ -1,5 +1,6 @@
 #include "times.h"
 
+#include "bursts.h"
 #include "codecs.h"
 #include "readings.h"
 #include "tables.h"
@@ -144,4 +145,35 @@ void times_alone(void) {
   frames_alone("nwk_seal, a whole frame", seal_frame);
   frames_alone("nwk_open, a whole frame", open_frame);
   alone("nwk_read_header and nwk_read_command", "read", rows, sizeof rows / sizeof rows[0]);
+}
+
+/* A row of a burst, opened both ways. */
+static struct row burst_row(struct burst *b) {
+  check_burst(b);
+  return (struct row){.jobs = {[BURST] = {.run = open_burst, .input = b}, [CALLS] = {.run = open_each, .input = b}}};
+}
+
+static struct row opened_row(struct burst *b, size_t length) {
+  make_burst(b, length);
+  struct row row = burst_row(b);
+  snprintf(row.label, sizeof row.label, "payload of %zu bytes", length);
+  return row;
+}
+
+static struct row refused_row(struct burst *b, void (*make)(struct burst *b)) {
+  make(b);
+  struct row row = burst_row(b);
+  snprintf(row.label, sizeof row.label, "refused by %u", NWK_REFUSAL(b->answer));
+  return row;
+}
+
+void compare_bursts_with_calls(void) {
+  static struct burst bursts[LENGTHS + 2];
+  struct row rows[LENGTHS + 2];
+  for (size_t i = 0; i < LENGTHS; i++) {
+    rows[i] = opened_row(&bursts[i], lengths[i]);
+  }
+  rows[LENGTHS] = refused_row(&bursts[LENGTHS], make_short_burst);
+  rows[LENGTHS + 1] = refused_row(&bursts[LENGTHS + 1], make_unsecured_burst);
+  compare_ways("nwk_open_burst of 16 frames beside 16 calls of nwk_open", "each frame", rows, LENGTHS + 2);
 }

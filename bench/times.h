@@ -11,4 +11,7 @@ void compare_with_kept_keys(const char *way);
 /* Whole frames, headers and commands, by the codec alone. */
 void times_alone(void);
 
+/* Bursts of 16 frames beside 16 calls of opening. */
+void compare_bursts_with_calls(void);
+
 #endif
