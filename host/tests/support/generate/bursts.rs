@@ -1,0 +1,90 @@
+//! Generated bursts: good, refused, damaged, empty and over-long frames end to end, and lengths that do not add up.
+use super::damage;
+use super::sealed::{frame, secured_frame};
+use crate::support::calls::Call;
+use crate::support::model::burst::lengths;
+use crate::support::model::MAX_FRAME;
+use crate::support::operations::{MAX_BURST, OPENED_RECORD, PART};
+use crate::support::random::Random;
+use crate::support::tally::LONGEST;
+
+/// Two of these are 65,536 more, which a sum cut to 16 bits would not show.
+const HALF: u16 = 0x8000;
+
+/// The frames end to end, and the list of their lengths: 0 to 17 of them.
+pub fn inputs(key: &[u8; 16], random: &mut Random) -> Vec<Vec<u8>> {
+    let count = random.below(MAX_BURST + 2);
+    let frames: Vec<Vec<u8>> = (0..count).map(|_| one(key, random)).collect();
+    let list = frames.iter().flat_map(|frame| (frame.len() as u16).to_le_bytes()).collect();
+    vec![frames.concat(), list]
+}
+
+/// A frame of a burst: mostly one that is opened or refused as when it stands alone.
+fn one(key: &[u8; 16], random: &mut Random) -> Vec<u8> {
+    match random.below(20) {
+        0 => Vec::new(),
+        1 => too_long(random),
+        2 | 3 => damaged(key, random),
+        4..=12 => secured_frame(key, None, random),
+        _ => {
+            let wanted = random.bit().then(|| random.below(LONGEST + 1));
+            let mut bytes = frame(key, wanted, random);
+            damage::bytes(&mut bytes, random);
+            bytes
+        }
+    }
+}
+
+/// Bytes over the longest frame: a few, or so many that the sum of two such lengths does not fit into 16 bits.
+fn too_long(random: &mut Random) -> Vec<u8> {
+    let n = if random.percent(20) { random.between(0x8000, 0xFFFF) } else { random.between(MAX_FRAME + 1, 300) };
+    random.bytes(n)
+}
+
+/// A sealed frame with one of its last bits flipped.
+fn damaged(key: &[u8; 16], random: &mut Random) -> Vec<u8> {
+    let mut bytes = secured_frame(key, None, random);
+    let last = bytes.len() - 4;
+    damage::flip(&mut bytes[last..], random);
+    bytes
+}
+
+/// A list of so many answers, and an output of a part for each frame.
+pub fn needed(call: &Call) -> Vec<usize> {
+    let count = lengths(&call.inputs[1]).len();
+    vec![OPENED_RECORD * count, PART * count]
+}
+
+/// Lengths that do not add up to the bytes, in some of the bursts; or more lengths, which add nothing.
+pub fn misfit(call: &mut Call, random: &mut Random) {
+    let [frames, list] = &mut call.inputs[..] else {
+        panic!("a burst has frames and lengths");
+    };
+    match random.below(40) {
+        0 => frames.push(random.byte()),
+        1 => drop(frames.pop()),
+        2 => change(list, 1, random),
+        3 => change(list, u16::MAX, random),
+        4 | 5 if list.len() >= 4 => {
+            add(list, 0, HALF);
+            let other = random.between(1, list.len() / 2 - 1);
+            add(list, other, HALF);
+        }
+        6 => list.resize(list.len() + 2 * random.between(1, 30), 0),
+        7 => list.resize(list.len() + 2 * 256, 0),
+        8 => list.clear(),
+        _ => {}
+    }
+}
+
+/// Adds to one of the lengths, in 16 bits.
+fn change(list: &mut [u8], more: u16, random: &mut Random) {
+    if !list.is_empty() {
+        add(list, random.below(list.len() / 2), more);
+    }
+}
+
+fn add(list: &mut [u8], at: usize, more: u16) {
+    let number = u16::from_le_bytes([list[2 * at], list[2 * at + 1]]).wrapping_add(more);
+    list[2 * at..2 * at + 2].copy_from_slice(&number.to_le_bytes());
+}
