@@ -1,10 +1,10 @@
-//! What the generated bursts met: every size, each condition of 20 alone and at its edge, each own answer of a frame, and a
-//! good frame behind each of these.
+//! What the generated bursts met: every size, each condition of 20 alone and at its edge, each own answer of a frame with
+//! a good frame behind it, and in every size each kind of frame among good ones.
 use super::calls::{Call, Outcome};
 use super::model::burst::lengths;
 use super::operations::{MAX_BURST, OPENED_RECORD, PART};
 use super::tally::NUMBERS;
-use std::collections::BTreeMap;
+use std::collections::{BTreeMap, BTreeSet};
 
 /// What a frame of a burst can answer: 0, and each number of opening but 18, since a part has room for every payload.
 pub const OWN_ANSWERS: [usize; 17] = [0, 1, 2, 3, 4, 5, 6, 7, 8, 9, 10, 11, 12, 14, 15, 16, 19];
@@ -22,9 +22,12 @@ pub const ALONE: [&str; 9] = [
     "no answers",
 ];
 
-/// Accepted bursts that are not met by chance alone.
+/// Accepted bursts that a wrong count or a cut sum would refuse.
 pub const ACCEPTED: [&str; 3] =
     ["no frames, nothing lent", "no frames, something lent", "lengths above 16 bits in all"];
+
+/// What stands among the good frames of a burst.
+pub const AMONG: [&str; 4] = ["empty", "over-long", "damaged", "refused"];
 
 #[derive(Default)]
 pub struct BurstTally {
@@ -32,9 +35,11 @@ pub struct BurstTally {
     sizes: BTreeMap<usize, usize>,
     /// By the names above.
     met: BTreeMap<&'static str, usize>,
-    /// The own answers of the frames, and those with an opened frame behind them.
+    /// The own answers of the frames, and those with a good frame behind them.
     own: [usize; NUMBERS],
     before_a_good_one: [usize; NUMBERS],
+    /// Accepted bursts by their size and what stands in them.
+    among: BTreeMap<(usize, &'static str), usize>,
 }
 
 impl BurstTally {
@@ -48,6 +53,10 @@ impl BurstTally {
         let own: Vec<usize> = outcome.frames().map(|(record, _)| usize::from(record[0])).collect();
         own.iter().for_each(|&number| self.own[number] += 1);
         own.windows(2).filter(|pair| pair[1] == 0).for_each(|pair| self.before_a_good_one[pair[0]] += 1);
+        let kinds: BTreeSet<&str> = own.iter().zip(lengths(&call.inputs[1])).map(kind).collect();
+        for kind in kinds.iter().filter(|_| kinds.contains("good")) {
+            *self.among.entry((own.len(), kind)).or_default() += 1;
+        }
     }
 
     /// Everything was met at least so often.
@@ -59,6 +68,10 @@ impl BurstTally {
         for name in ALONE.iter().chain(&ACCEPTED) {
             let met = self.met.get(name).copied().unwrap_or(0);
             assert!(met >= at_least, "{name}: met only {met} times");
+        }
+        for (size, kind) in (2..=MAX_BURST).flat_map(|size| AMONG.map(|kind| (size, kind))) {
+            let met = self.among.get(&(size, kind)).copied().unwrap_or(0);
+            assert!(met >= at_least, "a burst of {size} had a frame that is {kind} among good ones only {met} times");
         }
         for number in OWN_ANSWERS {
             let (met, before) = (self.own[number], self.before_a_good_one[number]);
@@ -72,6 +85,17 @@ impl BurstTally {
     /// The names that were met, and the own answers of the frames, with their counts.
     pub fn report(&self) -> String {
         format!("bursts: {:?}, own answers of their frames: {:?}", self.met, self.own)
+    }
+}
+
+/// The kind of a frame, by its own answer and its length.
+fn kind((number, length): (&usize, usize)) -> &'static str {
+    match (number, length) {
+        (0, _) => "good",
+        (_, 0) => "empty",
+        (1, _) => "over-long",
+        (19, _) => "damaged",
+        _ => "refused",
     }
 }
 
@@ -98,8 +122,8 @@ impl Lists {
 
     /// The name of the condition of 20 that is the only one met.
     fn alone(&self) -> Option<&'static str> {
-        let part = PART * self.count;
-        let met = [self.count > MAX_BURST, self.sum != self.bytes, self.room < part, self.answers < self.count];
+        let parts = PART * self.count;
+        let met = [self.count > MAX_BURST, self.sum != self.bytes, self.room < parts, self.answers < self.count];
         Some(match met {
             [true, false, false, false] if self.count == MAX_BURST + 1 => "17 lengths",
             [true, false, false, false] => "more than 17 lengths",
@@ -107,7 +131,7 @@ impl Lists {
             [false, true, false, false] if self.sum + 1 == self.bytes => "lengths one below the bytes",
             [false, true, false, false] if self.sum == self.bytes + 1 => "lengths one above the bytes",
             [false, true, false, false] if self.sum % 65_536 == self.bytes => "lengths that add up in 16 bits only",
-            [false, false, true, false] if self.room + 1 == part => "an output one byte short",
+            [false, false, true, false] if self.room + 1 == parts => "an output one byte short",
             [false, false, false, true] if self.answers == 0 => "no answers",
             [false, false, false, true] if self.answers + 1 == self.count => "one answer too few",
             _ => return None,

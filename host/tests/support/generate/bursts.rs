@@ -4,12 +4,14 @@ use super::sealed::{frame, secured_frame};
 use crate::support::calls::Call;
 use crate::support::model::burst::lengths;
 use crate::support::model::MAX_FRAME;
-use crate::support::operations::{MAX_BURST, OPENED_RECORD, PART};
+use crate::support::operations::{MAX_BURST, MIC, OPENED_RECORD, PART};
 use crate::support::random::Random;
 use crate::support::tally::LONGEST;
 
-/// Two of these are 65,536 more, which a sum cut to 16 bits would not show.
+/// Twice this is 65,536, which a sum cut to 16 bits does not show.
 const HALF: u16 = 0x8000;
+/// More lengths by this number are no more in a count cut to 8 bits.
+const MANY: usize = 256;
 
 /// The frames end to end, and the list of their lengths: 0 to 17 of them.
 pub fn inputs(key: &[u8; 16], random: &mut Random) -> Vec<Vec<u8>> {
@@ -19,7 +21,7 @@ pub fn inputs(key: &[u8; 16], random: &mut Random) -> Vec<Vec<u8>> {
     vec![frames.concat(), list]
 }
 
-/// A frame of a burst: mostly one that is opened or refused as when it stands alone.
+/// A frame: good ones, and all that is handed to opening alone.
 fn one(key: &[u8; 16], random: &mut Random) -> Vec<u8> {
     match random.below(20) {
         0 => Vec::new(),
@@ -41,11 +43,11 @@ fn too_long(random: &mut Random) -> Vec<u8> {
     random.bytes(n)
 }
 
-/// A sealed frame with one of its last bits flipped.
+/// A sealed frame with one bit of its MIC flipped.
 fn damaged(key: &[u8; 16], random: &mut Random) -> Vec<u8> {
     let mut bytes = secured_frame(key, None, random);
-    let last = bytes.len() - 4;
-    damage::flip(&mut bytes[last..], random);
+    let mic = bytes.len() - MIC;
+    damage::flip(&mut bytes[mic..], random);
     bytes
 }
 
@@ -60,31 +62,25 @@ pub fn misfit(call: &mut Call, random: &mut Random) {
     let [frames, list] = &mut call.inputs[..] else {
         panic!("a burst has frames and lengths");
     };
+    let count = list.len() / 2;
     match random.below(40) {
         0 => frames.push(random.byte()),
         1 => drop(frames.pop()),
-        2 => change(list, 1, random),
-        3 => change(list, u16::MAX, random),
-        4 | 5 if list.len() >= 4 => {
-            add(list, 0, HALF);
-            let other = random.between(1, list.len() / 2 - 1);
-            add(list, other, HALF);
+        2 if count > 0 => add(list, 1, random.below(count)),
+        3 if count > 0 => add(list, u16::MAX, random.below(count)),
+        4 | 5 if count > 1 => {
+            add(list, HALF, 0);
+            add(list, HALF, random.between(1, count - 1));
         }
-        6 => list.resize(list.len() + 2 * random.between(1, 30), 0),
-        7 => list.resize(list.len() + 2 * 256, 0),
+        6 => list.resize(2 * (count + random.between(1, 30)), 0),
+        7 => list.resize(2 * (count + MANY), 0),
         8 => list.clear(),
         _ => {}
     }
 }
 
-/// Adds to one of the lengths, in 16 bits.
-fn change(list: &mut [u8], more: u16, random: &mut Random) {
-    if !list.is_empty() {
-        add(list, random.below(list.len() / 2), more);
-    }
-}
-
-fn add(list: &mut [u8], at: usize, more: u16) {
+/// Adds to a length in 16 bits, so that the highest number takes one away.
+fn add(list: &mut [u8], more: u16, at: usize) {
     let number = u16::from_le_bytes([list[2 * at], list[2 * at + 1]]).wrapping_add(more);
     list[2 * at..2 * at + 2].copy_from_slice(&number.to_le_bytes());
 }
