@@ -31,22 +31,14 @@ fn bytes(text: &str) -> Vec<u8> {
     unhex(text).expect("hexadecimal digits")
 }
 
-fn list(lengths: &[u16]) -> Vec<u8> {
-    lengths.iter().flat_map(|length| length.to_le_bytes()).collect()
-}
-
-fn call(key: [u8; 16], frames: Vec<u8>, list: Vec<u8>, answers: usize, room: usize) -> Call {
-    Call {
-        operation: Operation::OpenBurst,
-        key,
-        inputs: vec![frames, list],
-        rooms: vec![OPENED_RECORD * answers, room],
-    }
+fn call(key: [u8; 16], inputs: Vec<Vec<u8>>, answers: usize, room: usize) -> Call {
+    Call { operation: Operation::OpenBurst, key, inputs, rooms: vec![OPENED_RECORD * answers, room] }
 }
 
 /// The codec's answer, which is the model's too.
 fn asked(frames: &[u8], lengths: &[u16], answers: usize, room: usize) -> Outcome {
-    compare(&call(KEY, frames.to_vec(), list(lengths), answers, room), FILL, 0x96)
+    let list = lengths.iter().flat_map(|length| length.to_le_bytes()).collect();
+    compare(&call(KEY, vec![frames.to_vec(), list], answers, room), FILL, 0x96)
 }
 
 /// What `nwk_open` leaves of a frame alone in a record and a part that were filled, and its number.
@@ -89,10 +81,8 @@ fn each_frame_is_as_opened_alone() {
     for _ in 0..ROUNDS {
         let (key, fill) = (random.array(), random.byte());
         let inputs = bursts::inputs(&key, &mut random);
-        let count = inputs[1].len() / 2;
-        let (more_answers, more_room) = (random.below(3), random.below(3));
-        let [frames, list] = <[Vec<u8>; 2]>::try_from(inputs).expect("frames and lengths");
-        let call = call(key, frames, list, count + more_answers, PART * count + more_room);
+        let count = lengths(&inputs[1]).len();
+        let call = call(key, inputs, count + random.below(3), PART * count + random.below(3));
         let opened = perform(&call, fill, random.byte());
         check_boundary(&call, &opened, fill);
         let expected = if count <= MAX_BURST { count as u64 } else { 20 << 32 };
@@ -136,34 +126,44 @@ fn each_frame_has_its_own_part_and_answer() {
     assert!(opened.outputs[0][6 * OPENED_RECORD..].iter().all(|&byte| byte == FILL), "the place past the frames");
 }
 
-/// A burst of so many readings with so much added to the bytes, to the first length, to the answers and to the output.
-fn readings(count: usize, bytes_more: isize, length_more: isize, answers_more: isize, room_more: isize) -> u64 {
-    let reading = bytes(READING.0);
-    let mut frames = reading.repeat(count);
-    frames.resize(frames.len().saturating_add_signed(bytes_more), 0);
-    let mut lengths = vec![reading.len() as u16; count];
-    if let Some(first) = lengths.first_mut() {
-        *first = first.wrapping_add(length_more as u16);
+/// A burst of so many readings, and by how much its bytes, first length, answers and output are more than fits.
+#[derive(Clone, Copy, Default)]
+struct Readings {
+    count: usize,
+    bytes: isize,
+    length: isize,
+    answers: isize,
+    room: isize,
+}
+
+impl Readings {
+    fn answer(self) -> u64 {
+        let reading = bytes(READING.0);
+        let mut frames = reading.repeat(self.count);
+        frames.resize(frames.len().saturating_add_signed(self.bytes), 0);
+        let mut lengths = vec![reading.len() as u16; self.count];
+        lengths[0] = lengths[0].wrapping_add_signed(self.length as i16);
+        let answers = self.count.saturating_add_signed(self.answers);
+        asked(&frames, &lengths, answers, (108 * self.count).saturating_add_signed(self.room)).answer
     }
-    let (answers, room) = (count.saturating_add_signed(answers_more), (108 * count).saturating_add_signed(room_more));
-    asked(&frames, &lengths, answers, room).answer
 }
 
 /// The four conditions of 20, each alone and at its edge.
 #[test]
 fn twenty_has_four_conditions() {
-    const REFUSED: u64 = 20 << 32;
-    assert_eq!(
-        (readings(16, 0, 0, 0, 0), readings(17, 0, 0, 0, 0), readings(17, 0, 0, 9, 999)),
-        (16, REFUSED, REFUSED)
-    );
     for count in 1..=16 {
-        assert_eq!(readings(count, 0, 0, 0, 0), count as u64);
-        assert_eq!((readings(count, 1, 0, 0, 0), readings(count, -1, 0, 0, 0)), (REFUSED, REFUSED));
-        assert_eq!((readings(count, 0, 1, 0, 0), readings(count, 0, -1, 0, 0)), (REFUSED, REFUSED));
-        assert_eq!((readings(count, 0, 0, -1, 0), readings(count, 0, 0, 1, 0)), (REFUSED, count as u64));
-        assert_eq!((readings(count, 0, 0, 0, -1), readings(count, 0, 0, 0, 1)), (REFUSED, count as u64));
+        let fits = Readings { count, ..Readings::default() };
+        for accepted in [fits, Readings { answers: 1, ..fits }, Readings { room: 1, ..fits }] {
+            assert_eq!(accepted.answer(), count as u64);
+        }
+        for one in [1, -1] {
+            assert_eq!(Readings { bytes: one, ..fits }.answer(), 20 << 32);
+            assert_eq!(Readings { length: one, ..fits }.answer(), 20 << 32);
+        }
+        assert_eq!(Readings { answers: -1, ..fits }.answer(), 20 << 32);
+        assert_eq!(Readings { room: -1, ..fits }.answer(), 20 << 32);
     }
+    assert_eq!(Readings { count: 17, ..Readings::default() }.answer(), 20 << 32);
 }
 
 /// "No frames at all is accepted", whatever is lent; bytes without lengths do not add up.
