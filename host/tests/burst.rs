@@ -3,11 +3,10 @@
 #[allow(dead_code)]
 mod support;
 
-use support::calls::{check_boundary, perform, Call, Outcome};
+use support::calls::{check_boundary, lengths_of, perform, Call, Outcome};
 use support::compare::compare;
 use support::generate::bursts;
 use support::hex::unhex;
-use support::model::burst::lengths;
 use support::operations::{Operation, MAX_BURST, OPENED_RECORD, PART};
 use support::random::Random;
 
@@ -31,14 +30,9 @@ fn bytes(text: &str) -> Vec<u8> {
     unhex(text).expect("hexadecimal digits")
 }
 
-fn call(key: [u8; 16], inputs: Vec<Vec<u8>>, answers: usize, room: usize) -> Call {
-    Call { operation: Operation::OpenBurst, key, inputs, rooms: vec![OPENED_RECORD * answers, room] }
-}
-
 /// The codec's answer, which is the model's too.
 fn asked(frames: &[u8], lengths: &[u16], answers: usize, room: usize) -> Outcome {
-    let list = lengths.iter().flat_map(|length| length.to_le_bytes()).collect();
-    compare(&call(KEY, vec![frames.to_vec(), list], answers, room), FILL, 0x96)
+    compare(&Call::burst(KEY, frames, lengths, answers, room), FILL, 0x96)
 }
 
 /// What `nwk_open` leaves of a frame alone in a record and a part that were filled, and its number.
@@ -63,7 +57,7 @@ fn answer(number: u8, record: Vec<u8>) -> Vec<u8> {
 fn compare_with_open(call: &Call, opened: &Outcome, fill: u8) -> Vec<u8> {
     let mut own = Vec::new();
     let mut rest = &call.inputs[0][..];
-    for ((k, length), (record, part)) in lengths(&call.inputs[1]).into_iter().enumerate().zip(opened.frames()) {
+    for ((k, length), (record, part)) in lengths_of(&call.inputs[1]).into_iter().enumerate().zip(opened.frames()) {
         let (frame, behind) = rest.split_at(length);
         rest = behind;
         let (number, its_record, its_part) = alone(call.key, frame, fill);
@@ -81,8 +75,9 @@ fn each_frame_is_as_opened_alone() {
     for _ in 0..ROUNDS {
         let (key, fill) = (random.array(), random.byte());
         let inputs = bursts::inputs(&key, &mut random);
-        let count = lengths(&inputs[1]).len();
-        let call = call(key, inputs, count + random.below(3), PART * count + random.below(3));
+        let count = lengths_of(&inputs[1]).len();
+        let rooms = vec![OPENED_RECORD * (count + random.below(3)), PART * count + random.below(3)];
+        let call = Call { operation: Operation::OpenBurst, key, inputs, rooms };
         let opened = perform(&call, fill, random.byte());
         check_boundary(&call, &opened, fill);
         let expected = if count <= MAX_BURST { count as u64 } else { 20 << 32 };

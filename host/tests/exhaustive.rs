@@ -8,7 +8,7 @@ use support::compare::compare;
 use support::generate::{commands, headers};
 use support::model::auxiliary::record as auxiliary_record;
 use support::model::header::{Header, SourceRoute};
-use support::operations::{Operation, AUXILIARY_RECORD, COMMAND_RECORD, HEADER_RECORD, OPENED_RECORD, PART};
+use support::operations::{Operation, AUXILIARY_RECORD, COMMAND_RECORD, HEADER_RECORD, PART};
 use support::random::Random;
 
 const SEED: u64 = 0xE4A0_571E;
@@ -169,15 +169,8 @@ fn every_byte_of_a_command() {
     }
 }
 
-/// A burst with these lengths, so many answers and so many bytes of output.
 fn burst(frames: &[u8], lengths: &[u16], answers: usize, room: usize) -> Outcome {
-    let list = lengths.iter().flat_map(|length| length.to_le_bytes()).collect();
-    let rooms = vec![OPENED_RECORD * answers, room];
-    compare(
-        &Call { operation: Operation::OpenBurst, key: [0; 16], inputs: vec![frames.to_vec(), list], rooms },
-        FILL,
-        0x5A,
-    )
+    compare(&Call::burst([0; 16], frames, lengths, answers, room), FILL, 0x5A)
 }
 
 /// Of all the numbers a length can be, only the one that makes the sum is taken.
@@ -190,21 +183,18 @@ fn every_length_of_a_burst() {
     }
 }
 
-/// Every number of frames, of answers and of parts up to 18, the output exact, a byte short and a byte longer.
+/// Every number of frames, of answers and of parts up to 18; the parts exact, with a byte more, and a byte short of one more.
 #[test]
 fn every_size_of_a_burst() {
-    for count in 0..=18 {
-        for answers in 0..=18 {
-            for room in
-                (0..=18).flat_map(|parts: usize| [(PART * parts).saturating_sub(1), PART * parts, PART * parts + 1])
-            {
-                let opened = burst(&[], &vec![0; count], answers, room);
-                let fits = count <= 16 && answers >= count && room >= 108 * count;
-                let expected = if fits { count as u64 } else { 20 << 32 };
-                assert_eq!(opened.answer, expected, "{count} lengths, {answers} answers, {room} bytes");
-                // Frames of no bytes: the own answer of each is 2.
-                assert!(opened.frames().all(|(record, _)| record[0] == 2));
-            }
+    let rooms: Vec<usize> = (0..=18).flat_map(|parts| [0, 1, PART - 1].map(|more| PART * parts + more)).collect();
+    for (count, answers) in (0..=18).flat_map(|count| (0..=18).map(move |answers| (count, answers))) {
+        for &room in &rooms {
+            let opened = burst(&[], &vec![0; count], answers, room);
+            let fits = count <= 16 && answers >= count && room >= 108 * count;
+            let expected = if fits { count as u64 } else { 20 << 32 };
+            assert_eq!(opened.answer, expected, "{count} lengths, {answers} answers, {room} bytes");
+            // Frames of no bytes: the own answer of each is 2.
+            assert!(opened.frames().all(|(record, _)| record[0] == 2));
         }
     }
 }

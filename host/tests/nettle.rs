@@ -4,7 +4,7 @@ mod support;
 
 use std::io::Write;
 use std::sync::Once;
-use support::calls::{check_boundary, perform, Call, Outcome};
+use support::calls::{check_boundary, list_of, perform, Call, Outcome};
 use support::generate::headers::{auxiliary, header};
 use support::generate::sealed::ccm_inputs;
 use support::model::auxiliary::record as auxiliary_record;
@@ -173,11 +173,12 @@ fn bursts_sealed_by_nettle_are_opened() {
                 let last = bytes.len() - 1 - random.below(payload.len() + MIC);
                 bytes[last] ^= 1 << random.below(8);
             }
-            lengths.extend((bytes.len() as u16).to_le_bytes());
+            lengths.push(bytes.len() as u16);
             frames.extend(bytes);
             expected.push((!flipped).then_some(payload));
         }
-        let opened = made(Operation::OpenBurst, key, vec![frames, lengths], vec![OPENED_RECORD * count, PART * count]);
+        let inputs = vec![frames, list_of(&lengths)];
+        let opened = made(Operation::OpenBurst, key, inputs, vec![OPENED_RECORD * count, PART * count]);
         assert_eq!(opened.answer, count as u64);
         for ((record, part), payload) in opened.frames().zip(expected) {
             let Some(payload) = payload else {

@@ -7,9 +7,9 @@ use store_reader::{
     decrypt_ccm, encrypt_block, encrypt_ccm, open, open_burst, read, seal, split_mic, timeout_seconds, write, Burst,
     Key, NwkAuxHeader, NwkCommand, NwkFrameType, NwkHeader, NwkPayload, OpenedRecord, Refusal,
 };
-use support::calls::{perform, Call, Outcome};
+use support::calls::{lengths_of, perform, Call, Outcome};
 use support::generate;
-use support::model::{burst, MAX_FRAME, MAX_PAYLOAD};
+use support::model::{MAX_FRAME, MAX_PAYLOAD};
 use support::operations::{
     Operation, AUXILIARY_RECORD, COMMAND_RECORD, HEADER_RECORD, MIC, OPENED_HEADER, OPENED_RECORD,
 };
@@ -153,7 +153,7 @@ fn bursts_opened() {
     let count = accepted(Operation::OpenBurst, |call| {
         let outcome = raw(Operation::OpenBurst, call.key, &[&call.inputs[0], &call.inputs[1]], &call.rooms);
         let key = Key::new(call.key);
-        let lengths = burst::lengths(&call.inputs[1]);
+        let lengths = lengths_of(&call.inputs[1]);
         let numbers: Vec<u16> = lengths.iter().map(|&length| length as u16).collect();
         let mut answers = vec![OpenedRecord::new(); call.rooms[0] / OPENED_RECORD];
         let mut out = vec![FILL; call.rooms[1]];

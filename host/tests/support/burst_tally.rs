@@ -1,7 +1,6 @@
 //! What the generated bursts met: every size, each condition of 20 alone and at its edge, each own answer of a frame with
 //! a good frame behind it, and in every size each kind of frame among good ones.
-use super::calls::{Call, Outcome};
-use super::model::burst::lengths;
+use super::calls::{lengths_of, Call, Outcome};
 use super::operations::{MAX_BURST, OPENED_RECORD, PART};
 use super::tally::NUMBERS;
 use std::collections::{BTreeMap, BTreeSet};
@@ -53,7 +52,7 @@ impl BurstTally {
         let own: Vec<usize> = outcome.frames().map(|(record, _)| usize::from(record[0])).collect();
         own.iter().for_each(|&number| self.own[number] += 1);
         own.windows(2).filter(|pair| pair[1] == 0).for_each(|pair| self.before_a_good_one[pair[0]] += 1);
-        let kinds: BTreeSet<&str> = own.iter().zip(lengths(&call.inputs[1])).map(kind).collect();
+        let kinds: BTreeSet<&str> = own.iter().zip(lengths_of(&call.inputs[1])).map(kind).collect();
         for kind in kinds.iter().filter(|_| kinds.contains("good")) {
             *self.among.entry((own.len(), kind)).or_default() += 1;
         }
@@ -110,7 +109,7 @@ struct Lists {
 
 impl Lists {
     fn of(call: &Call) -> Self {
-        let lengths = lengths(&call.inputs[1]);
+        let lengths = lengths_of(&call.inputs[1]);
         Self {
             count: lengths.len(),
             sum: lengths.iter().sum(),

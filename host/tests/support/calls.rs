@@ -4,8 +4,8 @@ use super::hex::hex;
 use super::operations::{Extent, Operation, OPENED_RECORD, PART};
 use store_reader::sys;
 
-/// An operation with its inputs and the lengths of its lent outputs, in the order of its parameters. A length of a burst is
-/// two bytes, the lowest first.
+/// An operation with its inputs and the lengths of its lent outputs, in the order of its parameters. The lengths of a burst
+/// are an input of two bytes each, the lowest first.
 #[derive(Clone, Debug)]
 pub struct Call {
     pub operation: Operation,
@@ -41,7 +41,23 @@ impl Outcome {
     }
 }
 
+/// The input of a burst that has these lengths.
+pub fn list_of(lengths: &[u16]) -> Vec<u8> {
+    lengths.iter().flat_map(|length| length.to_le_bytes()).collect()
+}
+
+/// The lengths of such an input.
+pub fn lengths_of(list: &[u8]) -> Vec<usize> {
+    list.chunks(2).map(|length| usize::from(u16::from_le_bytes([length[0], length[1]]))).collect()
+}
+
 impl Call {
+    /// A burst that is lent so many answers and so many bytes of output.
+    pub fn burst(key: [u8; 16], frames: &[u8], lengths: &[u16], answers: usize, room: usize) -> Self {
+        let inputs = vec![frames.to_vec(), list_of(lengths)];
+        Self { operation: Operation::OpenBurst, key, inputs, rooms: vec![OPENED_RECORD * answers, room] }
+    }
+
     /// The call as one line, for a report.
     pub fn line(&self) -> String {
         let inputs: Vec<String> = self.inputs.iter().map(|input| hex(input)).collect();

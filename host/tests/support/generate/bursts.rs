@@ -1,8 +1,7 @@
 //! Generated bursts: good, refused, damaged, empty and over-long frames end to end, and lengths that do not add up.
 use super::damage;
 use super::sealed::{frame, secured_frame};
-use crate::support::calls::Call;
-use crate::support::model::burst::lengths;
+use crate::support::calls::{lengths_of, list_of, Call};
 use crate::support::model::MAX_FRAME;
 use crate::support::operations::{MAX_BURST, MIC, OPENED_RECORD, PART};
 use crate::support::random::Random;
@@ -17,8 +16,8 @@ const MANY: usize = 256;
 pub fn inputs(key: &[u8; 16], random: &mut Random) -> Vec<Vec<u8>> {
     let count = random.below(MAX_BURST + 2);
     let frames: Vec<Vec<u8>> = (0..count).map(|_| one(key, random)).collect();
-    let list = frames.iter().flat_map(|frame| (frame.len() as u16).to_le_bytes()).collect();
-    vec![frames.concat(), list]
+    let lengths: Vec<u16> = frames.iter().map(|frame| frame.len() as u16).collect();
+    vec![frames.concat(), list_of(&lengths)]
 }
 
 /// A frame: good ones, and all that is handed to opening alone.
@@ -53,7 +52,7 @@ fn damaged(key: &[u8; 16], random: &mut Random) -> Vec<u8> {
 
 /// A list of so many answers, and an output of a part for each frame.
 pub fn needed(call: &Call) -> Vec<usize> {
-    let count = lengths(&call.inputs[1]).len();
+    let count = lengths_of(&call.inputs[1]).len();
     vec![OPENED_RECORD * count, PART * count]
 }
 

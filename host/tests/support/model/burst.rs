@@ -1,16 +1,12 @@
 //! A burst (document 02, request 1): the four conditions of 20, and each frame opened alone into its own part.
 use super::{refuse, Answer, Done};
+use crate::support::calls::lengths_of;
 use crate::support::operations::{MAX_BURST, OPENED_RECORD, PART};
-
-/// The numbers of a list of lengths.
-pub fn lengths(list: &[u8]) -> Vec<usize> {
-    list.chunks(2).map(|number| usize::from(u16::from_le_bytes([number[0], number[1]]))).collect()
-}
 
 /// "20, first of all, if there are more than 16 lengths, they do not add up to the bytes lent, the output is shorter than
 /// 108 times their number, or the list for the answers is shorter than their number." Else the number of frames.
 pub fn open(key: &[u8; 16], frames: &[u8], list: &[u8], rooms: &[usize]) -> Answer {
-    let lengths = lengths(list);
+    let lengths = lengths_of(list);
     refuse(&[
         (20, lengths.len() > MAX_BURST),
         (20, lengths.iter().sum::<usize>() != frames.len()),
