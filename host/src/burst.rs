@@ -74,7 +74,7 @@ pub fn open_burst<'a>(
     Ok(Burst { frames: answers.iter().zip(out.chunks_exact(MAX_PAYLOAD)) })
 }
 
-/// The frames of a burst as [`open_burst`] gives them: an iterator over what [`open`](crate::open) would have given for each.
+/// The frames of a burst: an iterator over what [`open`](crate::open) would have given for each. [`open_burst`] makes it.
 #[derive(Clone)]
 pub struct Burst<'a> {
     /// The answer of each frame, and its part of the output.

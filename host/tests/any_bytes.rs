@@ -87,10 +87,13 @@ fn a_burst_takes_any_bytes_and_lengths() {
             Ok(burst) => {
                 assert_eq!(burst.len(), lengths.len());
                 bursts += 1;
-                frames += burst.filter(|answer| answer.is_err()).count();
+                for answer in burst {
+                    let number = answer.expect_err("no MIC is right by chance").number();
+                    assert!((1..=19).contains(&number), "{number}");
+                    frames += 1;
+                }
             }
         }
-        // No MIC is right by chance, so that nothing is opened.
         assert!(out.iter().all(|byte| *byte == 0xA5));
     }
     println!("{bursts} bursts with {frames} frames");

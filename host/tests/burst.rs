@@ -1,5 +1,5 @@
-//! Bursts: each frame has the answer and leaves the bytes that the codec's own `nwk_open` gives for that frame alone, with its
-//! part of the output lent; and the words of document 02, request 1, case by case.
+//! Bursts: each frame has the answer and leaves the bytes that the codec's own `nwk_open` gives for that frame alone, with
+//! its part of the output lent; and the words of document 02, request 1, case by case.
 #[allow(dead_code)]
 mod support;
 
@@ -98,7 +98,7 @@ fn each_frame_is_as_opened_alone() {
     assert_eq!((numbers[13], numbers[17], numbers[18]), (0, 0, 0));
 }
 
-/// "Frame number k (from 0) writes its plaintext into its own 108-byte part of the output, starting at 108 times k", and "a
+/// "Frame number k (from 0) writes its plaintext into its own 108-byte part of the output, starting at 108 × k", and "a
 /// refused frame does not stop the next one": a damaged one answers 19, one of no bytes 2, one of 119 bytes 1.
 #[test]
 fn each_frame_has_its_own_part_and_answer() {

@@ -183,7 +183,7 @@ fn every_length_of_a_burst() {
     }
 }
 
-/// Every number of frames, of answers and of parts up to 18; the parts exact, with a byte more, and a byte short of one more.
+/// Every number of frames, of answers and of parts up to 18; with the parts no byte more, one, and one less than a part.
 #[test]
 fn every_size_of_a_burst() {
     let rooms: Vec<usize> = (0..=18).flat_map(|parts| [0, 1, PART - 1].map(|more| PART * parts + more)).collect();

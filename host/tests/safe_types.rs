@@ -157,7 +157,7 @@ fn bursts_opened() {
         let numbers: Vec<u16> = lengths.iter().map(|&length| length as u16).collect();
         let mut answers = vec![OpenedRecord::new(); call.rooms[0] / OPENED_RECORD];
         let mut out = vec![FILL; call.rooms[1]];
-        let parts = out.as_ptr_range().start;
+        let parts = out.as_ptr();
         let safe = open_burst(&key, &call.inputs[0], &numbers, &mut answers, &mut out);
         let accepted = agree(&safe, &outcome, call);
         if let Ok(frames) = safe {
