@@ -40,8 +40,8 @@
 extern "C" {
 #endif
 
-#define NWK_VERSION "0.2.0"
-#define NWK_VERSION_NUMBER 0x000200
+#define NWK_VERSION "0.3.0"
+#define NWK_VERSION_NUMBER 0x000300
 
 #ifdef __cplusplus
 #define NWK_CAST(type, value) static_cast<type>(value)

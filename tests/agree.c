@@ -1,9 +1,9 @@
-/* Calls all sixteen functions of nwk.h with generated inputs, from a fixed seed, and prints one line for each call:
+/* Calls all seventeen functions of nwk.h with generated inputs, from a fixed seed, and prints one line for each call:
  *
  *   name [key_first key_second] inputs = answer outputs
  *
- * in hexadecimal, an empty byte string as "-". The outputs were filled with A5 and are printed whole. host/tests/agree.rs
- * repeats each line from Rust.
+ * in hexadecimal, an empty byte string as "-", a list as the bytes of its entries. The outputs were filled with A5 and are
+ * printed whole. host/tests/agree.rs repeats each line from Rust.
  *
  *   cc -std=c11 -Wall -Wextra -Iinclude tests/agree.c target/staticlib/libnwk.a -o agree && ./agree */
 #include "nwk.h"
@@ -16,7 +16,9 @@
 #define SEED UINT64_C(0xA62EE)
 #define FILL 0xA5
 #define ROOMY 600
-#define PLACES 700
+/* An answers' list can have 46 records: 17 and 29 more. */
+#define PLACES (46 * NWK_OPENED_RECORD)
+#define LENGTHS (NWK_MAX_BURST + 2)
 
 enum operation {
   READ_HEADER,
@@ -27,6 +29,7 @@ enum operation {
   WRITE_FRAME,
   SEAL,
   OPEN,
+  OPEN_BURST,
   PAYLOAD_KIND,
   READ_COMMAND,
   WRITE_COMMAND,
@@ -48,10 +51,10 @@ struct shape {
 static const struct shape shapes[OPERATIONS] = {
     {"nwk_read_header", 0, 1, 1},     {"nwk_write_header", 0, 1, 1},  {"nwk_read_auxiliary", 0, 1, 1},
     {"nwk_write_auxiliary", 0, 1, 1}, {"nwk_read_frame", 0, 1, 2},    {"nwk_write_frame", 0, 2, 1},
-    {"nwk_seal", 1, 3, 1},            {"nwk_open", 1, 1, 2},          {"nwk_payload_kind", 0, 1, 0},
-    {"nwk_read_command", 0, 1, 1},    {"nwk_write_command", 0, 1, 1}, {"nwk_timeout_seconds", 0, 1, 0},
-    {"nwk_encrypt_ccm", 1, 3, 2},     {"nwk_decrypt_ccm", 1, 4, 1},   {"nwk_split_mic", 0, 1, 1},
-    {"nwk_encrypt_block", 1, 1, 1},
+    {"nwk_seal", 1, 3, 1},            {"nwk_open", 1, 1, 2},          {"nwk_open_burst", 1, 2, 2},
+    {"nwk_payload_kind", 0, 1, 0},    {"nwk_read_command", 0, 1, 1},  {"nwk_write_command", 0, 1, 1},
+    {"nwk_timeout_seconds", 0, 1, 0}, {"nwk_encrypt_ccm", 1, 3, 2},   {"nwk_decrypt_ccm", 1, 4, 1},
+    {"nwk_split_mic", 0, 1, 1},       {"nwk_encrypt_block", 1, 1, 1},
 };
 
 struct buffer {
@@ -94,6 +97,18 @@ static void random_bytes(struct buffer *b, size_t n) {
 
 /* ---- a call */
 
+/* The lengths are two bytes each in their buffer, and the answers as many as their buffer has room for. */
+static uint64_t open_burst(struct call *c) {
+  const size_t count = c->in[1].n / 2;
+  uint16_t lengths[LENGTHS];
+  for (size_t i = 0; i < count; i++) {
+    lengths[i] = nwk_get16(c->in[1].bytes + 2 * i);
+  }
+  return nwk_open_burst(c->key_first, c->key_second, c->in[0].bytes, c->in[0].n, lengths, count,
+                        (uint8_t(*)[NWK_OPENED_RECORD])c->out[0].bytes, c->out[0].n / NWK_OPENED_RECORD, c->out[1].bytes,
+                        c->out[1].n);
+}
+
 static uint64_t perform(struct call *c) {
   const uint64_t k1 = c->key_first, k2 = c->key_second;
   struct buffer *in = c->in, *out = c->out;
@@ -116,6 +131,8 @@ static uint64_t perform(struct call *c) {
     return nwk_seal(k1, k2, IN(0), IN(1), IN(2), OUT(0));
   case OPEN:
     return nwk_open(k1, k2, IN(0), OUT(0), OUT(1));
+  case OPEN_BURST:
+    return open_burst(c);
   case PAYLOAD_KIND:
     return nwk_payload_kind(in[0].bytes[0]);
   case READ_COMMAND:
@@ -179,7 +196,7 @@ static uint64_t perform_roomy(struct call *c) {
   return perform(c);
 }
 
-/* What a slice needs: a record's size, or the length answered; anything where the call is refused. */
+/* What a slice needs: a record's size, the number of frames, or the length answered; anything where the call is refused. */
 static size_t needed(const struct call *c, size_t output, uint64_t roomy_answer) {
   const size_t length = NWK_REFUSAL(roomy_answer) == 0 ? NWK_LENGTH(roomy_answer) : NWK_MAX_FRAME;
   switch (c->operation) {
@@ -191,6 +208,8 @@ static size_t needed(const struct call *c, size_t output, uint64_t roomy_answer)
     return output == 0 ? NWK_HEADER_RECORD : NWK_AUXILIARY_RECORD;
   case OPEN:
     return output == 0 ? NWK_OPENED_RECORD : length;
+  case OPEN_BURST:
+    return c->in[1].n / 2 * (output == 0 ? 1 : NWK_MAX_PAYLOAD);
   case READ_COMMAND:
     return NWK_COMMAND_RECORD;
   default:
@@ -224,11 +243,16 @@ static size_t room(size_t exact) {
   return exact + below(30);
 }
 
+/* The bytes of what a room is counted in: the records of a list, else bytes. */
+static size_t unit(const struct call *c, size_t output) {
+  return c->operation == OPEN_BURST && output == 0 ? NWK_OPENED_RECORD : 1;
+}
+
 static void call_and_print(struct call *c) {
   const uint64_t roomy_answer = perform_roomy(c);
   for (size_t i = 0; i < shapes[c->operation].outputs; i++) {
     const size_t size = array(c, i);
-    lend(c, i, size != 0 ? size : room(needed(c, i, roomy_answer)));
+    lend(c, i, size != 0 ? size : unit(c, i) * room(needed(c, i, roomy_answer)));
   }
   print_call(c, perform(c));
 }
@@ -355,6 +379,29 @@ static void frame(const struct call *c, struct buffer *to) {
   } while (to->n == 0);
 }
 
+/* Frames end to end with their lengths, good ones and others; sometimes a length is one more or less. */
+static void burst(struct call *c) {
+  static struct buffer one;
+  struct buffer *frames = &c->in[0], *lengths = &c->in[1];
+  const size_t count = below(LENGTHS);
+  frames->n = 0;
+  lengths->n = 2 * count;
+  for (size_t i = 0; i < count; i++) {
+    frame(c, &one);
+    damage_bytes(&one);
+    if (percent(8)) {
+      one.n = 0;
+    }
+    memcpy(frames->bytes + frames->n, one.bytes, one.n);
+    nwk_put16(lengths->bytes + 2 * i, (uint16_t)one.n);
+    frames->n += one.n;
+  }
+  if (percent(10) && count != 0) {
+    uint8_t *length = lengths->bytes + 2 * below(count);
+    nwk_put16(length, (uint16_t)(nwk_get16(length) + (percent(50) ? 1 : 0xFFFF)));
+  }
+}
+
 static void written(enum operation operation, void (*record)(struct buffer *), struct buffer *to) {
   static struct call writing;
   writing.operation = operation;
@@ -407,6 +454,9 @@ static void generate(struct call *c) {
   case OPEN:
     frame(c, &c->in[0]);
     damage_bytes(&c->in[0]);
+    return;
+  case OPEN_BURST:
+    burst(c);
     return;
   case SEAL:
     auxiliary_record(&c->in[1]);

@@ -60,6 +60,19 @@ static void print_answer(const char *name, uint64_t answer) {
   printf("%s %u %u\n", name, NWK_REFUSAL(answer), NWK_LENGTH(answer));
 }
 
+/* Bursts without frames, lengths or answers, and one whose only frame has no bytes. */
+static void print_empty_bursts(void) {
+  const uint8_t bytes[1] = {0};
+  const uint16_t lengths[1] = {0};
+  uint8_t answers[1][NWK_OPENED_RECORD] = {{0}};
+  uint8_t out[NWK_MAX_PAYLOAD] = {0};
+  print_answer("open_burst", nwk_open_burst(0, 0, NULL, 0, NULL, 0, NULL, 0, NULL, 0));
+  print_answer("open_burst_no_lengths", nwk_open_burst(0, 0, bytes, sizeof bytes, NULL, 0, NULL, 0, NULL, 0));
+  print_answer("open_burst_no_answers", nwk_open_burst(0, 0, NULL, 0, lengths, 1, NULL, 0, out, sizeof out));
+  print_answer("open_burst_empty_frame", nwk_open_burst(0, 0, NULL, 0, lengths, 1, answers, 1, out, sizeof out));
+  printf("its record %u %u\n", answers[0][NWK_OPENED_REFUSAL], nwk_get16(answers[0] + NWK_OPENED_LENGTH));
+}
+
 /* Every slice that may be empty is NULL. */
 static void print_empty(void) {
   uint8_t header[NWK_HEADER_RECORD] = {0};
@@ -77,6 +90,7 @@ static void print_empty(void) {
   print_answer("read_command", nwk_read_command(NULL, 0, command, sizeof command));
   print_answer("write_command", nwk_write_command(command, sizeof command, NULL, 0));
   print_answer("open", nwk_open(0, 0, NULL, 0, NULL, 0, NULL, 0));
+  print_empty_bursts();
   uint8_t nonce[13] = {0};
   uint8_t mic[4] = {0};
   print_answer("encrypt_ccm", nwk_encrypt_ccm(0, 0, nonce, NULL, 0, NULL, 0, NULL, 0, mic));

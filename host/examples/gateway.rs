@@ -1,9 +1,12 @@
-//! The gateway's loop: each frame that the radio hands over is opened, its counter compared with the sender's last one, and
-//! what does not pass is counted by its reason.
+//! The gateway's loop: the frames that the radio hands over at once are opened in one call, the counter of each is compared
+//! with its sender's last one, and what does not pass is counted by its reason.
 //!
 //!   cargo run --release --example gateway
 use std::collections::BTreeMap;
-use store_reader::{hex, open, Eui64, Key, NwkCommand, NwkPayload, OpenedFrame, Refusal, MAX_FRAME, MAX_PAYLOAD};
+use store_reader::{
+    hex, open_burst, Eui64, Key, NwkCommand, NwkPayload, OpenedFrame, OpenedRecord, Refusal, MAX_BURST,
+    MAX_BURST_OUTPUT, MAX_FRAME,
+};
 
 /// What the radio handed over: records 2, 3, 8, 3 again, 10 and 16 of `samples/store.pcap`, without their MAC headers.
 const HEARD: [&str; 6] = [
@@ -24,10 +27,16 @@ struct Gateway {
 }
 
 impl Gateway {
-    /// Takes a frame from the radio.
-    fn receive(&mut self, key: &Key, frame: &[u8]) -> Result<(), Refusal> {
-        let mut out = [0; MAX_PAYLOAD];
-        match open(key, frame, &mut out) {
+    /// Takes a burst from the radio: its frames end to end, and their lengths.
+    fn receive(&mut self, key: &Key, frames: &[u8], lengths: &[u16]) -> Result<(), Refusal> {
+        let mut answers = [OpenedRecord::new(); MAX_BURST];
+        let mut out = [0; MAX_BURST_OUTPUT];
+        open_burst(key, frames, lengths, &mut answers, &mut out)?.try_for_each(|answer| self.take(answer))
+    }
+
+    /// Takes what was answered of a frame.
+    fn take(&mut self, answer: Result<OpenedFrame<'_>, Refusal>) -> Result<(), Refusal> {
+        match answer {
             Ok(opened) if self.is_new(&opened) => deliver(&opened),
             Ok(_) => {
                 self.repeated += 1;
@@ -74,11 +83,13 @@ fn deliver(opened: &OpenedFrame<'_>) -> Result<(), Refusal> {
 fn main() -> Result<(), Box<dyn std::error::Error>> {
     let key: Key = "C0C1C2C3C4C5C6C7C8C9CACBCCCDCECF".parse()?;
     let mut gateway = Gateway::default();
-    for text in HEARD {
-        let mut frame = [0; MAX_FRAME];
-        let n = hex(text, &mut frame)?;
-        gateway.receive(&key, &frame[..n])?;
+    let (mut frames, mut lengths, mut end) = ([0; HEARD.len() * MAX_FRAME], [0; HEARD.len()], 0);
+    for (text, length) in HEARD.iter().zip(&mut lengths) {
+        let n = hex(text, &mut frames[end..])?;
+        *length = u16::try_from(n)?;
+        end += n;
     }
+    gateway.receive(&key, &frames[..end], &lengths)?;
     for (refusal, count) in &gateway.refused {
         println!("{count} {refusal}");
     }

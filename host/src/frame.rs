@@ -1,7 +1,7 @@
 //! Reading, writing, sealing and opening frames.
-use crate::header::{OpenedRecord, Records};
+use crate::header::Records;
 use crate::refusal::length;
-use crate::{sys, Key, NwkAuxHeader, NwkHeader, Refusal};
+use crate::{sys, Key, NwkAuxHeader, NwkHeader, OpenedRecord, Refusal};
 
 /// A frame as read: its headers, and what is behind them. Behind an auxiliary header that is ciphertext with MIC, else
 /// the payload.
@@ -25,6 +25,15 @@ pub struct OpenedFrame<'a> {
     /// The bytes that were sealed, at the front of the output. The frame's type says what they are:
     /// [`NwkFrameType::payload`](crate::NwkFrameType::payload).
     pub payload: &'a [u8],
+}
+
+impl<'a> OpenedFrame<'a> {
+    /// The frame of a record that the codec filled in, its payload at the front of the output; or the record's refusal.
+    pub(crate) fn from_record(record: &OpenedRecord, out: &'a [u8]) -> Result<Self, Refusal> {
+        let n = record.length()?;
+        let (header, auxiliary) = record.headers()?;
+        Ok(Self { header, auxiliary, payload: out.get(..n).ok_or(Refusal::INTERNAL)? })
+    }
 }
 
 /// Reads a frame without a key.
@@ -147,7 +156,7 @@ pub fn seal(
 }
 
 /// Opens a sealed frame; its payload stands at the front of the output, of which [`MAX_PAYLOAD`](crate::MAX_PAYLOAD) bytes are
-/// always enough. An example stands at [`seal`].
+/// always enough. An example stands at [`seal`]; [`open_burst`](crate::open_burst) opens several frames at once.
 ///
 /// # Errors
 ///
@@ -168,7 +177,6 @@ pub fn open<'a>(key: &Key, frame: &[u8], out: &'a mut [u8]) -> Result<OpenedFram
             out.len(),
         )
     };
-    let n = length(answer)?;
-    let (header, auxiliary) = record.headers()?;
-    Ok(OpenedFrame { header, auxiliary, payload: out.get(..n).unwrap_or(&[]) })
+    length(answer)?;
+    OpenedFrame::from_record(&record, out)
 }

@@ -1,14 +1,16 @@
 //! The NWK header and the auxiliary header.
 use crate::codes::codes;
 use crate::record::{Putter, Taker};
-use crate::refusal::length;
+use crate::refusal::{accepted, length};
 use crate::{sys, Eui64, List, Nwk, Refusal};
+use core::fmt;
 
 const HEADER_RECORD: usize = 147;
 const AUXILIARY_RECORD: usize = 19;
 const OPENED_RECORD: usize = 182;
 
-/// Where an opened record has the header record, and behind it the auxiliary record.
+/// Where an opened record has the payload's length, and the header record with the auxiliary record behind it.
+const OPENED_LENGTH_AT: usize = 2;
 const OPENED_HEADER_AT: usize = 16;
 
 /// How many relays a source route has places for.
@@ -425,20 +427,44 @@ impl Records {
     }
 }
 
-/// Room for an opened record, as the codec fills it.
-pub(crate) struct OpenedRecord(pub [u8; OPENED_RECORD]);
+/// Room for what the codec says of a frame that it opens: a place of the answers that [`open_burst`](crate::open_burst) is
+/// lent. What stands in it is the codec's, and [`Burst`](crate::Burst) reads it.
+#[derive(Clone, Copy)]
+#[repr(transparent)]
+pub struct OpenedRecord(pub(crate) [u8; OPENED_RECORD]);
 
 impl OpenedRecord {
-    pub fn new() -> Self {
+    /// A place that nothing was said in yet.
+    #[must_use]
+    pub const fn new() -> Self {
         Self([0; OPENED_RECORD])
     }
 
+    /// The payload's length, or by which number the frame was refused.
+    pub(crate) fn length(&self) -> Result<usize, Refusal> {
+        accepted(Taker::new(&self.0, 0).byte())?;
+        Ok(usize::from(Taker::new(&self.0, OPENED_LENGTH_AT).word()))
+    }
+
     /// The two headers. An opened frame has both.
-    pub fn headers(&self) -> Result<(NwkHeader, NwkAuxHeader), Refusal> {
+    pub(crate) fn headers(&self) -> Result<(NwkHeader, NwkAuxHeader), Refusal> {
         let (_, records) = self.0.split_at(OPENED_HEADER_AT);
         let (header, auxiliary) = records.split_at(HEADER_RECORD);
         let header = header.try_into().map_err(|_| Refusal::INTERNAL)?;
         let auxiliary = auxiliary.try_into().map_err(|_| Refusal::INTERNAL)?;
         Ok((NwkHeader::from_record(header)?, NwkAuxHeader::from_record(auxiliary)?.ok_or(Refusal::INTERNAL)?))
+    }
+}
+
+impl Default for OpenedRecord {
+    fn default() -> Self {
+        Self::new()
+    }
+}
+
+/// The name alone: the bytes are the codec's.
+impl fmt::Debug for OpenedRecord {
+    fn fmt(&self, f: &mut fmt::Formatter<'_>) -> fmt::Result {
+        f.debug_struct("OpenedRecord").finish_non_exhaustive()
     }
 }

@@ -25,11 +25,14 @@
 //! assert_eq!(refusal.to_string(), "refused by 19: the MIC is not the one computed");
 //! # Ok::<(), Refusal>(())
 //! ```
+//!
+//! The frames that a radio hands over at once are opened in one call by [`open_burst`].
 #![no_std]
 #![deny(missing_docs)]
 #![warn(clippy::missing_errors_doc, clippy::must_use_candidate)]
 
 mod address;
+mod burst;
 mod cipher;
 mod codes;
 mod command;
@@ -43,6 +46,7 @@ mod refusal;
 pub mod sys;
 
 pub use address::{hex, Eui64, HexError, Key, Nwk, PanId};
+pub use burst::{open_burst, Burst};
 pub use cipher::{decrypt_ccm, encrypt_block, encrypt_ccm, split_mic};
 pub use command::{
     timeout_seconds, EndDeviceTimeout, Nwk802154AssociationStatus, NwkCommand, NwkCommandId, NwkCommissioningType,
@@ -52,7 +56,7 @@ pub use command::{
 pub use frame::{open, read, seal, write, NwkFrame, OpenedFrame};
 pub use header::{
     NwkAuxHeader, NwkFrameControl, NwkFrameType, NwkHeader, NwkPayload, NwkRouteDiscovery,
-    NwkSecurityHeaderControlField, NwkSecurityHeaderKeyId, NwkSecurityLevel, NwkSourceRoute,
+    NwkSecurityHeaderControlField, NwkSecurityHeaderKeyId, NwkSecurityLevel, NwkSourceRoute, OpenedRecord,
 };
 pub use list::{Full, List};
 pub use refusal::Refusal;
@@ -62,6 +66,12 @@ pub const MAX_FRAME: usize = 118;
 
 /// The most bytes that a payload or a command has.
 pub const MAX_PAYLOAD: usize = 108;
+
+/// The most frames of a burst.
+pub const MAX_BURST: usize = 16;
+
+/// The bytes of output that the longest burst needs: a part of [`MAX_PAYLOAD`] for each frame.
+pub const MAX_BURST_OUTPUT: usize = MAX_BURST * MAX_PAYLOAD;
 
 /// The README's example.
 #[cfg(doctest)]

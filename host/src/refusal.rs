@@ -120,8 +120,14 @@ impl Error for Refusal {}
 /// The length in a C function's answer, or its refusal.
 pub(crate) fn length(answer: u64) -> Result<usize, Refusal> {
     let low = answer.to_le_bytes();
-    match low[4] {
-        0 => Ok(u32::from_le_bytes([low[0], low[1], low[2], low[3]]) as usize),
-        number => Err(Refusal(number)),
+    accepted(low[4])?;
+    Ok(u32::from_le_bytes([low[0], low[1], low[2], low[3]]) as usize)
+}
+
+/// The refusal with a number that the codec gave; 0 is none.
+pub(crate) fn accepted(number: u8) -> Result<(), Refusal> {
+    match number {
+        0 => Ok(()),
+        _ => Err(Refusal(number)),
     }
 }

@@ -4,8 +4,8 @@ mod support;
 
 use std::fs;
 use store_reader::{
-    decrypt_ccm, encrypt_ccm, hex, open, read, seal, split_mic, write, Eui64, Key, NwkAuxHeader, NwkCommand, NwkHeader,
-    Refusal, MAX_FRAME, MAX_PAYLOAD,
+    decrypt_ccm, encrypt_ccm, hex, open, open_burst, read, seal, split_mic, write, Eui64, Key, NwkAuxHeader,
+    NwkCommand, NwkHeader, OpenedRecord, Refusal, MAX_BURST, MAX_FRAME, MAX_PAYLOAD,
 };
 use support::command::{root, run, KEY};
 use support::random::Random;
@@ -59,6 +59,45 @@ fn safe_operations_take_any_bytes() {
     }
     println!("{ROUNDS} inputs, {headers} read as frames, {commands} as commands");
     assert!(headers > ROUNDS / 20 && commands > ROUNDS / 2);
+}
+
+/// Lengths that cut the bytes into frames: any, or such that they add up.
+fn lengths(bytes: &[u8], random: &mut Random) -> Vec<u16> {
+    let count = random.below(MAX_BURST + 3);
+    if random.percent(20) {
+        return (0..count).map(|_| random.number() as u16).collect();
+    }
+    let mut cuts: Vec<usize> = (1..count).map(|_| random.below(bytes.len() + 1)).collect();
+    cuts.extend([0, bytes.len()]);
+    cuts.sort_unstable();
+    cuts.windows(2).map(|cut| (cut[1] - cut[0]) as u16).collect()
+}
+
+#[test]
+fn a_burst_takes_any_bytes_and_lengths() {
+    let mut random = Random::new(SEED + 2);
+    let (mut bursts, mut frames) = (0, 0);
+    for _ in 0..ROUNDS / 4 {
+        let (input, key) = (bytes(&mut random), Key::new(random.array()));
+        let lengths = lengths(&input, &mut random);
+        let mut answers = vec![OpenedRecord::new(); random.below(MAX_BURST + 3)];
+        let mut out = vec![0xA5; MAX_PAYLOAD * random.below(MAX_BURST + 3)];
+        match open_burst(&key, &input, &lengths, &mut answers, &mut out) {
+            Err(refusal) => assert_eq!(refusal, Refusal::BURST),
+            Ok(burst) => {
+                assert_eq!(burst.len(), lengths.len());
+                bursts += 1;
+                for answer in burst {
+                    let number = answer.expect_err("no MIC is right by chance").number();
+                    assert!((1..=19).contains(&number), "{number}");
+                    frames += 1;
+                }
+            }
+        }
+        assert!(out.iter().all(|byte| *byte == 0xA5));
+    }
+    println!("{bursts} bursts with {frames} frames");
+    assert!(bursts > ROUNDS / 20 && frames > ROUNDS / 4, "{bursts} bursts with {frames} frames");
 }
 
 /// Samples with bytes changed, put in, taken out and cut off: the command ends with a status of its own and its lines.

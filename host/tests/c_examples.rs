@@ -64,3 +64,15 @@ fn the_example_that_seals_and_opens() {
     assert!(printed.contains("opened, 12 bytes: store reader\n"), "{printed}");
     assert!(printed.ends_with("damaged: refusal 19, length 0\n"), "{printed}");
 }
+
+/// By document 02 a refused frame stops no other: the damaged one has its own answer, 19, and the empty one 2.
+#[test]
+fn the_example_that_opens_a_burst() {
+    let expected = "4 frames in one call
+frame 0: 6 bytes from 0x1234, counter 1: 21.5 C
+frame 1: refused by 19: the MIC is not the one computed
+frame 2: refused by 2: a header has fewer than 8 bytes
+frame 3: 6 bytes from 0x1234, counter 3: 21.9 C
+";
+    assert_eq!(output("burst", &root().join("examples/burst.c")), expected);
+}

@@ -59,7 +59,8 @@ fn c_and_cpp_print_the_same() {
 
 /// The answers to empty slices, by document 01: a header of no bytes 2, an auxiliary header of none 9, no room 18. A record of
 /// no bytes is refused by 13, and one without an auxiliary header by 14. A header of zeros has 8 bytes, no bytes are an unparsed
-/// command, and nothing sealed opens again to nothing.
+/// command, and nothing sealed opens again to nothing. By document 02 a burst of no frames is accepted with 0, and bytes
+/// without lengths and lengths without answers are refused by 20; a frame of no bytes is a frame, whose own answer is 2.
 fn check_empty<'a>(lines: &mut impl Iterator<Item = &'a str>) {
     for expected in [
         "read_header 2 0",
@@ -73,6 +74,11 @@ fn check_empty<'a>(lines: &mut impl Iterator<Item = &'a str>) {
         "read_command 0 535",
         "write_command 0 0",
         "open 2 0",
+        "open_burst 0 0",
+        "open_burst_no_lengths 20 0",
+        "open_burst_no_answers 20 0",
+        "open_burst_empty_frame 0 1",
+        "its record 2 0",
         "encrypt_ccm 0 0",
         "decrypt_ccm 0 0",
         "split_mic 16 0",
@@ -86,7 +92,8 @@ fn check_texts<'a>(mut lines: impl Iterator<Item = &'a str>) {
     for refusal in Refusal::all() {
         assert_eq!(lines.next(), Some(format!("{} {}", refusal.number(), refusal.condition()).as_str()));
     }
-    assert_eq!(lines.next(), Some("20 a number that the list does not have"));
+    assert_eq!(lines.next(), Some("21 a number that the list does not have"));
+    assert_eq!(lines.next(), None);
 }
 
 /// The enum has the names and numbers of the Rust constants, and no others.

@@ -1,5 +1,5 @@
-//! Every value of every byte that decides something: frame control, auxiliary control, and the bytes of the records. The
-//! values do not come from the model's tables, so a code missing there would show.
+//! Every value of every byte that decides something: frame control, auxiliary control, the bytes of the records, and the
+//! lengths of a burst. The values do not come from the model's tables, so a code missing there would show.
 #[allow(dead_code)]
 mod support;
 
@@ -8,7 +8,7 @@ use support::compare::compare;
 use support::generate::{commands, headers};
 use support::model::auxiliary::record as auxiliary_record;
 use support::model::header::{Header, SourceRoute};
-use support::operations::{Operation, AUXILIARY_RECORD, COMMAND_RECORD, HEADER_RECORD};
+use support::operations::{Operation, AUXILIARY_RECORD, COMMAND_RECORD, HEADER_RECORD, PART};
 use support::random::Random;
 
 const SEED: u64 = 0xE4A0_571E;
@@ -165,6 +165,36 @@ fn every_byte_of_a_command() {
             let cut = asked(Operation::ReadCommand, bytes[..n].to_vec(), COMMAND_RECORD);
             // cut short it is unparsed, whole it is typed
             assert_eq!(cut.outputs[0][0], if n < bytes.len() { 0 } else { identifier });
+        }
+    }
+}
+
+fn burst(frames: &[u8], lengths: &[u16], answers: usize, room: usize) -> Outcome {
+    compare(&Call::burst([0; 16], frames, lengths, answers, room), FILL, 0x5A)
+}
+
+/// Of all the numbers a length can be, only the one that makes the sum is taken.
+#[test]
+fn every_length_of_a_burst() {
+    let frames = [0x08; 20];
+    for (front, right) in [(&[][..], 20), (&[7], 13), (&[20], 0), (&[9, 5], 6)] {
+        let fits = |length: &u16| burst(&frames, &[front, &[*length]].concat(), 3, 3 * PART).refusal() == 0;
+        assert_eq!((0..=u16::MAX).filter(fits).collect::<Vec<_>>(), [right]);
+    }
+}
+
+/// Every number of frames, of answers and of parts up to 18; with the parts no byte more, one, and one less than a part.
+#[test]
+fn every_size_of_a_burst() {
+    let rooms: Vec<usize> = (0..=18).flat_map(|parts| [0, 1, PART - 1].map(|more| PART * parts + more)).collect();
+    for (count, answers) in (0..=18).flat_map(|count| (0..=18).map(move |answers| (count, answers))) {
+        for &room in &rooms {
+            let opened = burst(&[], &vec![0; count], answers, room);
+            let fits = count <= 16 && answers >= count && room >= 108 * count;
+            let expected = if fits { count as u64 } else { 20 << 32 };
+            assert_eq!(opened.answer, expected, "{count} lengths, {answers} answers, {room} bytes");
+            // Frames of no bytes: the own answer of each is 2.
+            assert!(opened.frames().all(|(record, _)| record[0] == 2));
         }
     }
 }

@@ -1,7 +1,9 @@
-//! Generated calls over all sixteen operations, each between guard bytes and compared with a model of document 01.
+//! Generated calls over all seventeen operations, each between guard bytes and compared with a model of documents 01 and
+//! 02.
 #[allow(dead_code)]
 mod support;
 
+use support::burst_tally::BurstTally;
 use support::calls::Call;
 use support::compare::compare;
 use support::generate;
@@ -18,17 +20,21 @@ const AT_LEAST: usize = 10;
 #[test]
 fn every_operation_answers_as_the_model() {
     let mut random = Random::new(SEED);
-    let mut tally = Tally::new();
+    let (mut tally, mut bursts) = (Tally::new(), BurstTally::default());
     for number in 0..CALLS_EACH {
         for operation in OPERATIONS {
             let generated = generate::call(operation, number, &mut random);
             let outcome = compare(&generated.call, random.byte(), random.byte());
             tally.count(&generated.call, &outcome, &generated.exact);
+            if operation == Operation::OpenBurst {
+                bursts.count(&generated.call, &outcome);
+            }
         }
     }
-    println!("{} calls\n{}", tally.all_calls(), tally.report());
+    println!("{} calls\n{}\n{}", tally.all_calls(), tally.report(), bursts.report());
     assert!(tally.all_calls() >= CALLS_IN_ALL);
     OPERATIONS.into_iter().for_each(|operation| check_tally(&tally, operation));
+    bursts.check(AT_LEAST);
 }
 
 /// Acceptance, each refusal, each kind of content, each length of the bytes read and each room around the exact one were met.

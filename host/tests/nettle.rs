@@ -1,16 +1,16 @@
-//! AES, CCM and sealed frames compared with the model's, and with the library nettle where it is installed.
+//! AES, CCM, sealed frames and bursts compared with the model's, and with the library nettle where it is installed.
 #[allow(dead_code)]
 mod support;
 
 use std::io::Write;
 use std::sync::Once;
-use support::calls::{check_boundary, perform, Call, Outcome};
+use support::calls::{check_boundary, list_of, perform, Call, Outcome};
 use support::generate::headers::{auxiliary, header};
 use support::generate::sealed::ccm_inputs;
 use support::model::auxiliary::record as auxiliary_record;
 use support::model::{aes, ccm, frame, MAX_CCM, MAX_FRAME};
 use support::nettle::Nettle;
-use support::operations::{Operation, MIC};
+use support::operations::{Operation, MAX_BURST, MIC, OPENED_RECORD, PART};
 use support::random::Random;
 
 const SEED: u64 = 0x0E77_1E00;
@@ -133,4 +133,64 @@ fn sealed_frames_carry_the_ciphertext_of_nettle() {
     }
     println!("{compared} sealed frames compared");
     assert!(compared >= ROUNDS / 2);
+}
+
+/// A frame as nettle seals it, or the model where nettle is missing, and its payload.
+fn sealed_outside(nettle: Option<&Nettle>, key: &[u8; 16], random: &mut Random) -> (Vec<u8>, Vec<u8>) {
+    loop {
+        let (header, auxiliary) = (header(100, random), auxiliary(random));
+        let n = random.below(60);
+        let payload = random.bytes(n);
+        let Some(ieee) = frame::nonce_ieee(&header, &auxiliary) else {
+            continue;
+        };
+        let mut bytes = frame::seal(key, &header, &auxiliary, &ieee, &payload);
+        if bytes.len() > MAX_FRAME {
+            continue;
+        }
+        if let Some(nettle) = nettle {
+            let (nonce, auth) = (frame::nonce(&auxiliary, &ieee), frame::authenticated(&header, &auxiliary));
+            bytes.truncate(auth.len());
+            bytes.extend(nettle.ccm_encrypt(key, &nonce, &auth, &payload));
+        }
+        return (bytes, payload);
+    }
+}
+
+/// Bursts of frames that were sealed outside, some with a bit of ciphertext or MIC flipped: the others give their payloads.
+#[test]
+fn bursts_sealed_by_nettle_are_opened() {
+    let nettle = nettle();
+    let mut random = Random::new(SEED + 3);
+    let (mut good, mut refused) = (0, 0);
+    for round in 0..ROUNDS / 10 {
+        let (key, count) = (random.array(), round % (MAX_BURST + 1));
+        let (mut frames, mut lengths, mut expected) = (Vec::new(), Vec::new(), Vec::new());
+        for _ in 0..count {
+            let (mut bytes, payload) = sealed_outside(nettle.as_ref(), &key, &mut random);
+            let flipped = random.percent(25);
+            if flipped {
+                let last = bytes.len() - 1 - random.below(payload.len() + MIC);
+                bytes[last] ^= 1 << random.below(8);
+            }
+            lengths.push(bytes.len() as u16);
+            frames.extend(bytes);
+            expected.push((!flipped).then_some(payload));
+        }
+        let inputs = vec![frames, list_of(&lengths)];
+        let opened = made(Operation::OpenBurst, key, inputs, vec![OPENED_RECORD * count, PART * count]);
+        assert_eq!(opened.answer, count as u64);
+        for ((record, part), payload) in opened.frames().zip(expected) {
+            let Some(payload) = payload else {
+                assert_eq!((record[0], part), (19, &[FILL; PART][..]));
+                refused += 1;
+                continue;
+            };
+            assert_eq!((record[0], u16::from_le_bytes([record[2], record[3]])), (0, payload.len() as u16));
+            assert_eq!(part[..payload.len()], payload);
+            good += 1;
+        }
+    }
+    println!("{good} frames of bursts opened, {refused} refused");
+    assert!(good >= ROUNDS / 4 && refused >= ROUNDS / 10, "{good} opened, {refused} refused");
 }

@@ -2,8 +2,9 @@
 use std::alloc::{GlobalAlloc, Layout, System};
 use std::cell::Cell;
 use store_reader::{
-    decrypt_ccm, encrypt_block, encrypt_ccm, hex, open, read, seal, split_mic, timeout_seconds, write, Eui64, Key, Nwk,
-    NwkAuxHeader, NwkCommand, NwkFrameType, NwkHeader, NwkSourceRoute, Refusal, MAX_FRAME, MAX_PAYLOAD,
+    decrypt_ccm, encrypt_block, encrypt_ccm, hex, open, open_burst, read, seal, split_mic, timeout_seconds, write,
+    Eui64, Key, Nwk, NwkAuxHeader, NwkCommand, NwkFrameType, NwkHeader, NwkSourceRoute, OpenedRecord, Refusal,
+    MAX_BURST, MAX_BURST_OUTPUT, MAX_FRAME, MAX_PAYLOAD,
 };
 
 struct Counting;
@@ -49,6 +50,7 @@ fn everything() -> Result<(), Refusal> {
     opened.header.frame_control.frame_type.payload()?;
     NwkCommand::read(opened.payload)?;
     read(&frame[..n])?;
+    burst(&key, &frame[..n])?;
     header.frame_control.security = false;
     let n = write(&header, &record[..length], &mut frame)?;
     NwkHeader::read(&frame[..n])?.0.write(&mut frame)?;
@@ -60,6 +62,21 @@ fn everything() -> Result<(), Refusal> {
     timeout_seconds(14)?;
     hex("08 00", &mut out).map_err(|_| Refusal::INTERNAL)?;
     assert_eq!(open(&key, &[0; 3], &mut out).map(|_| ()), Err(Refusal::SHORT_HEADER));
+    Ok(())
+}
+
+/// A frame as often as a burst has places.
+fn burst(key: &Key, frame: &[u8]) -> Result<(), Refusal> {
+    let mut frames = [0; MAX_BURST * MAX_FRAME];
+    let end = MAX_BURST * frame.len();
+    frames[..end].chunks_mut(frame.len()).for_each(|place| place.copy_from_slice(frame));
+    let lengths = [frame.len() as u16; MAX_BURST];
+    let (mut answers, mut out) = ([OpenedRecord::new(); MAX_BURST], [0; MAX_BURST_OUTPUT]);
+    let opened = open_burst(key, &frames[..end], &lengths, &mut answers, &mut out)?;
+    assert_eq!(opened.len(), MAX_BURST);
+    for answer in opened {
+        NwkCommand::read(answer?.payload)?;
+    }
     Ok(())
 }
 

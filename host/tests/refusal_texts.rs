@@ -6,7 +6,7 @@ use std::fs;
 use store_reader::Refusal;
 use support::command::{root, run};
 
-/// The constants of the code, with document 01's words above each.
+/// The constants of the code, with the documents' words above each.
 const CODE: &str = "crates/octets/src/refusals.rt";
 
 /// Name, number and text of each refusal.
@@ -80,10 +80,11 @@ fn names_are_found_by_number_and_match_in_patterns() {
         assert_eq!(Some(refusal.number()), numbers.next());
         assert_eq!(Refusal::from_number(refusal.number()), Some(refusal));
     }
-    assert_eq!((Refusal::from_number(0), Refusal::from_number(20), Refusal::from_number(255)), (None, None, None));
+    assert_eq!((Refusal::from_number(0), Refusal::from_number(21), Refusal::from_number(255)), (None, None, None));
     const NUMBER: u8 = Refusal::NO_AUXILIARY.number();
     assert_eq!(NUMBER, 14);
     assert!(matches!(Refusal::from_number(19), Some(Refusal::WRONG_MIC)));
+    assert!(matches!(Refusal::from_number(20), Some(Refusal::BURST)));
     assert_eq!(format!("{:?}", Refusal::WRONG_MIC), "WRONG_MIC(19)");
 }
 

@@ -4,10 +4,10 @@
 mod support;
 
 use store_reader::{
-    decrypt_ccm, encrypt_block, encrypt_ccm, open, read, seal, split_mic, timeout_seconds, write, Key, NwkAuxHeader,
-    NwkCommand, NwkFrameType, NwkHeader, NwkPayload, Refusal,
+    decrypt_ccm, encrypt_block, encrypt_ccm, open, open_burst, read, seal, split_mic, timeout_seconds, write, Burst,
+    Key, NwkAuxHeader, NwkCommand, NwkFrameType, NwkHeader, NwkPayload, OpenedRecord, Refusal,
 };
-use support::calls::{perform, Call, Outcome};
+use support::calls::{lengths_of, perform, Call, Outcome};
 use support::generate;
 use support::model::{MAX_FRAME, MAX_PAYLOAD};
 use support::operations::{
@@ -145,6 +145,59 @@ fn frames_opened_and_sealed() {
         accepted
     });
     assert!(count > ROUNDS / 5, "{count}");
+}
+
+/// A burst is refused as over C, and each of its frames is what `open` gives for it alone, the payload in its own part.
+#[test]
+fn bursts_opened() {
+    let count = accepted(Operation::OpenBurst, |call| {
+        let outcome = raw(Operation::OpenBurst, call.key, &[&call.inputs[0], &call.inputs[1]], &call.rooms);
+        let key = Key::new(call.key);
+        let lengths = lengths_of(&call.inputs[1]);
+        let numbers: Vec<u16> = lengths.iter().map(|&length| length as u16).collect();
+        let mut answers = vec![OpenedRecord::new(); call.rooms[0] / OPENED_RECORD];
+        let mut out = vec![FILL; call.rooms[1]];
+        let parts = out.as_ptr();
+        let safe = open_burst(&key, &call.inputs[0], &numbers, &mut answers, &mut out);
+        let accepted = agree(&safe, &outcome, call);
+        if let Ok(frames) = safe {
+            assert_eq!(frames.len(), outcome.length());
+            same_as_alone(&key, frames, &call.inputs[0], &lengths, parts);
+        }
+        assert_eq!(out, outcome.outputs[1], "{}", call.line());
+        accepted
+    });
+    assert!(count > ROUNDS / 4, "{count}");
+}
+
+/// Each frame of a burst beside `open` of its bytes alone; its payload starts at its part.
+fn same_as_alone(key: &Key, mut frames: Burst<'_>, mut rest: &[u8], lengths: &[usize], parts: *const u8) {
+    for (k, &length) in lengths.iter().enumerate() {
+        let (bytes, behind) = rest.split_at(length);
+        rest = behind;
+        let mut part = [FILL; MAX_PAYLOAD];
+        let (from_burst, alone) = (frames.next().expect("a frame for each length"), open(key, bytes, &mut part));
+        assert_eq!(from_burst, alone, "frame {k}: {bytes:02X?}");
+        if let Ok(frame) = from_burst {
+            assert_eq!(frame.payload.as_ptr(), parts.wrapping_add(MAX_PAYLOAD * k), "frame {k}");
+        }
+        assert_eq!(frames.len(), lengths.len() - 1 - k);
+    }
+    assert_eq!((frames.next(), frames.next()), (None, None));
+}
+
+/// What is still to come can be counted, copied and printed.
+#[test]
+fn a_burst_is_an_iterator_that_can_be_copied() {
+    let key = Key::new([7; 16]);
+    let (mut answers, mut out) = ([OpenedRecord::default(); 3], [FILL; 3 * MAX_PAYLOAD]);
+    let mut frames = open_burst(&key, &[0x0A; 9], &[0, 9], &mut answers, &mut out).expect("two frames");
+    assert_eq!(format!("{frames:?}"), "[Err(SHORT_HEADER(2)), Err(FRAME_TYPE(3))]");
+    assert_eq!(frames.next(), Some(Err(Refusal::SHORT_HEADER)));
+    let copy = frames.clone();
+    assert_eq!(frames.next(), Some(Err(Refusal::FRAME_TYPE)));
+    assert_eq!((frames.len(), copy.len(), copy.count()), (0, 1, 1));
+    assert_eq!(format!("{frames:?} {:?}", OpenedRecord::new()), "[] OpenedRecord { .. }");
 }
 
 #[test]

@@ -283,9 +283,14 @@ pub fn table(rows: &[Row], done: &str) -> String {
     text
 }
 
+/// The refusals that have a column: all but that of a burst, since the command opens each frame alone.
+fn columns() -> impl Iterator<Item = Refusal> {
+    Refusal::all().filter(|refusal| *refusal != Refusal::BURST)
+}
+
 /// The table as comma-separated values, a column for each refusal.
 pub fn csv_table(rows: &[Row], done: &str) -> String {
-    let numbers: Vec<String> = Refusal::all().map(|refusal| format!("refused_by_{}", refusal.number())).collect();
+    let numbers: Vec<String> = columns().map(|refusal| format!("refused_by_{}", refusal.number())).collect();
     let mut heads = vec!["ieee", "short", done, "refused"];
     heads.extend(numbers.iter().map(String::as_str));
     heads.extend(["first_time", "last_time", "first_counter", "last_counter", "counters_never_seen"]);
@@ -297,7 +302,7 @@ pub fn csv_table(rows: &[Row], done: &str) -> String {
             row.accepted.to_string(),
             row.refusals().to_string(),
         ];
-        cells.extend(Refusal::all().map(|refusal| row.refused.get(&refusal).copied().unwrap_or(0).to_string()));
+        cells.extend(columns().map(|refusal| row.refused.get(&refusal).copied().unwrap_or(0).to_string()));
         cells.extend([shown(row.first), shown(row.last)]);
         cells.extend(match row.counters {
             Some((first, last, never)) => [first.to_string(), last.to_string(), never.to_string()],

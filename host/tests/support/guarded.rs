@@ -13,8 +13,14 @@ pub struct Guarded {
 impl Guarded {
     /// Puts `content` between guard bytes of the value `guard`, which also chooses the alignment.
     pub fn new(content: &[u8], guard: u8) -> Self {
-        let start = GUARD + usize::from(guard % 8);
-        let mut now = vec![guard; start + content.len() + GUARD];
+        Self::aligned(content, 1, guard)
+    }
+
+    /// The same at an address that is a multiple of `width`.
+    pub fn aligned(content: &[u8], width: usize, guard: u8) -> Self {
+        let least = GUARD + usize::from(guard % 8);
+        let mut now = vec![guard; least + width + content.len() + GUARD];
+        let start = least + now[least..].as_ptr().align_offset(width);
         now[start..start + content.len()].copy_from_slice(content);
         Self { before: now.clone(), now, start, len: content.len() }
     }

@@ -1,4 +1,6 @@
-//! What the tests share: calls through the C boundary between guard bytes, a model of document 01, and generated calls.
+//! What the tests share: calls through the C boundary between guard bytes, a model of documents 01 and 02, and generated
+//! calls.
+pub mod burst_tally;
 pub mod calls;
 pub mod command;
 pub mod compare;

@@ -1,4 +1,4 @@
-//! The sixteen operations of `include/nwk.h`: their buffers, and the refusals each of them can answer.
+//! The seventeen operations of `include/nwk.h`: their buffers, and the refusals each of them can answer.
 
 pub const HEADER_RECORD: usize = 147;
 pub const AUXILIARY_RECORD: usize = 19;
@@ -6,6 +6,9 @@ pub const OPENED_RECORD: usize = 182;
 /// Where an opened record has the header record; the auxiliary record is behind it.
 pub const OPENED_HEADER: usize = 16;
 pub const COMMAND_RECORD: usize = 535;
+/// The most frames of a burst, and each frame's part of the output.
+pub const MAX_BURST: usize = 16;
+pub const PART: usize = 108;
 pub const MIC: usize = 4;
 pub const BLOCK: usize = 16;
 
@@ -19,6 +22,7 @@ pub enum Operation {
     WriteFrame,
     Seal,
     Open,
+    OpenBurst,
     PayloadKind,
     ReadCommand,
     WriteCommand,
@@ -38,6 +42,20 @@ pub enum Extent {
     Fixed(usize),
     /// All of an array, which goes over without a length: a MIC, a block.
     Array(usize),
+    /// A list of records of this size, as many as the length answered. Its room is a whole number of them.
+    Records(usize),
+    /// As many parts of this size as the length answered. Of each part the front, as its record says.
+    Parts(usize),
+}
+
+impl Extent {
+    /// What the room is counted in: the records of a list, else bytes.
+    pub fn unit(self) -> usize {
+        match self {
+            Records(size) => size,
+            _ => 1,
+        }
+    }
 }
 
 /// An input: its name, and whether its length is free, so that every length from 0 to 130 is to be tried.
@@ -51,10 +69,10 @@ pub struct Shape {
     pub refusals: &'static [u8],
 }
 
-use Extent::{Array, Fixed, Length};
+use Extent::{Array, Fixed, Length, Parts, Records};
 use Operation::*;
 
-pub const OPERATIONS: [Operation; 16] = [
+pub const OPERATIONS: [Operation; 17] = [
     ReadHeader,
     WriteHeader,
     ReadAuxiliary,
@@ -63,6 +81,7 @@ pub const OPERATIONS: [Operation; 16] = [
     WriteFrame,
     Seal,
     Open,
+    OpenBurst,
     PayloadKind,
     ReadCommand,
     WriteCommand,
@@ -81,6 +100,14 @@ impl Operation {
     pub fn shape(self) -> &'static Shape {
         &SHAPES[self as usize]
     }
+
+    /// How many bytes a number of an input has: the lengths of a burst are numbers of 16 bits.
+    pub fn width(self, input: usize) -> usize {
+        match (self, input) {
+            (OpenBurst, 1) => 2,
+            _ => 1,
+        }
+    }
 }
 
 const fn shape(
@@ -94,7 +121,7 @@ const fn shape(
 }
 
 /// In the order of `OPERATIONS`. The refusals are those of the comments in `include/nwk.h`.
-static SHAPES: [Shape; 16] = [
+static SHAPES: [Shape; 17] = [
     shape("nwk_read_header", false, &[("bytes", true)], &[Fixed(HEADER_RECORD)], &[1, 2, 3, 4, 5, 6, 7, 8, 18]),
     shape("nwk_write_header", false, &[("header", false)], &[Length], &[13, 17, 18]),
     shape("nwk_read_auxiliary", false, &[("bytes", true)], &[Fixed(AUXILIARY_RECORD)], &[1, 9, 10, 11, 18]),
@@ -120,6 +147,13 @@ static SHAPES: [Shape; 16] = [
         &[("bytes", true)],
         &[Fixed(OPENED_RECORD), Length],
         &[1, 2, 3, 4, 5, 6, 7, 8, 9, 10, 11, 12, 14, 15, 16, 18, 19],
+    ),
+    shape(
+        "nwk_open_burst",
+        true,
+        &[("frames", false), ("lengths", false)],
+        &[Records(OPENED_RECORD), Parts(PART)],
+        &[20],
     ),
     shape("nwk_payload_kind", false, &[("frame_type", false)], &[], &[13]),
     shape("nwk_read_command", false, &[("bytes", true)], &[Fixed(COMMAND_RECORD)], &[12, 18]),

@@ -1,11 +1,13 @@
 //! What was called, so that a test cannot silently stop testing: calls by operation and refusal, kinds of content, input
-//! lengths, rooms.
+//! lengths, rooms. `burst_tally` has what is counted of bursts beside.
 use super::calls::{Call, Outcome};
-use super::operations::{Operation, HEADER_RECORD, OPENED_HEADER, OPERATIONS};
+use super::operations::{Operation, HEADER_RECORD, MAX_BURST, OPENED_HEADER, OPERATIONS};
 use std::collections::BTreeMap;
 
 /// The longest input whose length is counted.
 pub const LONGEST: usize = 130;
+/// One more than the highest refusal number.
+pub const NUMBERS: usize = 21;
 /// Rooms are counted from 3 below what is exactly needed to 3 above.
 pub const AROUND: isize = 3;
 const ROOMS: usize = 2 * AROUND as usize + 1;
@@ -13,12 +15,12 @@ const ROOMS: usize = 2 * AROUND as usize + 1;
 #[derive(Clone, Default)]
 struct Row {
     /// By refusal number; 0: accepted.
-    answers: [usize; 20],
+    answers: [usize; NUMBERS],
     /// How often each kind of content was accepted.
     kinds: BTreeMap<usize, usize>,
     /// For each input, how often each length was given.
     lengths: Vec<Vec<usize>>,
-    /// For each output, how often each room around the exact one was lent, and how often none.
+    /// For each output, how often each room around the exact one was lent, and how often none. A list's is in records.
     rooms: Vec<[usize; ROOMS]>,
     no_room: Vec<usize>,
 }
@@ -51,7 +53,8 @@ impl Tally {
             }
         }
         for (i, (&room, &needed)) in call.rooms.iter().zip(exact).enumerate() {
-            let place = room as isize - needed as isize + AROUND;
+            let unit = call.operation.shape().outputs[i].unit();
+            let place = (room / unit) as isize - (needed / unit) as isize + AROUND;
             if let Some(count) = usize::try_from(place).ok().and_then(|place| row.rooms[i].get_mut(place)) {
                 *count += 1;
             }
@@ -92,7 +95,7 @@ impl Tally {
     /// One line for each operation: calls, accepted, and each refusal with its count.
     pub fn report(&self) -> String {
         let line = |operation: Operation| {
-            let refusals: Vec<String> = (1..=19)
+            let refusals: Vec<String> = (1..NUMBERS as u8)
                 .filter(|&number| self.answers(operation, number) > 0)
                 .map(|number| format!("{number}: {}", self.answers(operation, number)))
                 .collect();
@@ -113,7 +116,7 @@ fn auxiliary_kind(record: &[u8]) -> usize {
     usize::from(record[0]) + usize::from(record[0] == 1 && record[9] == 1)
 }
 
-/// The kind of content of an accepted call: the fields present, the command's identifier, or the code.
+/// The kind of content of an accepted call: the fields present, the frames' number, the command's identifier, or the code.
 fn kind(call: &Call, outcome: &Outcome) -> usize {
     use Operation::*;
     let (inputs, outputs) = (&call.inputs, &outcome.outputs);
@@ -127,6 +130,7 @@ fn kind(call: &Call, outcome: &Outcome) -> usize {
             let (header, auxiliary) = outputs[0][OPENED_HEADER..].split_at(HEADER_RECORD);
             3 * header_kind(header) + auxiliary_kind(auxiliary)
         }
+        OpenBurst => outcome.length(),
         Seal => 3 * header_kind(&inputs[0]) + auxiliary_kind(&inputs[1]),
         ReadCommand => usize::from(outputs[0][0]),
         WriteCommand => usize::from(inputs[0][0]),
@@ -145,6 +149,7 @@ pub fn all_kinds(operation: Operation) -> usize {
         ReadAuxiliary | WriteAuxiliary => 2,
         ReadFrame => 48,
         Seal | Open => 24,
+        OpenBurst => MAX_BURST + 1,
         PayloadKind => 3,
         TimeoutSeconds => 15,
         EncryptCcm | DecryptCcm => 4,

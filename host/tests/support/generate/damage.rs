@@ -1,5 +1,5 @@
 //! Damage to a call's inputs: bits flipped, bytes cut, records of wrong length or with bytes out of range.
-use super::LONG;
+use super::{bursts, LONG};
 use crate::support::calls::Call;
 use crate::support::operations::Operation;
 use crate::support::random::Random;
@@ -33,16 +33,18 @@ pub fn call(call: &mut Call, random: &mut Random) {
                 flip(&mut call.inputs[at], random);
             }
         }
+        OpenBurst => bursts::misfit(call, random),
         PayloadKind | TimeoutSeconds | EncryptCcm | SplitMic | EncryptBlock => {}
     }
 }
 
-/// An input that is a slice, and not a number or an array, which have no length.
+/// An input that is a slice of bytes, and not a number or an array, which have no length, or a list of numbers.
 fn slice(operation: Operation, random: &mut Random) -> Option<usize> {
     use Operation::*;
     match operation {
         PayloadKind | TimeoutSeconds | EncryptBlock => None,
         EncryptCcm | DecryptCcm => Some(random.between(1, 2)),
+        OpenBurst => Some(0),
         other => Some(random.below(other.shape().inputs.len())),
     }
 }
@@ -54,7 +56,7 @@ fn prolong(bytes: &mut Vec<u8>, random: &mut Random) {
 }
 
 /// Bytes read from the air: mostly left alone.
-fn bytes(bytes: &mut Vec<u8>, random: &mut Random) {
+pub fn bytes(bytes: &mut Vec<u8>, random: &mut Random) {
     match random.below(20) {
         0..=3 => (0..random.between(1, 3)).for_each(|_| flip(bytes, random)),
         4 => {

@@ -1,4 +1,5 @@
 //! Generated calls: mostly valid inputs, then damage, then outputs of a room around the one that is needed.
+pub mod bursts;
 pub mod commands;
 pub mod damage;
 pub mod headers;
@@ -48,6 +49,7 @@ fn undamaged(operation: Operation, wanted: Option<usize>, random: &mut Random) -
         Seal => {
             vec![headers::any_header_record(random), headers::any_auxiliary_record(random), payload(wanted, random)]
         }
+        OpenBurst => bursts::inputs(&key, random),
         PayloadKind => vec![code(5, random)],
         ReadCommand => vec![commands::bytes(wanted, random)],
         WriteCommand => vec![commands::record(random)],
@@ -70,8 +72,11 @@ fn payload(wanted: Option<usize>, random: &mut Random) -> Vec<u8> {
     random.bytes(n)
 }
 
-/// What each output needs, none where the call is refused however much is lent.
+/// What each output needs, none where the call is refused however much is lent. For a burst its lengths' number says it.
 fn needed(call: &Call) -> Option<Vec<usize>> {
+    if call.operation == Operation::OpenBurst {
+        return Some(bursts::needed(call));
+    }
     let rooms = vec![ROOMY; call.operation.shape().outputs.len()];
     let done = model::run(&Call { rooms, ..call.clone() }).ok()?;
     Some(done.written.iter().map(Vec::len).collect())
@@ -80,19 +85,19 @@ fn needed(call: &Call) -> Option<Vec<usize>> {
 fn fallback(operation: Operation) -> Vec<usize> {
     let size = |extent: &Extent| match *extent {
         Extent::Fixed(size) | Extent::Array(size) => size,
-        Extent::Length => ANY_ROOM,
+        Extent::Length | Extent::Records(_) | Extent::Parts(_) => ANY_ROOM,
     };
     operation.shape().outputs.iter().map(size).collect()
 }
 
-/// One slice takes any room around the exact one, the others mostly enough; an array has its size.
+/// One slice takes any room around the exact one, the others mostly enough; an array has its size, a list whole records.
 fn rooms(operation: Operation, exact: &[usize], random: &mut Random) -> Vec<usize> {
     let outputs = operation.shape().outputs;
     let slices = outputs.iter().filter(|extent| !matches!(extent, Extent::Array(_))).count();
     let narrow = random.below(slices.max(1));
     let lent = outputs.iter().zip(exact).enumerate().map(|(i, (extent, &needed))| match *extent {
         Extent::Array(size) => size,
-        _ => room(needed, i == narrow, random),
+        _ => extent.unit() * room(needed / extent.unit(), i == narrow, random),
     });
     lent.collect()
 }

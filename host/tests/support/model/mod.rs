@@ -1,8 +1,9 @@
-//! A model of document 01 in plain Rust: each operation's refusals in order, and the bytes it writes.
+//! A model of documents 01 and 02 in plain Rust: each operation's refusals in order, and the bytes it writes.
 //!
-//! Written from the document and from `include/nwk.h` for the records' layouts, independently of the codec.
+//! Written from the documents and from `include/nwk.h` for the records' layouts, independently of the codec.
 pub mod aes;
 pub mod auxiliary;
+pub mod burst;
 pub mod ccm;
 pub mod commands;
 pub mod frame;
@@ -15,10 +16,18 @@ pub const MAX_FRAME: usize = 118;
 pub const MAX_PAYLOAD: usize = 108;
 pub const MAX_CCM: usize = 127;
 
-/// An accepted call: the length answered, and the first bytes of each output.
+/// An accepted call: the length answered, and the first bytes of each output, where none is a byte that stays.
 pub struct Done {
     pub length: usize,
-    pub written: Vec<Vec<u8>>,
+    pub written: Vec<Vec<Option<u8>>>,
+}
+
+impl Done {
+    /// A call that writes all of these bytes to the front of its outputs.
+    fn new(length: usize, written: Vec<Vec<u8>>) -> Self {
+        let written = written.into_iter().map(|bytes| bytes.into_iter().map(Some).collect()).collect();
+        Self { length, written }
+    }
 }
 
 /// A refusal is its number alone.
@@ -45,6 +54,7 @@ pub fn run(call: &Call) -> Answer {
         Operation::WriteFrame => write_frame(input(0), input(1), rooms),
         Operation::Seal => seal(&call.key, input(0), input(1), input(2), rooms),
         Operation::Open => open(&call.key, input(0), rooms),
+        Operation::OpenBurst => burst::open(&call.key, input(0), input(1), rooms),
         Operation::PayloadKind => payload_kind(input(0)[0]),
         Operation::ReadCommand => read_command(input(0), rooms),
         Operation::WriteCommand => write_command(input(0), rooms),
@@ -63,7 +73,8 @@ pub fn outcome(call: &Call, fill: u8) -> Outcome {
         Err(refusal) => Outcome { answer: u64::from(refusal) << 32, outputs },
         Ok(done) => {
             for (output, written) in outputs.iter_mut().zip(&done.written) {
-                output[..written.len()].copy_from_slice(written);
+                let places = output[..written.len()].iter_mut().zip(written);
+                places.for_each(|(place, byte)| *place = byte.unwrap_or(*place));
             }
             Outcome { answer: done.length as u64, outputs }
         }
@@ -72,13 +83,13 @@ pub fn outcome(call: &Call, fill: u8) -> Outcome {
 
 /// An answer whose length is that of the one output.
 fn given(bytes: Vec<u8>) -> Answer {
-    Ok(Done { length: bytes.len(), written: vec![bytes] })
+    Ok(Done::new(bytes.len(), vec![bytes]))
 }
 
 fn read_header(bytes: &[u8], rooms: &[usize]) -> Answer {
     let (header, length) = header::read(bytes)?;
     refuse(&[(18, rooms[0] < HEADER_RECORD)])?;
-    Ok(Done { length, written: vec![header.record()] })
+    Ok(Done::new(length, vec![header.record()]))
 }
 
 fn write_header(record: &[u8], rooms: &[usize]) -> Answer {
@@ -91,7 +102,7 @@ fn read_auxiliary(bytes: &[u8], rooms: &[usize]) -> Answer {
     refuse(&[(1, bytes.len() > MAX_FRAME)])?;
     let (auxiliary, length) = auxiliary::read(bytes)?;
     refuse(&[(18, rooms[0] < AUXILIARY_RECORD)])?;
-    Ok(Done { length, written: vec![auxiliary::record(&Some(auxiliary))] })
+    Ok(Done::new(length, vec![auxiliary::record(&Some(auxiliary))]))
 }
 
 fn write_auxiliary(record: &[u8], rooms: &[usize]) -> Answer {
@@ -103,8 +114,7 @@ fn write_auxiliary(record: &[u8], rooms: &[usize]) -> Answer {
 fn read_frame(bytes: &[u8], rooms: &[usize]) -> Answer {
     let frame = frame::read(bytes)?;
     refuse(&[(18, rooms[0] < HEADER_RECORD || rooms[1] < AUXILIARY_RECORD)])?;
-    let written = vec![frame.header.record(), auxiliary::record(&frame.auxiliary)];
-    Ok(Done { length: frame.headers_length, written })
+    Ok(Done::new(frame.headers_length, vec![frame.header.record(), auxiliary::record(&frame.auxiliary)]))
 }
 
 fn write_frame(record: &[u8], payload: &[u8], rooms: &[usize]) -> Answer {
@@ -134,7 +144,7 @@ fn open(key: &[u8; 16], bytes: &[u8], rooms: &[usize]) -> Answer {
     let length = behind.len() - MIC;
     refuse(&[(18, rooms[0] < OPENED_RECORD || rooms[1] < length)])?;
     let payload = frame::open(key, &frame.header, auxiliary, &ieee, behind).ok_or(19)?;
-    Ok(Done { length, written: vec![opened_record(&frame, length), payload] })
+    Ok(Done::new(length, vec![opened_record(&frame, length), payload]))
 }
 
 /// Refusal and mark 0, the length, places that hold nothing yet, and the two records.
@@ -149,7 +159,7 @@ fn opened_record(frame: &frame::Frame, length: usize) -> Vec<u8> {
 /// "A plaintext is a command if the type is 1, else opaque"; the types are 0, 1 and 3.
 fn payload_kind(frame_type: u8) -> Answer {
     refuse(&[(13, ![0, 1, 3].contains(&frame_type))])?;
-    Ok(Done { length: usize::from(frame_type == 1), written: Vec::new() })
+    Ok(Done::new(usize::from(frame_type == 1), Vec::new()))
 }
 
 fn read_command(bytes: &[u8], rooms: &[usize]) -> Answer {
@@ -169,13 +179,13 @@ fn timeout_seconds(code: u8) -> Answer {
         1..=14 => 60 * 2usize.pow(u32::from(code)),
         _ => return Err(13),
     };
-    Ok(Done { length, written: Vec::new() })
+    Ok(Done::new(length, Vec::new()))
 }
 
 fn encrypt_ccm(key: &[u8; 16], nonce: &[u8], auth: &[u8], payload: &[u8], rooms: &[usize]) -> Answer {
     refuse(&[(1, auth.len() > MAX_CCM || payload.len() > MAX_CCM), (18, rooms[0] < payload.len())])?;
     let (ciphertext, mic) = ccm::encrypt(key, nonce, auth, payload);
-    Ok(Done { length: payload.len(), written: vec![ciphertext, mic.to_vec()] })
+    Ok(Done::new(payload.len(), vec![ciphertext, mic.to_vec()]))
 }
 
 fn decrypt_ccm(key: &[u8; 16], nonce: &[u8], auth: &[u8], ciphertext: &[u8], mic: &[u8], rooms: &[usize]) -> Answer {
@@ -187,7 +197,7 @@ fn decrypt_ccm(key: &[u8; 16], nonce: &[u8], auth: &[u8], ciphertext: &[u8], mic
 fn split_mic(bytes: &[u8]) -> Answer {
     refuse(&[(16, bytes.len() < MIC)])?;
     let (ciphertext, mic) = bytes.split_at(bytes.len() - MIC);
-    Ok(Done { length: ciphertext.len(), written: vec![mic.to_vec()] })
+    Ok(Done::new(ciphertext.len(), vec![mic.to_vec()]))
 }
 
 fn encrypt_block(key: &[u8; 16], block: &[u8]) -> Answer {

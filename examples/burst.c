@@ -1,0 +1,72 @@
+/* Opens a burst: frames that the radio handed over at once, one of them damaged and one empty.
+ *
+ *   rt staticlib nwk
+ *   cc -Wall -Wextra -Iinclude examples/burst.c target/staticlib/libnwk.a -o burst && ./burst
+ *
+ * Ends with status 0 if the burst was opened. */
+#include "nwk.h"
+
+#include <stdio.h>
+
+static const uint8_t key_bytes[16] = {
+    0xC0, 0xC1, 0xC2, 0xC3, 0xC4, 0xC5, 0xC6, 0xC7, 0xC8, 0xC9, 0xCA, 0xCB, 0xCC, 0xCD, 0xCE, 0xCF,
+};
+
+/* Seals a reading of 6 bytes from 0x1234 under a frame counter, and gives the frame's length, 0 where that is refused. */
+static uint16_t seal(struct nwk_key key, uint32_t counter, const char *reading, uint8_t *frame, size_t room) {
+  uint8_t header[NWK_HEADER_RECORD] = {0};
+  header[NWK_HEADER_VERSION] = 2;
+  header[NWK_HEADER_SECURITY_BIT] = 1;
+  nwk_put16(header + NWK_HEADER_SOURCE, 0x1234);
+  header[NWK_HEADER_RADIUS] = 30;
+  uint8_t auxiliary[NWK_AUXILIARY_RECORD] = {0};
+  auxiliary[NWK_AUXILIARY_PRESENT] = 1;
+  auxiliary[NWK_AUXILIARY_KEY_ID] = 1;
+  auxiliary[NWK_AUXILIARY_EXTENDED_NONCE_BIT] = 1;
+  nwk_put32(auxiliary + NWK_AUXILIARY_COUNTER, counter);
+  auxiliary[NWK_AUXILIARY_HAS_IEEE] = 1;
+  return (uint16_t)NWK_LENGTH(nwk_seal(key.first, key.second, header, sizeof header, auxiliary, sizeof auxiliary,
+                                       (const uint8_t *)reading, 6, frame, room));
+}
+
+/* One line for a frame: its record and its part of the output. */
+static void show(size_t k, const uint8_t *record, const uint8_t *part) {
+  if (record[NWK_OPENED_REFUSAL] != NWK_ACCEPTED) {
+    printf("frame %zu: refused by %u: %s\n", k, record[NWK_OPENED_REFUSAL], nwk_refusal_text(record[NWK_OPENED_REFUSAL]));
+    return;
+  }
+  const unsigned length = nwk_get16(record + NWK_OPENED_LENGTH);
+  printf("frame %zu: %u bytes from 0x%04X, counter %lu: %.*s\n", k, length,
+         nwk_get16(record + NWK_OPENED_HEADER + NWK_HEADER_SOURCE),
+         (unsigned long)nwk_get32(record + NWK_OPENED_AUXILIARY + NWK_AUXILIARY_COUNTER), (int)length, (const char *)part);
+}
+
+int main(void) {
+  const struct nwk_key key = nwk_key_of(key_bytes);
+  const char *const readings[] = {"21.5 C", "21.7 C", "", "21.9 C"};
+  uint8_t frames[4 * NWK_MAX_FRAME];
+  uint16_t lengths[4] = {0};
+  size_t end = 0;
+  uint32_t counter = 0;
+  for (size_t k = 0; k < 4; k++) {
+    if (readings[k][0] != '\0') {
+      lengths[k] = seal(key, ++counter, readings[k], frames + end, sizeof frames - end);
+    }
+    end += lengths[k];
+  }
+  /* The last bit of the second frame. */
+  frames[lengths[0] + lengths[1] - 1] ^= 1;
+
+  uint8_t answers[NWK_MAX_BURST][NWK_OPENED_RECORD];
+  uint8_t out[NWK_MAX_BURST * NWK_MAX_PAYLOAD];
+  uint64_t answer = nwk_open_burst(key.first, key.second, frames, end, lengths, 4, answers, NWK_MAX_BURST, out, sizeof out);
+  if (NWK_REFUSAL(answer) != NWK_ACCEPTED) {
+    printf("refused: %s\n", nwk_refusal_text(NWK_REFUSAL(answer)));
+    return 1;
+  }
+  printf("%u frames in one call\n", NWK_LENGTH(answer));
+  for (size_t k = 0; k < NWK_LENGTH(answer); k++) {
+    show(k, answers[k], out + k * NWK_MAX_PAYLOAD);
+  }
+  return 0;
+}

@@ -1,0 +1,106 @@
+//! Opening a burst: the frames that the radio hands over at once.
+use crate::refusal::length;
+use crate::{sys, Key, OpenedFrame, OpenedRecord, Refusal, MAX_PAYLOAD};
+use core::fmt;
+use core::iter::{FusedIterator, Zip};
+use core::slice::{ChunksExact, Iter};
+
+/// Opens a burst: up to [`MAX_BURST`](crate::MAX_BURST) frames under one key, handed over end to end with the length of
+/// each. What comes back gives every frame, in its order, as [`open`](crate::open) would have. A refused frame stops no
+/// other.
+///
+/// The payload of frame k (from 0) stands at the front of its own part of the output, the [`MAX_PAYLOAD`] bytes from
+/// `MAX_PAYLOAD * k`; the rest of the output stays as it was. `answers` has a place for each frame, and may have more.
+///
+/// ```
+/// use store_reader::{
+///     open, open_burst, seal, Eui64, Key, Nwk, NwkAuxHeader, NwkFrameType, NwkHeader, OpenedRecord, Refusal, MAX_BURST,
+///     MAX_BURST_OUTPUT, MAX_FRAME, MAX_PAYLOAD,
+/// };
+///
+/// let key: Key = "C0C1C2C3C4C5C6C7C8C9CACBCCCDCECF".parse().unwrap();
+/// let mut header = NwkHeader::new(NwkFrameType::Data, Nwk(0x1234), Nwk(0x0000));
+/// header.frame_control.security = true;
+/// let probe = Eui64([1, 2, 3, 4, 5, 6, 7, 8]);
+///
+/// // Two frames end to end, the last bit of the first one damaged.
+/// let mut frames = [0; 2 * MAX_FRAME];
+/// let n = seal(&key, &header, Some(&NwkAuxHeader::new(1, probe)), b"21.5 C", &mut frames)?;
+/// let m = seal(&key, &header, Some(&NwkAuxHeader::new(2, probe)), b"21.7 C", &mut frames[n..])?;
+/// frames[n - 1] ^= 1;
+///
+/// let mut answers = [OpenedRecord::new(); MAX_BURST];
+/// let mut out = [0; MAX_BURST_OUTPUT];
+/// let mut burst = open_burst(&key, &frames[..n + m], &[n as u16, m as u16], &mut answers, &mut out)?;
+/// assert_eq!(burst.len(), 2);
+/// assert_eq!(burst.next(), Some(Err(Refusal::WRONG_MIC)));
+///
+/// let second = burst.next().unwrap();
+/// assert_eq!(second, open(&key, &frames[n..n + m], &mut [0; MAX_PAYLOAD]));
+/// assert_eq!(second?.payload, b"21.7 C");
+/// # Ok::<(), Refusal>(())
+/// ```
+///
+/// # Errors
+///
+/// Refusal 20: there are more than 16 lengths, they do not add up to the bytes of `frames`, the output is shorter than 108
+/// times their number, or there are fewer answers than lengths. A frame's own refusal, 1 to 12, 14, 15, 16 or 19, is no
+/// error of the burst: it stands where that frame does.
+pub fn open_burst<'a>(
+    key: &Key,
+    frames: &[u8],
+    lengths: &[u16],
+    answers: &'a mut [OpenedRecord],
+    out: &'a mut [u8],
+) -> Result<Burst<'a>, Refusal> {
+    let (first, second) = key.halves();
+    // SAFETY: each pointer goes with the length of its slice, a place of the answers is its 182 bytes and nothing else, and
+    // no two slices overlap.
+    let answer = unsafe {
+        sys::nwk_open_burst(
+            first,
+            second,
+            frames.as_ptr(),
+            frames.len(),
+            lengths.as_ptr(),
+            lengths.len(),
+            answers.as_mut_ptr().cast(),
+            answers.len(),
+            out.as_mut_ptr(),
+            out.len(),
+        )
+    };
+    let answers = answers.get(..length(answer)?).ok_or(Refusal::INTERNAL)?;
+    Ok(Burst { frames: answers.iter().zip(out.chunks_exact(MAX_PAYLOAD)) })
+}
+
+/// The frames of a burst: an iterator over what [`open`](crate::open) would have given for each. [`open_burst`] makes it.
+#[derive(Clone)]
+pub struct Burst<'a> {
+    /// The answer of each frame, and its part of the output.
+    frames: Zip<Iter<'a, OpenedRecord>, ChunksExact<'a, u8>>,
+}
+
+impl<'a> Iterator for Burst<'a> {
+    type Item = Result<OpenedFrame<'a>, Refusal>;
+
+    fn next(&mut self) -> Option<Self::Item> {
+        let (record, part) = self.frames.next()?;
+        Some(OpenedFrame::from_record(record, part))
+    }
+
+    fn size_hint(&self) -> (usize, Option<usize>) {
+        self.frames.size_hint()
+    }
+}
+
+impl ExactSizeIterator for Burst<'_> {}
+
+impl FusedIterator for Burst<'_> {}
+
+/// The list of the frames that are still to come.
+impl fmt::Debug for Burst<'_> {
+    fn fmt(&self, f: &mut fmt::Formatter<'_>) -> fmt::Result {
+        f.debug_list().entries(self.clone()).finish()
+    }
+}
