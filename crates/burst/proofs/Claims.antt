@@ -19,7 +19,7 @@ use Rattle.frame.specs.Opening.{openFrame}
 use Rattle.frame.proofs.Opened.{open-behind, open-refused, open-empty, open-long}
 use Rattle.records.specs.OpenedRecord.{openedRecord}
 use Rattle.records.proofs.Zeros.{refused-record}
-use Rattle.burst.specs.Burst.{total, frameAt, partAt, alone, burstRefusal, joined, Run, burstGiven, burstNothing, openBurst}
+use Rattle.burst.specs.Burst.{total, frameAt, partAt, alone, burstRefusal, joined, outAfter, answersAfter, Run, burstGiven, burstNothing, openBurst}
 use Rattle.burst.specs.Claims as claims
 use Rattle.burst.proofs.Sums.{length-frame, frames-whole}
 use Rattle.burst.proofs.Parts.{length-joined, part-joined}
@@ -36,7 +36,7 @@ module _ (key fs ns o : List ℕ) (list : List (List ℕ)) (ok : claims.Accepted
   sized = alone-size key fs ns o (ready _ _ _ _ ok .fits)
 
   as-alone : (k : ℕ) → k < length ns → claims.AsAlone key fs ns o list k
-  unfolding burstGiven alone
+  unfolding outAfter answersAfter alone
   as-alone k h =
       record {
         answer = ap (λ (r : Run). getD (r .answers) k []) run
@@ -46,7 +46,7 @@ module _ (key fs ns o : List ℕ) (list : List (List ℕ)) (ok : claims.Accepted
       }
 
   rest-stays : claims.RestStays key fs ns o list
-  unfolding burstGiven
+  unfolding outAfter answersAfter
   rest-stays =
       record {
         answers = ap (λ (r : Run). drop (length ns) (r .answers)) run ∙ drop-at (tab _ (length ns)) _ (length ns) (length-tab _ (length ns));
@@ -132,11 +132,10 @@ twenty-changes-nothing key fs ns o list met =
 -- ---- the number of frames
 
 pub number-answered : claims.NumberAnswered
-unfolding burstGiven
 number-answered key fs ns o list ok = ap (λ (r : Run). r .answer) (run key fs ns o list ok)
 
 pub no-frames : claims.NoFrames
-unfolding total burstGiven joined tab
+unfolding total joined tab outAfter answersAfter
 no-frames key o list =
     run key [] [] o list
     (twenty-exactly [] 0 (length o) (length list) .accepted

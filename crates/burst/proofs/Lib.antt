@@ -2,4 +2,5 @@
 pub mod Sums
 pub mod Parts
 pub mod Accepted
+pub mod Turns
 pub mod Claims

@@ -1,13 +1,12 @@
--- The parts of the output: parts of one length one behind the other, and the loop that fills them.
+-- The parts of the output: parts of one length, one behind the other.
 -- Assumes nothing.
 use mathlib.Core.Path.{_≡_, refl, sym, ap, _∙_}
 use mathlib.Core.Logic.{⊎-elim}
 use mathlib.Core.List.{List, _++_, append-assoc}
 use Prim.Native.Nat.{ℕ, zero, suc, _+_, _*_, _≤_, _<_}
-use native.Mathlib.Numerals.{add-one}
 use native.Mathlib.Omega.{arith}
 use lib.ListN.{length, take, drop, length-append, length-drop}
-use lib.Seq.{length-take-le, take-at, drop-at, drop-drop}
+use lib.Seq.{length-take-le, take-at, drop-at}
 use Rattle.octets.proofs.Strings.{below-or-last}
 use Rattle.burst.specs.Burst.{partSize, partAt, joined}
 
@@ -39,23 +38,3 @@ module _ (f : ℕ → List ℕ) where
       ∙ ap (take 108) (drop-at (joined f n) (f n ++ rest) (108 * n) (length-joined n before))
       ∙ take-at (f n) rest 108 (s n (omega arith)) ∙ ap f (sym e))
       (below-or-last k n h))
-
-  -- the loop's turn: l is filled up to part k, of which n bytes are lent
-  module _ (k n : ℕ) (o l : List ℕ) (size : n ≡ 108) (s : Sized k) (filled : l ≡ joined f k ++ drop (108 * k) o) where
-    rest-is : drop (108 * k) l ≡ drop (108 * k) o
-    rest-is = ap (drop (108 * k)) filled ∙ drop-at (joined f k) (drop (108 * k) o) (108 * k) (length-joined k s)
-
-    -- the part that is lent is the output's own
-    pub part-is : take n (drop (108 * k) l) ≡ partAt o k
-    unfolding partAt
-    part-is = λ i. take (size i) (rest-is i)
-
-    -- m came back for it
-    pub part-more : (m : List ℕ) → m ≡ f k → take (108 * k) l ++ (m ++ drop n (drop (108 * k) l)) ≡ joined f (k + 1) ++ drop (108 * (k + 1)) o
-    unfolding joined
-    part-more m e =
-        let front : take (108 * k) l ≡ joined f k = ap (take (108 * k)) filled ∙ take-at (joined f k) (drop (108 * k) o) (108 * k) (length-joined k s) in
-        let place : 108 * k + 108 ≡ 108 * (k + 1) = omega arith in
-        let behind : drop n (drop (108 * k) l) ≡ drop (108 * (k + 1)) o = (λ i. drop (size i) (rest-is i)) ∙ drop-drop 108 (108 * k) o ∙ ap (λ (j : ℕ). drop j o) place in
-        (λ i. front i ++ (e i ++ behind i)) ∙ sym (append-assoc (joined f k) (f k) (drop (108 * (k + 1)) o))
-        ∙ ap (λ (j : ℕ). joined f j ++ drop (108 * (k + 1)) o) (sym (add-one k))

@@ -51,19 +51,27 @@ unfoldable pub joined : (ℕ → List ℕ) → ℕ → List ℕ
 joined f zero = []
 joined f (suc n) = joined f n ++ f n
 
--- what opening a burst leaves: its answer, and the whole of the output and of the list for the answers
+-- the output o and the list for the answers after the first n frames: each part as opening its frame alone leaves it, each place
+-- the record of its answer, and the rest as it was
+unfoldable pub outAfter : List ℕ → List ℕ → List ℕ → List ℕ → ℕ → List ℕ
+outAfter key fs ns o n = joined (λ (k : ℕ). alone key fs ns o k .out) n ++ drop (partSize * n) o
+
+unfoldable pub answersAfter : List ℕ → List ℕ → List ℕ → List ℕ → List (List ℕ) → ℕ → List (List ℕ)
+answersAfter key fs ns o list n = tab (λ (k : ℕ). openedRecord (alone key fs ns o k .answer)) n ++ drop n list
+
+-- what opening a burst leaves: its answer, and the whole of the output and of the list
 pub record Run : Type 0 where
   pub answer : BurstOpened
   pub out : List ℕ
   pub answers : List (List ℕ)
 
--- the number of frames; each part as opening its frame leaves it, each place the record of its answer, and the rest as it was
-unfoldable pub burstGiven : List ℕ → List ℕ → List ℕ → List ℕ → List (List ℕ) → Run
+-- the number of frames, and all of them opened
+abbrev pub burstGiven : List ℕ → List ℕ → List ℕ → List ℕ → List (List ℕ) → Run
 burstGiven key fs ns o list =
     record {
       answer = record { refusal = 0; frames = length ns };
-      out = joined (λ (k : ℕ). alone key fs ns o k .out) (length ns) ++ drop (partSize * length ns) o;
-      answers = tab (λ (k : ℕ). openedRecord (alone key fs ns o k .answer)) (length ns) ++ drop (length ns) list;
+      out = outAfter key fs ns o (length ns);
+      answers = answersAfter key fs ns o list (length ns);
     }
 
 -- refused by a number, nothing changed

@@ -10,7 +10,7 @@ ghost use lib.ListN.{length};
 ghost use Rattle.ccm.specs.Operations.{Under};
 ghost use Rattle.frame.specs.Opening.{openFrame};
 ghost use Rattle.records.specs.OpenedRecord.{openedRecord};
-ghost use Rattle.burst.specs.Burst.{total, burstRefusal, burstGiven, openBurst};
+ghost use Rattle.burst.specs.Burst.{total, burstRefusal, outAfter, answersAfter, openBurst};
 
 // The most frames of a burst.
 pub const MAX_FRAMES: usize = 16;
@@ -73,8 +73,8 @@ fn open_each(
     answers: &mut [[u8; 182]],
 )
     requires { ⌜ burstRefusal (now lengths) (length (now frames)) (length (now out)) (length (now answers)) ≡ 0 ⌝ }
-    ensures out { λ _. ⌜ Under (now (keys .entry)) (λ (key : List ℕ). now (out .exit) ≡ burstGiven key (now (frames .entry)) (now (lengths .entry)) (now (out .entry)) (now (answers .entry)) .out) ⌝ }
-    ensures answers { λ _. ⌜ Under (now (keys .entry)) (λ (key : List ℕ). now (answers .exit) ≡ burstGiven key (now (frames .entry)) (now (lengths .entry)) (now (out .entry)) (now (answers .entry)) .answers) ⌝ }
+    ensures out { λ _. ⌜ Under (now (keys .entry)) (λ (key : List ℕ). now (out .exit) ≡ outAfter key (now (frames .entry)) (now (lengths .entry)) (now (out .entry)) (length (now (lengths .entry)))) ⌝ }
+    ensures answers { λ _. ⌜ Under (now (keys .entry)) (λ (key : List ℕ). now (answers .exit) ≡ answersAfter key (now (frames .entry)) (now (lengths .entry)) (now (out .entry)) (now (answers .entry)) (length (now (lengths .entry)))) ⌝ }
 {
     let mut at = 0;
     let mut k = 0;

@@ -22,7 +22,7 @@ open-each-requires c κs =
     sym (passed .before .refusal .ensures) ∙ passed .if1 .left
 
 returns-2 : tie.Need-returns-2
-unfolding openBurst burstGiven
+unfolding openBurst
 returns-2 c =
     let each = c .before .before .before in
     let keys = each .before .before .before .before in

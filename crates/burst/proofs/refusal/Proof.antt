@@ -2,11 +2,12 @@
 use borrow.Author.Needs.{needs}
 use mathlib.Core.Path.{sym, ap, _∙_}
 use mathlib.Core.Bool.{not}
+use native.Mathlib.Omega.{arith}
 use borrow.Author.Tests.{lt-ltb, le-ltb, eq-eqb, ne-eqb}
 use Rattle.octets.proofs.Conditions.{stop, skip, empty}
 use Rattle.burst.proofs.refusal.Statement.{statement}
 use Rattle.burst.proofs.refusal.Tie as tie
-use Rattle.burst.specs.Burst.{burstRefusal}
+use Rattle.burst.specs.Burst.{total, burstRefusal}
 
 returns : tie.Need-returns
 unfolding burstRefusal
@@ -16,23 +17,26 @@ returns-2 : tie.Need-returns-2
 unfolding burstRefusal
 returns-2 c =
     let t = c .before in
+    let a = t .before .before .before .args in
     sym (skip 20 _ _ (le-ltb 16 _ (t .before .if1 .left))
-    ∙ stop 20 _ _ (ap not (ne-eqb _ _ (λ e. c .if2 .taken (t .total .ensures ∙ e)))))
+    ∙ stop 20 _ _ (ap not (ne-eqb (total (a .lengths .now)) (a .bytes) (λ e. omega (arith, c .if2 .taken, t .total .ensures)))))
 
 returns-3 : tie.Need-returns-3
 unfolding burstRefusal
 returns-3 c =
     let t = c .before .before in
+    let a = t .before .before .before .args in
     sym (skip 20 _ _ (le-ltb 16 _ (t .before .if1 .left))
-    ∙ skip 20 _ _ (ap not (eq-eqb _ _ (sym (t .total .ensures) ∙ c .before .if2 .left)))
+    ∙ skip 20 _ _ (ap not (eq-eqb (total (a .lengths .now)) (a .bytes) (omega (arith, c .before .if2 .left, t .total .ensures))))
     ∙ stop 20 _ _ (lt-ltb _ _ (c .if3 .taken)))
 
 returns-4 : tie.Need-returns-4
 unfolding burstRefusal
 returns-4 c =
     let t = c .before .before .before in
+    let a = t .before .before .before .args in
     sym (skip 20 _ _ (le-ltb 16 _ (t .before .if1 .left))
-    ∙ skip 20 _ _ (ap not (eq-eqb _ _ (sym (t .total .ensures) ∙ c .before .before .if2 .left)))
+    ∙ skip 20 _ _ (ap not (eq-eqb (total (a .lengths .now)) (a .bytes) (omega (arith, c .before .before .if2 .left, t .total .ensures))))
     ∙ skip 20 _ _ (le-ltb _ _ (c .before .if3 .left))
     ∙ stop 20 _ _ (lt-ltb _ _ (c .if4 .taken)))
 
@@ -40,8 +44,9 @@ returns-5 : tie.Need-returns-5
 unfolding burstRefusal
 returns-5 c =
     let t = c .before .before .before in
+    let a = t .before .before .before .args in
     sym (skip 20 _ _ (le-ltb 16 _ (t .before .if1 .left))
-    ∙ skip 20 _ _ (ap not (eq-eqb _ _ (sym (t .total .ensures) ∙ c .before .before .if2 .left)))
+    ∙ skip 20 _ _ (ap not (eq-eqb (total (a .lengths .now)) (a .bytes) (omega (arith, c .before .before .if2 .left, t .total .ensures))))
     ∙ skip 20 _ _ (le-ltb _ _ (c .before .if3 .left))
     ∙ skip 20 _ _ (le-ltb _ _ (c .if4 .left)) ∙ empty)
 
