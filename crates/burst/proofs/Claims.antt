@@ -3,12 +3,12 @@
 use mathlib.Core.Path.{_≡_, refl, sym, ap, _∙_}
 use mathlib.Core.Bool.{Bool, true, false, not, true≢false}
 use mathlib.Core.Logic.{_⊎_, inl, inr, ⊎-elim}
-use mathlib.Core.List.{List, [], _∷_, _++_}
+use mathlib.Core.List.{List, [], _∷_}
 use Prim.Native.Nat.{ℕ, _*_, _≤_, _<_}
 use native.Mathlib.Decide.{decLt}
 use lib.Dec.{eqb}
 use native.Mathlib.Omega.{arith}
-use lib.ListN.{length, getD, take, drop, List·getD-append}
+use lib.ListN.{length, getD, drop, List·getD-append}
 use lib.Seq.{drop-at}
 use borrow.Author.Tests.{lt-ltb, le-ltb, ne-eqb, eqb-false}
 use Rattle.octets.specs.Strings.{tab}
@@ -16,13 +16,14 @@ use Rattle.octets.specs.Refusals.{on, firstOf}
 use Rattle.octets.proofs.Strings.{length-tab, getD-tab}
 use Rattle.octets.proofs.Conditions.{accepted, refused, none-refuse}
 use Rattle.frame.specs.Opening.{openFrame}
-use Rattle.frame.proofs.Opened.{open-behind, open-refused, open-empty, open-long}
-use Rattle.records.specs.OpenedRecord.{openedRecord}
+use Rattle.frame.proofs.Opened.{open-behind, open-refused, open-roomy, open-empty, open-long}
+use Rattle.records.specs.OpenedRecord.{openedRecord, openedOf}
 use Rattle.records.proofs.Zeros.{refused-record}
+use Rattle.records.proofs.OpenedBack.{answer-back}
 use Rattle.burst.specs.Burst.{total, frameAt, partAt, alone, burstRefusal, joined, outAfter, answersAfter, Run, burstGiven, burstNothing, openBurst}
 use Rattle.burst.specs.Claims as claims
-use Rattle.burst.proofs.Sums.{length-frame, frames-whole}
-use Rattle.burst.proofs.Parts.{length-joined, part-joined}
+use Rattle.burst.proofs.Sums.{length-frame, frames-whole, frame-below}
+use Rattle.burst.proofs.Parts.{length-part, length-joined, part-joined}
 use Rattle.burst.proofs.Accepted.{ready, alone-size}
 
 -- ---- a burst that is accepted
@@ -60,6 +61,16 @@ frames-end-to-end fs ns o list ok =
 
 pub each-as-alone : claims.EachAsAlone
 each-as-alone = as-alone
+
+pub each-said : claims.EachSaid
+each-said key fs ns o list u ok k h =
+    let size = length-part o k (omega (arith, ready _ _ _ _ ok .fits)) in
+    ap openedOf (as-alone key fs ns o list ok k h .answer) ∙ answer-back key (frameAt fs ns k) (partAt o k) (frame-below fs ns k u) (omega arith)
+
+pub parts-suffice : claims.PartsSuffice
+parts-suffice key fs ns o o′ list u ok room k h =
+    let size = length-part o k (omega (arith, ready _ _ _ _ ok .fits)) in
+    open-roomy key (frameAt fs ns k) (partAt o k) o′ (frame-below fs ns k u) (omega arith) room
 
 pub each-its-own-number : claims.EachItsOwnNumber
 each-its-own-number key fs ns o list ok k h =

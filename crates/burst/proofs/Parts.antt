@@ -8,7 +8,7 @@ use native.Mathlib.Omega.{arith}
 use lib.ListN.{length, take, drop, length-append, length-drop}
 use lib.Seq.{length-take-le, take-at, drop-at}
 use Rattle.octets.proofs.Strings.{below-or-last}
-use Rattle.burst.specs.Burst.{partSize, partAt, joined}
+use Rattle.burst.specs.Burst.{partAt, joined}
 
 -- a part that ends within the output
 pub length-part : (o : List ℕ) (k : ℕ) → 108 * (k + 1) ≤ length o → length (partAt o k) ≡ 108

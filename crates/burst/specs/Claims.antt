@@ -1,13 +1,13 @@
 -- Document 02, 1, sentence by sentence: each is one claim over all keys, bytes, lengths, outputs and lists for the answers.
 -- Assumes nothing.
-use Prim.Native.Nat.{ℕ, _*_, _<_}
+use Prim.Native.Nat.{ℕ, _*_, _≤_, _<_}
 use mathlib.Core.Path.{_≡_}
 use mathlib.Core.Logic.{_⊎_}
 use mathlib.Core.List.{List, [], _∷_}
 use lib.ListN.{length, getD, drop}
-use Rattle.octets.specs.Strings.{tab}
+use Rattle.octets.specs.Strings.{tab, Below}
 use Rattle.frame.specs.Opening.{openFrame}
-use Rattle.records.specs.OpenedRecord.{openedRecord}
+use Rattle.records.specs.OpenedRecord.{openedRecord, openedOf}
 use Rattle.burst.specs.declared.BurstOpened.{BurstOpened}
 use Rattle.burst.specs.Burst.{mostFrames, partSize, total, frameAt, partAt, burstRefusal, joined, burstNothing, openBurst}
 
@@ -34,6 +34,18 @@ pub record AsAlone (key fs ns o : List ℕ) (list : List (List ℕ)) (k : ℕ) :
 
 abbrev pub EachAsAlone : Type 0
 EachAsAlone = (key fs ns o : List ℕ) (list : List (List ℕ)) → Accepted fs ns o list → (k : ℕ) → k < length ns → AsAlone key fs ns o list k
+
+-- each record says the whole of that answer, where the bytes lent are bytes
+abbrev pub EachSaid : Type 0
+EachSaid =
+    (key fs ns o : List ℕ) (list : List (List ℕ)) → Below 256 fs → Accepted fs ns o list → (k : ℕ) → k < length ns
+    → openedOf (getD (openBurst key fs ns o list .answers) k []) ≡ openFrame key (frameAt fs ns k) (partAt o k) .answer
+
+-- a part has room for every payload: no longer output would be answered otherwise
+abbrev pub PartsSuffice : Type 0
+PartsSuffice =
+    (key fs ns o o′ : List ℕ) (list : List (List ℕ)) → Below 256 fs → Accepted fs ns o list → partSize ≤ length o′ → (k : ℕ) → k < length ns
+    → openFrame key (frameAt fs ns k) (partAt o k) .answer ≡ openFrame key (frameAt fs ns k) o′ .answer
 
 -- the answer of a frame of no bytes is 2, and that of one over 118 is 1; beside a refused frame's number its record is zeros
 pub record OwnNumber (key fs ns o : List ℕ) (list : List (List ℕ)) (k : ℕ) : Type 0 where

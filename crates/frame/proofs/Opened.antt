@@ -2,22 +2,27 @@
 -- alone, and the header's number goes before every other.
 -- Assumes nothing.
 use mathlib.Core.Path.{_≡_, refl, sym, ap, _∙_}
+use mathlib.Core.Bool.{cond, not}
 use mathlib.Core.List.{List, [], _∷_}
-use Prim.Native.Nat.{ℕ, _<_}
+use Prim.Native.Nat.{ℕ, zero, suc, _+_, _-_, _≤_, _<_}
 use native.Mathlib.Nat.{zero-add}
 use native.Mathlib.Omega.{arith}
-use lib.ListN.{length, drop}
+use lib.ListN.{length, drop, length-drop}
 use lib.Seq.{drop-append-seam}
-use borrow.Author.Tests.{lt-ltb}
-use Rattle.octets.specs.Refusals.{Condition, by, firstOf}
+use borrow.Author.Tests.{lt-ltb, le-ltb}
+use Rattle.octets.specs.Strings.{Below}
+use Rattle.octets.specs.Refusals.{unless, Condition, on, by, firstOf}
 use Rattle.octets.proofs.Strings.{length-over, over-front}
-use Rattle.octets.proofs.Conditions.{refused, unless-either, stop-by}
+use Rattle.octets.proofs.Conditions.{accepted, refused, unless-either, none, stop-by}
+use Rattle.header.specs.declared.nwk.NwkHeader.{NwkHeader}
 use Rattle.header.specs.Reading.{headerRefusal, readHeader}
-use Rattle.header.proofs.ReadFacts.{header-number}
+use Rattle.header.proofs.ReadFacts.{header-number, header-facts}
+use Rattle.ccm.specs.Verification.{Verified}
 use Rattle.ccm.specs.Operations.{micLength}
-use Rattle.frame.specs.Reading.{frameRefusal, frameNumber, readFrame}
+use Rattle.frame.specs.declared.{OptionAuxHeader.OptionAuxHeader, FrameRead.FrameRead}
+use Rattle.frame.specs.Reading.{secured, auxBehind, frameRefusal, frameGiven, frameNumber, frameBy, readFrame}
 use Rattle.frame.specs.Security.{networkLevel}
-use Rattle.frame.specs.Opening.{verified, openRefusals, openRefusal, openRefused, Run, openBy, openFrame}
+use Rattle.frame.specs.Opening.{behind, verified, openRefusals, openRefusal, openRefused, Run, openGiven, openNothing, openBy, openFrame}
 use Rattle.frame.proofs.Accepted.{frame-refusal, open-number, openable}
 use Rattle.frame.proofs.SecondHalf.{payload-length}
 
@@ -58,6 +63,45 @@ module _ (key f o : List ℕ) where
   open-header n e h =
       let read : readFrame f .refusal ≡ n = frame-refusal f (readHeader f) _ ∙ given-first _ n _ (header-number f ∙ e) h in
       number-is ∙ given-first _ n _ (given-first _ n _ read h) h
+
+-- ---- the room
+
+-- what is behind the headers of a frame that was read, less a MIC, has at most 108 bytes
+behind-short : (f : List ℕ) → Below 256 f → readFrame f .refusal ≡ 0 → length (behind f (readFrame f)) - 4 ≤ 108
+unfolding readFrame frameBy frameNumber frameRefusal behind
+behind-short f u e =
+    let h = readHeader f in
+    let a = auxBehind f h in
+    let z = sym (frame-refusal f h a) ∙ e in
+    let hf = header-facts f u (none _ z .0) in
+    let read : readFrame f .length ≡ h .length + cond (secured h) (a .length) 0 = ap (λ (r : FrameRead). r .length) (accepted (frameNumber f h a) (frameGiven h a) _ z) in
+    omega (arith, hf .short, hf .least, read, length-drop (readFrame f .length) f)
+
+-- the conditions that need no key are the same for every room of 108 bytes or more
+same-number : (m : ℕ) (h : NwkHeader) (a : OptionAuxHeader) (part room room′ : ℕ) → (m ≡ 0 → part - 4 ≤ 108) → 108 ≤ room → 108 ≤ room′
+    → firstOf (openRefusals 4 m h a part room) ≡ firstOf (openRefusals 4 m h a part room′)
+unfolding openRefusals firstOf unless
+same-number zero h a part room room′ s r r′ =
+    let e = s refl in
+    rw (le-ltb room (part - 4) (omega arith), le-ltb room′ (part - 4) (omega arith)) refl
+same-number (suc m) h a part room room′ s r r′ = refl
+
+-- the answer goes by the number, and not by what the output holds
+same-answer : (n : ℕ) (r : FrameRead) (v : Verified) (o o′ : List ℕ)
+    → unless n (openGiven r v o) (openNothing n o) .answer ≡ unless n (openGiven r v o′) (openNothing n o′) .answer
+unfolding unless
+same-answer zero r v o o′ = refl
+same-answer (suc n) r v o o′ = refl
+
+-- 108 bytes have room for every payload: the answer is that of every longer output
+pub open-roomy : (key f o o′ : List ℕ) → Below 256 f → 108 ≤ length o → 108 ≤ length o′ → openFrame key f o .answer ≡ openFrame key f o′ .answer
+unfolding openFrame openBy openRefusal
+open-roomy key f o o′ u r r′ =
+    let x = readFrame f in
+    let v = verified networkLevel micLength key f x in
+    let same = same-number (x .refusal) (x .header) (x .aux) (length (behind f x)) (length o) (length o′) (behind-short f u) r r′ in
+    ap (λ (m : ℕ). unless (firstOf (by m ∷ on 19 (not (v .valid)) ∷ [])) (openGiven x v o) (openNothing (firstOf (by m ∷ on 19 (not (v .valid)) ∷ [])) o) .answer) same
+    ∙ same-answer _ x v o o′
 
 pub open-empty : (key o : List ℕ) → openFrame key [] o .answer .refusal ≡ 2
 unfolding headerRefusal firstOf

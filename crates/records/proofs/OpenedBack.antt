@@ -3,18 +3,29 @@
 -- Assumes nothing.
 use mathlib.Core.Path.{_≡_, refl, ap, _∙_}
 use mathlib.Core.Bool.{Bool, true, false}
-use mathlib.Core.List.{List, _++_, append-assoc}
+use mathlib.Core.List.{List, [], _++_, append-assoc}
 use Prim.Native.Nat.{ℕ, _^_, _<_}
+use native.Mathlib.Omega.{arith}
 use lib.ListN.{length, take, drop, length-append}
 use lib.Seq.{take-at, drop-at}
-use Rattle.octets.specs.Strings.{tab}
+use Rattle.octets.specs.Strings.{tab, Below}
 use Rattle.octets.specs.Numbers.{le, leAt}
+use Rattle.octets.proofs.Strings.{length-tab, drop-below}
 use Rattle.octets.proofs.Numbers.{leAt-le}
+use Rattle.octets.proofs.Conditions.{unless-either}
+use Rattle.header.specs.Control.{controlOf}
+use Rattle.header.specs.Reading.{relaysOf, headerBy, blankHeader, readHeader}
 use Rattle.header.specs.Auxiliary.{blankAux}
 use Rattle.header.specs.Same.{HeaderFits}
+use Rattle.header.proofs.ReadFits.{read-fits}
+use Rattle.header.proofs.ReadFacts.{header-facts, aux-facts}
 use Rattle.frame.specs.declared.{OptionAuxHeader.OptionAuxHeader, FrameOpened.FrameOpened}
-use Rattle.frame.specs.Reading.{auxIf}
+use Rattle.frame.specs.Reading.{auxIf, readFrame}
+use Rattle.frame.specs.Security.{networkLevel}
+use Rattle.frame.specs.Opening.{openRefusal, openRefused, Run, openBy, openFrame}
 use Rattle.frame.specs.SealingLaw.{AuxOptionFits}
+use Rattle.frame.proofs.Accepted.{openable}
+use Rattle.frame.proofs.SecondHalf.{secured-facts, payload-length}
 use Rattle.records.specs.HeaderRecord.{headerRecord, headerOf}
 use Rattle.records.specs.AuxiliaryRecord.{auxRecord, auxOf}
 use Rattle.records.specs.OpenedRecord.{optionRecord, optionOf, openedFront, openedRecord, openedOf}
@@ -52,3 +63,23 @@ opened-back o f =
       header = (ap headerOf (header-part front header aux (length-front (o .refusal) (o .length)) (length-header (o .header))) ∙ header-back (o .header) (f .header) (f .relays)) i;
       aux = (ap optionOf (aux-part front header aux (length-front (o .refusal) (o .length)) (length-header (o .header))) ∙ option-back (o .aux) (f .aux)) i;
     }
+
+-- ---- what opening answers
+
+-- it has all that, for every frame of bytes
+pub answer-fits : (key f o : List ℕ) → Below 256 f → length o < 2 ^ 16 → AnswerFits (openFrame key f o .answer)
+unfolding openFrame openBy openRefused blankHeader headerBy relaysOf
+answer-fits key f o u s =
+    unless-either (λ (r : Run). AnswerFits (r .answer)) (openRefusal networkLevel 4 key f (readFrame f) (length o)) _ _
+    (λ e.
+    let p = openable networkLevel 4 key f (readFrame f) (length o) e in
+    let facts = secured-facts f (p .read) (p .present) in
+    let hf = header-facts f u (facts .header) in
+    let af = aux-facts (drop (readHeader f .length) f) (drop-below f (readHeader f .length) 256 u) (facts .aux) in
+    let size = payload-length networkLevel 4 key f (readFrame f) in
+    record { short = omega (arith, size, p .fits); header = rw (facts .read) (hf .fits); relays = rw (facts .read) (hf .places); aux = rw (facts .read) (af .fits) })
+    (record { short = omega arith; header = read-fits [] (controlOf 0) (λ i. omega arith); relays = length-tab _ 54; aux = tt })
+
+-- so its record says it again
+pub answer-back : (key f o : List ℕ) → Below 256 f → length o < 2 ^ 16 → openedOf (openedRecord (openFrame key f o .answer)) ≡ openFrame key f o .answer
+answer-back key f o u s = opened-back (openFrame key f o .answer) (answer-fits key f o u s)
