@@ -1,9 +1,9 @@
 /* nwk.h: the Zigbee NWK frame codec in C.
  *
- * A slice is a pointer and a length, an array of fixed size a pointer alone. Two things are the caller's to see to: a slice of
- * a length above 0, and an array, has that many bytes (so its pointer is not NULL; for an empty slice NULL will do), and no two
- * of a call overlap if one of them is written. A key is two numbers, its first eight bytes in the first, the first byte
- * lowest (nwk_key_of).
+ * A slice is a pointer and a length, a list a pointer and the number of its entries, an array of fixed size a pointer alone. Two
+ * things are the caller's to see to: a slice or list of a length above 0, and an array, has that many bytes or entries (so its
+ * pointer is not NULL; for an empty one NULL will do), and no two of a call overlap if one of them is written. A key is two
+ * numbers, its first eight bytes in the first, the first byte lowest (nwk_key_of).
  *
  * Every function answers one number: the length in bits 0 to 31 (NWK_LENGTH), the refusal in bits 32 to 39 (NWK_REFUSAL,
  * 0: accepted), the other bits 0. A refusal has length 0 and leaves every lent byte as it was, records included. Where

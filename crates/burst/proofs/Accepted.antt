@@ -1,13 +1,12 @@
 -- What it means that a burst is accepted: none of the four conditions holds. Then each frame lies within the bytes lent, and each
 -- part within the output.
 -- Assumes nothing.
-use mathlib.Core.Path.{_≡_, refl, _∙_}
-use mathlib.Core.Bool.{Bool, true, false, not, true≢false}
+use mathlib.Core.Path.{_≡_, _∙_}
 use mathlib.Core.List.{List}
 use Prim.Native.Nat.{ℕ, _*_, _≤_, _<_}
 use native.Mathlib.Omega.{arith}
 use lib.ListN.{length}
-use borrow.Author.Tests.{ltb-false, eqb-true}
+use borrow.Author.Tests.{ltb-false, eqb-true, not-false}
 use Rattle.octets.proofs.Conditions.{none}
 use Rattle.frame.proofs.Opened.{open-length}
 use Rattle.burst.specs.Burst.{total, frameAt, partAt, alone, burstRefusal}
@@ -19,17 +18,13 @@ pub record Ready (ns : List ℕ) (bytes room places : ℕ) : Type 0 where
   pub fits : 108 * length ns ≤ room
   pub listed : length ns ≤ places
 
-not-back : (b : Bool) → not b ≡ false → b ≡ true
-not-back true e = refl
-not-back false e = absurd (true≢false e)
-
 pub ready : (ns : List ℕ) (bytes room places : ℕ) → burstRefusal ns bytes room places ≡ 0 → Ready ns bytes room places
 unfolding burstRefusal
 ready ns bytes room places e =
     let n = none _ e in
     record {
       few = ltb-false 16 (length ns) (n .0);
-      sum = eqb-true (total ns) bytes (not-back _ (n .1 .0));
+      sum = eqb-true (total ns) bytes (not-false _ (n .1 .0));
       fits = ltb-false room (108 * length ns) (n .1 .1 .0);
       listed = ltb-false places (length ns) (n .1 .1 .1 .0);
     }

@@ -7,9 +7,9 @@ use native.Mathlib.Nat.{add-zero, zero-add, add-assoc}
 use native.Mathlib.Numerals.{add-one}
 use native.Mathlib.Omega.{arith}
 use lib.ListN.{length, getD, take, drop, length-drop, take-append-drop}
-use lib.Seq.{length-take-le, take-all, take-nil, take-suc, take-add}
+use lib.Seq.{length-take-le, take-all, take-suc, take-add}
 use Rattle.octets.specs.Strings.{Below}
-use Rattle.octets.proofs.Strings.{drop-below}
+use Rattle.octets.proofs.Strings.{take-below, drop-below}
 use Rattle.burst.specs.Burst.{total, frameAt, joined}
 
 total-append : (ns ms : List ℕ) → total (ns ++ ms) ≡ total ns + total ms
@@ -58,12 +58,6 @@ module _ (fs ns : List ℕ) (sum : total ns ≡ length fs) where
       joined-front (length ns) (omega arith) ∙ rw (total-all ns (length ns) (omega arith)) (take-all (total ns) fs (omega arith))
 
 -- ---- bytes
-
-take-below : (f : List ℕ) (n m : ℕ) → 0 < m → Below m f → Below m (take n f)
-take-below [] n m z b i = rw (take-nil n) (b i)
-take-below (x ∷ f) zero m z b i = z
-take-below (x ∷ f) (suc n) m z b zero = b 0
-take-below (x ∷ f) (suc n) m z b (suc i) = take-below f n m z (λ j. b (suc j)) i
 
 -- a frame has the bytes lent
 pub frame-below : (fs ns : List ℕ) (k : ℕ) → Below 256 fs → Below 256 (frameAt fs ns k)

@@ -1,12 +1,12 @@
 -- What it means that sealing, reading or opening a frame is accepted: no condition of its list holds.
 -- Assumes nothing.
 use mathlib.Core.Path.{_≡_, refl, ap}
-use mathlib.Core.Bool.{Bool, true, false, not}
+use mathlib.Core.Bool.{true, false, not}
 use mathlib.Core.List.{List}
 use Prim.Native.Nat.{ℕ, _-_, _≤_}
 use lib.ListN.{length}
 use lib.Dec.{ltb}
-use borrow.Author.Tests.{ltb-false, le-ltb}
+use borrow.Author.Tests.{ltb-false, le-ltb, not-false}
 use Rattle.octets.specs.Refusals.{firstOf, unless}
 use Rattle.octets.proofs.Conditions.{answer-number, none, none-refuse, or-false}
 use Rattle.header.specs.declared.{auxiliary.NwkSecurityLevel.NwkSecurityLevel, auxiliary.AuxRead.AuxRead, nwk.HeaderRead.HeaderRead, nwk.NwkHeader.NwkHeader}
@@ -96,10 +96,6 @@ pub record Openable (l : NwkSecurityLevel) (t : ℕ) (key f : List ℕ) (r : Fra
   pub fits : length (behind f r) - t ≤ room
   pub valid : verified l t key f r .valid ≡ true
 
-not-back : (b : Bool) → not b ≡ false → b ≡ true
-not-back true e = refl
-not-back false e = absurd (mathlib.Core.Bool.true≢false e)
-
 pub openable : (l : NwkSecurityLevel) (t : ℕ) (key f : List ℕ) (r : FrameRead) (room : ℕ) → openRefusal l t key f r room ≡ 0
     → Openable l t key f r room
 unfolding openRefusal openRefusals
@@ -112,7 +108,7 @@ openable l t key f r room e =
       ieee = n .1 .1 .0;
       tagged = ltb-false (length (behind f r)) t (n .1 .1 .1 .0);
       fits = ltb-false room (length (behind f r) - t) (n .1 .1 .1 .1 .0);
-      valid = not-back _ (all .1 .0);
+      valid = not-false _ (all .1 .0);
     }
 
 pub open-accepts : (l : NwkSecurityLevel) (t : ℕ) (key f : List ℕ) (r : FrameRead) (room : ℕ) → Openable l t key f r room

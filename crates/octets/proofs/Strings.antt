@@ -10,7 +10,7 @@ use native.Mathlib.Numerals.{add-one}
 use native.Mathlib.Decide.{decLt}
 use native.Mathlib.Omega.{arith}
 use lib.ListN.{length, getD, take, drop, set, length-append, length-drop, take-append-drop, List·getD-append, drop-of-length-le}
-use lib.Seq.{length-take-le, take-all, drop-length, take-suc, take-at, set-at, getD-at, drop-cons, set-split, drop-append-add, drop-drop, take-add, getD-drop}
+use lib.Seq.{length-take-le, take-all, take-nil, drop-length, take-suc, take-at, set-at, getD-at, drop-cons, set-split, drop-append-add, drop-drop, take-add, getD-drop}
 use Rattle.octets.specs.Strings.{tab, over, Below}
 
 -- ---- a list given by its entries
@@ -160,3 +160,10 @@ copy-more o i j s d ho hs =
 -- what is behind the first n entries has no larger ones
 pub drop-below : (f : List ℕ) (n m : ℕ) → Below m f → Below m (drop n f)
 drop-below f n m b i = rw (getD-drop n f i 0) (b (n + i))
+
+-- nor have the first n (m above 0, since past the end an entry counts 0)
+pub take-below : (f : List ℕ) (n m : ℕ) → 0 < m → Below m f → Below m (take n f)
+take-below [] n m z b i = rw (take-nil n) (b i)
+take-below (x ∷ f) zero m z b i = z
+take-below (x ∷ f) (suc n) m z b zero = b 0
+take-below (x ∷ f) (suc n) m z b (suc i) = take-below f n m z (λ j. b (suc j)) i
