@@ -106,7 +106,7 @@ one-holds false false false false h =
     let no : false ≡ true → ⊥ = λ e. true≢false (sym e) in
     absurd (⊎-elim no (⊎-elim no (⊎-elim no no)) h)
 
--- a test that is not failed
+-- tests whose failing is refuted
 eqb-holds : (m n : ℕ) (b : Bool) → eqb m n ≡ b → ((m ≡ n → ⊥) → ⊥) → not b ≡ false
 eqb-holds m n true e h = refl
 eqb-holds m n false e h = absurd (h (eqb-false m n e))

@@ -163,12 +163,14 @@ sealed-done key h x y p o o₁ o₂ start n a size sent first en ea second =
 
 -- ---- opening, by what the calls gave
 
+-- what CCM makes of the part p, x being the auxiliary header
+abbrev made : List ℕ → NwkHeader → NwkAuxHeader → List ℕ → Verified
+made key h x p = openedBy 4 key (nonce networkLevel h x) (authenticated networkLevel h x) (ciphertextOf 4 p) (micOf 4 p)
+
 verified-is : (key f part : List ℕ) (r : FrameRead) (x : NwkAuxHeader) → x ≡ orBlank (r .aux) → part ≡ drop (r .length) f
-    → openedBy 4 key (nonce networkLevel (r .header) x) (authenticated networkLevel (r .header) x) (ciphertextOf 4 part) (micOf 4 part)
-    ≡ verified networkLevel 4 key f r
+    → made key (r .header) x part ≡ verified networkLevel 4 key f r
 unfolding verified behind
-verified-is key f part r x ex ep =
-    λ i. openedBy 4 key (nonce networkLevel (r .header) (ex i)) (authenticated networkLevel (r .header) (ex i)) (ciphertextOf 4 (ep i)) (micOf 4 (ep i))
+verified-is key f part r x ex ep = λ i. made key (r .header) (ex i) (ep i)
 
 pub ready-facts : (f : List ℕ) (r : FrameRead) → Below 256 f → r ≡ readFrame f → r .refusal ≡ 0 → isAbsent (r .aux) ≡ false
     → (badHeader (r .header) ≡ false)
@@ -179,10 +181,6 @@ ready-facts f r u e read present = rw e (open-facts f u (rw e at read) (rw e at 
 payload-size : (key f part : List ℕ) (r : FrameRead) → part ≡ drop (r .length) f → length part - 4 ≡ length (verified networkLevel 4 key f r .payload)
 unfolding behind
 payload-size key f part r e = ap (λ (l : List ℕ). length l - 4) e ∙ sym (payload-length networkLevel 4 key f r)
-
--- what CCM makes of the part p, x being the auxiliary header
-abbrev made : List ℕ → NwkHeader → NwkAuxHeader → List ℕ → Verified
-made key h x p = openedBy 4 key (nonce networkLevel h x) (authenticated networkLevel h x) (ciphertextOf 4 p) (micOf 4 p)
 
 -- under the round keys w no other refusal holds, and CCM found the MIC valid or not (b), and left o′ for o
 module _ (w : List (List (List ℕ))) (f part o o′ : List ℕ) (r : FrameRead) (x : NwkAuxHeader) (n : ℕ) (b : Bool)

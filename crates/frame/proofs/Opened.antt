@@ -64,6 +64,15 @@ module _ (key f o : List ℕ) where
       let read : readFrame f .refusal ≡ n = frame-refusal f (readHeader f) _ ∙ given-first _ n _ (header-number f ∙ e) h in
       number-is ∙ given-first _ n _ (given-first _ n _ read h) h
 
+-- no bytes at all, and more than a frame has
+pub open-empty : (key o : List ℕ) → openFrame key [] o .answer .refusal ≡ 2
+unfolding headerRefusal firstOf
+open-empty key o = open-header key [] o 2 refl (λ z. omega arith)
+
+pub open-long : (key f o : List ℕ) → 118 < length f → openFrame key f o .answer .refusal ≡ 1
+unfolding headerRefusal firstOf
+open-long key f o h = open-header key f o 1 (rw (lt-ltb 118 (length f) h) refl) (λ z. omega arith)
+
 -- ---- the room
 
 -- what is behind the headers of a frame that was read, less a MIC, has at most 108 bytes
@@ -102,11 +111,3 @@ open-roomy key f o o′ u r r′ =
     let same = same-number (x .refusal) (x .header) (x .aux) (length (behind f x)) (length o) (length o′) (behind-short f u) r r′ in
     ap (λ (m : ℕ). unless (firstOf (by m ∷ on 19 (not (v .valid)) ∷ [])) (openGiven x v o) (openNothing (firstOf (by m ∷ on 19 (not (v .valid)) ∷ [])) o) .answer) same
     ∙ same-answer _ x v o o′
-
-pub open-empty : (key o : List ℕ) → openFrame key [] o .answer .refusal ≡ 2
-unfolding headerRefusal firstOf
-open-empty key o = open-header key [] o 2 refl (λ z. omega arith)
-
-pub open-long : (key f o : List ℕ) → 118 < length f → openFrame key f o .answer .refusal ≡ 1
-unfolding headerRefusal firstOf
-open-long key f o h = open-header key f o 1 (rw (lt-ltb 118 (length f) h) refl) (λ z. omega arith)
