@@ -7,8 +7,9 @@
  *
  * Every function answers one number: the length in bits 0 to 31 (NWK_LENGTH), the refusal in bits 32 to 39 (NWK_REFUSAL,
  * 0: accepted), the other bits 0. A refusal has length 0 and leaves every lent byte as it was, records included. Where
- * nothing is refused, each result stands at the front of its buffer and the rest of the buffer stays. Refusals are checked
- * in the order in which each function's comment lists those that it can answer: rising, but for 20, which is first of all.
+ * nothing is refused, each result stands at the front of its buffer (each frame's of a burst at the front of its own part) and
+ * the rest of the buffer stays. Refusals are checked in the order in which each function's comment lists those that it can
+ * answer: rising, but for 20, which is first of all.
  *
  * Example:
  *
@@ -141,8 +142,8 @@ enum nwk_refusal {
  * address of the byte at 163 that of an auxiliary record.
  *
  *   offset  bytes  field
- *        0      1  refusal; nwk_open leaves a record as it was where it refuses, so that 0 stands here. In a burst the number of
- *                  a refused frame, beside which all the rest of its record is 0
+ *        0      1  refusal. Where nwk_open fills a record this is 0, since it leaves the record of a refused frame as it was; in a
+ *                  burst it is a refused frame's number, and all the rest of that record is 0
  *        1      1  mark: room for what is said of a frame beside; 0
  *        2      2  length of the payload
  *        4      1  count of cipher blocks; 0 until it is reported
