@@ -97,7 +97,7 @@ static bool run_part(const char *way, const char *override) {
 }
 
 static int all(void) {
-  printf("nettle %s, mbedtls %s\n", nettle.version, mbedtls.version);
+  printf("nettle %s, mbedtls %s, wolfSSL %s\n", nettle.version, mbedtls.version, wolfssl.version);
   if (!run_part(SOFTWARE, NETTLE_WITHOUT_AES) && nettle.seal) {
     fail("did not say that it goes without AES instructions", "nettle");
   }

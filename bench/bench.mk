@@ -1,7 +1,7 @@
 # bench.mk: the target `bench`, for the Makefile at the root to include. It builds the benchmark to target/bench and prints
 # the tables of docs/PERFORMANCE.md. The root Makefile has the rule for the archive.
 #
-# A peer is used where it is installed (Debian: nettle-dev, libmbedtls-dev). Of mbedtls the static archive is linked, so that
+# A peer is used where it is installed (Debian: nettle-dev, libmbedtls-dev, libwolfssl-dev). Of mbedtls the static archive is linked, so that
 # the linker can send its question for AES instructions to bench/mbedtls.c.
 
 BENCH_PROGRAM := target/bench/bench
@@ -17,6 +17,11 @@ BENCH_MBEDTLS := $(wildcard $(shell $(CC) -print-file-name=libmbedcrypto.a))
 ifeq ($(shell nm $(BENCH_MBEDTLS) 2>/dev/null | grep 'T mbedtls_aesni_has_support' >/dev/null && echo yes),yes)
 BENCH_CFLAGS += -DHAVE_MBEDTLS
 BENCH_LIBS += -Wl,--wrap=mbedtls_aesni_has_support $(BENCH_MBEDTLS)
+endif
+
+ifeq ($(shell pkg-config --exists wolfssl 2>/dev/null && echo yes),yes)
+BENCH_CFLAGS += -DHAVE_WOLFSSL $(shell pkg-config --cflags wolfssl)
+BENCH_LIBS += $(shell pkg-config --libs wolfssl)
 endif
 
 $(BENCH_PROGRAM): $(wildcard bench/*.c bench/*.h) bench/bench.mk include/nwk.h $(ARCHIVE)

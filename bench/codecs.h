@@ -13,8 +13,8 @@ struct codec {
   call *set_key, *seal_kept, *open_kept, *block_kept;
 };
 
-/* The codec, and its two peers. */
-extern const struct codec ours, nettle, mbedtls;
+/* The codec, and its peers. */
+extern const struct codec ours, nettle, mbedtls, wolfssl;
 
 /* The codec on whole frames. */
 call seal_frame, open_frame;

@@ -41,20 +41,19 @@ static void print_title(const char *title) {
 void compare(const char *title, const char *work, struct row *rows, size_t count) {
   measure_rows(rows, count, COLUMNS);
   print_title(title);
-  printf("| %-12s | %13s | %13s | %13s | %11s | %11s | %11s |\n", work, "nwk, ns", "nettle, ns", "mbedtls, ns",
-         "nwk/nettle", "nwk/mbedtls", "nwk/slower");
-  printf(
-      "|--------------|--------------:|--------------:|--------------:|------------:|------------:|------------:|\n");
+  printf("| %-12s | %13s | %13s | %13s | %13s | %11s | %11s | %11s |\n", work, "nwk, ns", "nettle, ns", "mbedtls, ns",
+         "wolfSSL, ns", "nwk/nettle", "nwk/mbedtls", "nwk/wolfSSL");
+  printf("|--------------|--------------:|--------------:|--------------:|--------------:|------------:|------------:|"
+         "------------:|\n");
   for (size_t i = 0; i < count; i++) {
     const struct job *jobs = rows[i].jobs;
-    double n = jobs[NETTLE].ns, m = jobs[MBEDTLS].ns;
     printf("| %-12s |", rows[i].label);
     for (size_t c = 0; c < COLUMNS; c++) {
       print_time(&jobs[c]);
     }
-    print_ratio(jobs[OURS].ns, n);
-    print_ratio(jobs[OURS].ns, m);
-    print_ratio(jobs[OURS].ns, n > m ? n : m);
+    for (size_t c = NETTLE; c < COLUMNS; c++) {
+      print_ratio(jobs[OURS].ns, jobs[c].ns);
+    }
     printf("\n");
   }
 }

@@ -5,7 +5,7 @@
 #include "measure.h"
 
 /* One row of a table: the same work by the codec and by its peers, or by the codec in one burst and call by call. */
-enum { OURS, NETTLE, MBEDTLS, COLUMNS };
+enum { OURS, NETTLE, MBEDTLS, WOLFSSL, COLUMNS };
 enum { BURST, CALLS, WAYS };
 
 struct row {

@@ -54,6 +54,7 @@ static void check_all(void) {
     check_codec(&ours, m);
     check_codec(&nettle, m);
     check_codec(&mbedtls, m);
+    check_codec(&wolfssl, m);
     check(seal_frame, m, m->frame, m->frame_length, "the frame differs", "nwk_seal");
     check(open_frame, m, m->payload, m->length, "the opened payload differs", "nwk_open");
   }
@@ -65,55 +66,66 @@ static void check_all(void) {
   memcpy(expected, m->out, sizeof expected);
   check_block(&nettle, m, expected);
   check_block(&mbedtls, m, expected);
+  check_block(&wolfssl, m, expected);
 }
 
-/* A row of the three calls on one message. */
-static struct row row_of(const char *label, struct message *m, call *a, call *b, call *c) {
-  struct row row = {.jobs = {{.run = a, .input = m}, {.run = b, .input = m}, {.run = c, .input = m}}};
+/* A row of the codec's call on a message, and of the same call of each peer, in the order of the columns. */
+struct calls {
+  call *of[COLUMNS];
+};
+
+static struct row row_of(const char *label, struct message *m, const struct calls *calls) {
+  struct row row = {.label = ""};
+  for (size_t c = 0; c < COLUMNS; c++) {
+    row.jobs[c] = (struct job){.run = calls->of[c], .input = m};
+  }
   snprintf(row.label, sizeof row.label, "%s", label);
   return row;
 }
 
-static struct row row_for_length(size_t i, call *a, call *b, call *c) {
+static struct row row_for_length(size_t i, const struct calls *calls) {
   char label[32];
   snprintf(label, sizeof label, "%zu bytes", lengths[i]);
-  return row_of(label, &messages[i], a, b, c);
+  return row_of(label, &messages[i], calls);
 }
 
-static void compare_lengths(const char *what, const char *way, call *a, call *b, call *c) {
+static void compare_lengths(const char *what, const char *way, const struct calls *calls) {
   struct row rows[LENGTHS];
   char title[120];
   for (size_t i = 0; i < LENGTHS; i++) {
-    rows[i] = row_for_length(i, a, b, c);
+    rows[i] = row_for_length(i, calls);
   }
   snprintf(title, sizeof title, "%s, %s", what, way);
   compare(title, "payload", rows, LENGTHS);
 }
 
 void compare_with_peers(const char *way) {
+  const struct calls seal = {{ours.seal, nettle.seal, mbedtls.seal, wolfssl.seal}};
+  const struct calls open = {{ours.open, nettle.open, mbedtls.open, wolfssl.open}};
+  const struct calls set_up = {{ours.block, nettle.block, mbedtls.block, wolfssl.block}};
+  const struct calls kept = {{ours.block, nettle.block_kept, mbedtls.block_kept, wolfssl.block_kept}};
   make_messages();
   check_all();
-  compare_lengths("CCM sealing, key setup in each call", way, ours.seal, nettle.seal, mbedtls.seal);
-  compare_lengths("CCM opening, key setup in each call", way, ours.open, nettle.open, mbedtls.open);
+  compare_lengths("CCM sealing, key setup in each call", way, &seal);
+  compare_lengths("CCM opening, key setup in each call", way, &open);
   struct message *m = &messages[LENGTHS - 1];
-  struct row rows[] = {row_of("set up", m, ours.block, nettle.block, mbedtls.block),
-                       row_of("kept", m, ours.block, nettle.block_kept, mbedtls.block_kept)};
+  struct row rows[] = {row_of("set up", m, &set_up), row_of("kept", m, &kept)};
   char title[120];
   snprintf(title, sizeof title, "One AES block, %s", way);
   compare(title, "peers' key", rows, 2);
 }
 
 void compare_with_kept_keys(const char *way) {
-  compare_lengths("CCM sealing, the peers' key kept from call to call", way, ours.seal, nettle.seal_kept,
-                  mbedtls.seal_kept);
-  compare_lengths("CCM opening, the peers' key kept from call to call", way, ours.open, nettle.open_kept,
-                  mbedtls.open_kept);
+  const struct calls seal = {{ours.seal, nettle.seal_kept, mbedtls.seal_kept, wolfssl.seal_kept}};
+  const struct calls open = {{ours.open, nettle.open_kept, mbedtls.open_kept, wolfssl.open_kept}};
+  compare_lengths("CCM sealing, the peers' key kept from call to call", way, &seal);
+  compare_lengths("CCM opening, the peers' key kept from call to call", way, &open);
 }
 
 static void frames_alone(const char *title, call *run) {
   struct row rows[LENGTHS];
   for (size_t i = 0; i < LENGTHS; i++) {
-    rows[i] = row_for_length(i, run, NULL, NULL);
+    rows[i] = row_for_length(i, &(struct calls){{run}});
   }
   alone(title, "payload", rows, LENGTHS);
 }

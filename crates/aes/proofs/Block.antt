@@ -6,7 +6,7 @@ use Prim.Native.Nat.{ℕ, zero, suc, _+_, _-_, _<_}
 use native.Mathlib.Nat.{not-suc-le-zero}
 use native.Mathlib.Omega.{arith}
 use lib.ListN.{length, getD}
-use Rattle.aes.specs.State.{four, blockOf}
+use Rattle.aes.specs.State.{four, state, stateOf, blockOf}
 use Rattle.aes.specs.Rounds.{subBytes, shiftRows, mixColumns, addRoundKey}
 use Rattle.aes.specs.KeyExpansion.{keyExpansion}
 use Rattle.aes.specs.Cipher.{rounds, cipher, aes128}
@@ -20,6 +20,11 @@ rounds-next w (suc m) s h =
     let p : suc m - 1 ≡ m = omega arith in
     let q : suc m + 1 - 1 ≡ suc m = omega arith in
     rw (p, q)
+
+-- a state that is stored as a block and loaded again
+pub loaded-stored : (s k : List (List ℕ)) → stateOf (blockOf (addRoundKey s k)) ≡ addRoundKey s k
+unfolding four state stateOf blockOf addRoundKey
+loaded-stored s k = refl
 
 -- CCM expands a key once, and runs the cipher on many blocks
 pub cipher-aes128 : (key b : List ℕ) {w : List (List (List ℕ))} {r : List ℕ} → w ≡ keyExpansion key → r ≡ cipher w b → r ≡ aes128 key b

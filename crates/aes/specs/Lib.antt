@@ -3,3 +3,4 @@ pub mod Words
 pub mod Rounds
 pub mod KeyExpansion
 pub mod Cipher
+pub mod Table

@@ -1,7 +1,10 @@
 // AES-128, FIPS 197 section 5: the round keys of a key, and the cipher of a block under them.
 ghost use mathlib.Core.Path.{_≡_};
+ghost use mathlib.Core.List.{[], _∷_};
+ghost use Rattle.octets.specs.Numbers.{bytesOf};
 ghost use Rattle.aes.specs.KeyExpansion.{keyExpansion};
 ghost use Rattle.aes.specs.Cipher.{cipher, aes128};
+ghost use Rattle.aes.specs.Table.{cipherTable};
 
 mod rounds;
 mod state;
@@ -22,17 +25,35 @@ pub fn key_expansion(key: [u8; 16]) -> [[[u8; 4]; 4]; 11]
     keys
 }
 
-// Cipher (FIPS 197, 5.1): a block under the round keys.
-pub fn cipher(keys: &[[[u8; 4]; 4]; 11], block: [u8; 16]) -> [u8; 16]
-    ensures { λ r. ⌜ r ≡ cipher (now (keys .entry)) block ⌝ }
+// The table that `cipher` looks up in, for a caller to hold once and lend to it.
+pub fn cipher_table() -> [u32; 256]
+    ensures { λ r. ⌜ r ≡ cipherTable ⌝ }
 {
-    let table = field::s_box();
-    let mut s = rounds::add_round_key(state::load(block), keys[0]);
+    field::round_table()
+}
+
+// Cipher (FIPS 197, 5.1): a block under the round keys. The block goes in as its four words, the first byte of each lowest, and comes
+// out as an array of them; between two rounds the state is held as its words too.
+pub fn cipher(
+    table: &[u32; 256],
+    keys: &[[[u8; 4]; 4]; 11],
+    a: u32,
+    b: u32,
+    c: u32,
+    d: u32,
+) -> [u32; 4]
+    requires { ⌜ now table ≡ cipherTable ⌝ }
+    ensures { λ r. ⌜ bytesOf r ≡ cipher (now (keys .entry)) (bytesOf (a ∷ b ∷ c ∷ d ∷ [])) ⌝ }
+{
+    let first = state::load_words(a, b, c, d);
+    let mut w = state::store_words(rounds::add_round_key(first, keys[0]));
     for n in 1..10 {
-        let next = rounds::round(&table, s, keys[n]);
-        s = next;
+        let s = state::load_words(w[0], w[1], w[2], w[3]);
+        let next = state::store_words(rounds::round(table, s, keys[n]));
+        w = next;
     }
-    state::store(rounds::last_round(&table, s, keys[10]))
+    let last = state::load_words(w[0], w[1], w[2], w[3]);
+    state::store_words(rounds::last_round(table, last, keys[10]))
 }
 
 // AES-128: a block under a key.
@@ -40,5 +61,7 @@ pub fn encrypt_block(key: [u8; 16], block: [u8; 16]) -> [u8; 16]
     ensures { λ r. ⌜ r ≡ aes128 key block ⌝ }
 {
     let keys = key_expansion(key);
-    cipher(&keys, block)
+    let table = cipher_table();
+    let w = octets::block_words(block);
+    octets::block_bytes(cipher(&table, &keys, w[0], w[1], w[2], w[3]))
 }

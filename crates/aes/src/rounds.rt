@@ -1,56 +1,37 @@
-// The transformations of the state (FIPS 197, 5.1.1 to 5.1.4), and a round of them.
+// A round of the cipher (FIPS 197, 5.1), column by column: what SubBytes, ShiftRows and MixColumns make of the four bytes that a
+// column is made of is looked up in the table of the rounds.
 ghost use mathlib.Core.Path.{_≡_};
-ghost use Rattle.field.specs.SBox.{sBoxTable};
+ghost use mathlib.Core.List.{[], _∷_};
+ghost use Rattle.field.specs.SBox.{sbox};
+ghost use Rattle.field.specs.Multiples.{roundTable};
+ghost use Rattle.aes.specs.Words.{xorWord};
 ghost use Rattle.aes.specs.Rounds.{subBytes, shiftRows, mixColumn, mixColumns, addRoundKey};
 use crate::words;
+use field::entry;
+use field::substituted;
 
-// SubBytes (FIPS 197, 5.1.1): the S-box at each byte.
-fn sub_bytes(table: &[u8; 256], s: [[u8; 4]; 4]) -> [[u8; 4]; 4]
-    requires { ⌜ now table ≡ sBoxTable ⌝ }
-    ensures { λ r. ⌜ r ≡ subBytes s ⌝ }
+// The column of the bytes a, b, c and d, each substituted, then mixed, with the round key's word added.
+fn column(table: &[u32; 256], a: u8, b: u8, c: u8, d: u8, k: [u8; 4]) -> [u8; 4]
+    requires { ⌜ now table ≡ roundTable ⌝ }
+    ensures { λ r. ⌜ r ≡ xorWord (mixColumn (sbox a ∷ sbox b ∷ sbox c ∷ sbox d ∷ [])) k ⌝ }
 {
-    [
-        words::sub_word(table, s[0]),
-        words::sub_word(table, s[1]),
-        words::sub_word(table, s[2]),
-        words::sub_word(table, s[3]),
-    ]
+    let odd = words::rotated(entry(table, d) ^ words::rotated_twice(entry(table, b)));
+    let mixed = entry(table, a) ^ (words::rotated_twice(entry(table, c)) ^ odd);
+    octets::bytes_of(words::number(k) ^ mixed)
 }
 
-// ShiftRows (FIPS 197, 5.1.2): row r goes r columns to the left.
-fn shift_rows(s: [[u8; 4]; 4]) -> [[u8; 4]; 4]
-    ensures { λ r. ⌜ r ≡ shiftRows s ⌝ }
+// The same in the last round, which leaves the column unmixed.
+fn last_column(table: &[u32; 256], a: u8, b: u8, c: u8, d: u8, k: [u8; 4]) -> [u8; 4]
+    requires { ⌜ now table ≡ roundTable ⌝ }
+    ensures { λ r. ⌜ r ≡ xorWord (sbox a ∷ sbox b ∷ sbox c ∷ sbox d ∷ []) k ⌝ }
 {
-    [
-        [s[0][0], s[1][1], s[2][2], s[3][3]],
-        [s[1][0], s[2][1], s[3][2], s[0][3]],
-        [s[2][0], s[3][1], s[0][2], s[1][3]],
-        [s[3][0], s[0][1], s[1][2], s[2][3]],
-    ]
-}
-
-// MixColumns (FIPS 197, 5.1.3) on one column.
-fn mix_column(a: [u8; 4]) -> [u8; 4]
-    ensures { λ r. ⌜ r ≡ mixColumn a ⌝ }
-{
-    [
-        field::double(a[0]) ^ (field::triple(a[1]) ^ (a[2] ^ a[3])),
-        field::double(a[1]) ^ (field::triple(a[2]) ^ (a[3] ^ a[0])),
-        field::double(a[2]) ^ (field::triple(a[3]) ^ (a[0] ^ a[1])),
-        field::double(a[3]) ^ (field::triple(a[0]) ^ (a[1] ^ a[2])),
-    ]
-}
-
-// MixColumns (FIPS 197, 5.1.3).
-fn mix_columns(s: [[u8; 4]; 4]) -> [[u8; 4]; 4]
-    ensures { λ r. ⌜ r ≡ mixColumns s ⌝ }
-{
-    [
-        mix_column(s[0]),
-        mix_column(s[1]),
-        mix_column(s[2]),
-        mix_column(s[3]),
-    ]
+    let column = [
+        substituted(table, a),
+        substituted(table, b),
+        substituted(table, c),
+        substituted(table, d),
+    ];
+    words::xor_word(column, k)
 }
 
 // AddRoundKey (FIPS 197, 5.1.4).
@@ -65,18 +46,28 @@ pub fn add_round_key(s: [[u8; 4]; 4], k: [[u8; 4]; 4]) -> [[u8; 4]; 4]
     ]
 }
 
-// A round but the last (FIPS 197, 5.1).
-pub fn round(table: &[u8; 256], s: [[u8; 4]; 4], k: [[u8; 4]; 4]) -> [[u8; 4]; 4]
-    requires { ⌜ now table ≡ sBoxTable ⌝ }
+// A round but the last (FIPS 197, 5.1). Row r comes from r columns further to the right: ShiftRows.
+pub fn round(table: &[u32; 256], s: [[u8; 4]; 4], k: [[u8; 4]; 4]) -> [[u8; 4]; 4]
+    requires { ⌜ now table ≡ roundTable ⌝ }
     ensures { λ r. ⌜ r ≡ addRoundKey (mixColumns (shiftRows (subBytes s))) k ⌝ }
 {
-    add_round_key(mix_columns(shift_rows(sub_bytes(table, s))), k)
+    [
+        column(table, s[0][0], s[1][1], s[2][2], s[3][3], k[0]),
+        column(table, s[1][0], s[2][1], s[3][2], s[0][3], k[1]),
+        column(table, s[2][0], s[3][1], s[0][2], s[1][3], k[2]),
+        column(table, s[3][0], s[0][1], s[1][2], s[2][3], k[3]),
+    ]
 }
 
 // The last round, which leaves the columns unmixed (FIPS 197, 5.1).
-pub fn last_round(table: &[u8; 256], s: [[u8; 4]; 4], k: [[u8; 4]; 4]) -> [[u8; 4]; 4]
-    requires { ⌜ now table ≡ sBoxTable ⌝ }
+pub fn last_round(table: &[u32; 256], s: [[u8; 4]; 4], k: [[u8; 4]; 4]) -> [[u8; 4]; 4]
+    requires { ⌜ now table ≡ roundTable ⌝ }
     ensures { λ r. ⌜ r ≡ addRoundKey (shiftRows (subBytes s)) k ⌝ }
 {
-    add_round_key(shift_rows(sub_bytes(table, s)), k)
+    [
+        last_column(table, s[0][0], s[1][1], s[2][2], s[3][3], k[0]),
+        last_column(table, s[1][0], s[2][1], s[3][2], s[0][3], k[1]),
+        last_column(table, s[2][0], s[3][1], s[0][2], s[1][3], k[2]),
+        last_column(table, s[3][0], s[0][1], s[1][2], s[2][3], k[3]),
+    ]
 }

@@ -1,8 +1,11 @@
 // The state, four columns of four bytes (FIPS 197, 3.4).
 ghost use mathlib.Core.Path.{_≡_};
+ghost use mathlib.Core.List.{[], _∷_};
+ghost use Rattle.octets.specs.Numbers.{bytesOf};
 ghost use Rattle.aes.specs.State.{stateOf, blockOf};
+use crate::words;
 
-// The state of a block, column by column.
+// The state of sixteen bytes, column by column.
 pub fn load(b: [u8; 16]) -> [[u8; 4]; 4]
     ensures { λ r. ⌜ r ≡ stateOf b ⌝ }
 {
@@ -14,26 +17,26 @@ pub fn load(b: [u8; 16]) -> [[u8; 4]; 4]
     ]
 }
 
-// The block of a state, column by column.
-pub fn store(s: [[u8; 4]; 4]) -> [u8; 16]
-    ensures { λ r. ⌜ r ≡ blockOf s ⌝ }
+// The state of a block that is held as four words.
+pub fn load_words(a: u32, b: u32, c: u32, d: u32) -> [[u8; 4]; 4]
+    ensures { λ r. ⌜ r ≡ stateOf (bytesOf (a ∷ b ∷ c ∷ d ∷ [])) ⌝ }
 {
     [
-        s[0][0],
-        s[0][1],
-        s[0][2],
-        s[0][3],
-        s[1][0],
-        s[1][1],
-        s[1][2],
-        s[1][3],
-        s[2][0],
-        s[2][1],
-        s[2][2],
-        s[2][3],
-        s[3][0],
-        s[3][1],
-        s[3][2],
-        s[3][3],
+        octets::bytes_of(a),
+        octets::bytes_of(b),
+        octets::bytes_of(c),
+        octets::bytes_of(d),
+    ]
+}
+
+// The block of a state, as four words.
+pub fn store_words(s: [[u8; 4]; 4]) -> [u32; 4]
+    ensures { λ r. ⌜ bytesOf r ≡ blockOf s ⌝ }
+{
+    [
+        words::number(s[0]),
+        words::number(s[1]),
+        words::number(s[2]),
+        words::number(s[3]),
     ]
 }

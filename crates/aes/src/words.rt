@@ -1,7 +1,9 @@
 // Words of four bytes, and the words of the key schedule (FIPS 197, 5.2).
 ghost use mathlib.Core.Path.{_≡_};
 ghost use Prim.Native.Nat.{_+_, _*_, _≤_, _<_};
+ghost use Rattle.octets.specs.Numbers.{le};
 ghost use Rattle.field.specs.SBox.{valuesFrom, sBoxTable};
+ghost use Rattle.aes.specs.State.{byte, four};
 ghost use Rattle.aes.specs.Words.{xorWord, subWord, rotWord, powerOfX, rcon};
 ghost use Rattle.aes.specs.KeyExpansion.{nextWord};
 
@@ -30,6 +32,27 @@ pub fn rot_word(w: [u8; 4]) -> [u8; 4]
     ensures { λ r. ⌜ r ≡ rotWord w ⌝ }
 {
     [w[1], w[2], w[3], w[0]]
+}
+
+// A word as one number, its first byte lowest.
+pub fn number(w: [u8; 4]) -> u32
+    ensures { λ r. ⌜ le 4 r ≡ four (byte w) ⌝ }
+{
+    octets::word_of(w[0], w[1], w[2], w[3])
+}
+
+// RotWord of a word that is held as one number, its first byte lowest.
+pub fn rotated(w: u32) -> u32
+    ensures { λ r. ⌜ le 4 r ≡ rotWord (le 4 w) ⌝ }
+{
+    w / 0x100 + w % 0x100 * 0x100_0000
+}
+
+// RotWord of it twice.
+pub fn rotated_twice(w: u32) -> u32
+    ensures { λ r. ⌜ le 4 r ≡ rotWord (rotWord (le 4 w)) ⌝ }
+{
+    w / 0x1_0000 + w % 0x1_0000 * 0x1_0000
 }
 
 // The powers of x with which Rcon[1] to Rcon[10] begin (FIPS 197, 5.2).

@@ -12,13 +12,14 @@ use lib.ListN.{length, getD, take, drop, length-drop}
 use lib.Seq.{take-all, getD-drop}
 use Rattle.octets.specs.Strings.{tab, over}
 use Rattle.octets.specs.Refusals.{firstOf}
-use Rattle.octets.proofs.Strings.{tab-ext, tab-getD}
+use Rattle.octets.proofs.Strings.{tab-ext, tab-getD, take-over}
 use Rattle.octets.proofs.Conditions.{none}
 use Rattle.aes.specs.Cipher.{cipher, aes128}
 use Rattle.aes.proofs.Block.{cipher-aes128}
 use Rattle.ccm.specs.Counters.{counterMode}
 use Rattle.ccm.specs.Generation.{encryptedTag, generationEncryption}
 use Rattle.ccm.specs.Verification.{Verified, tagValid, decryptionVerification}
+use Rattle.ccm.proofs.Opening.{length-counterMode}
 use Rattle.ccm.specs.Operations.{micLength, sealedBy, openedBy, expanded, Under, sealRefusal, givenIf}
 
 -- the cipher under expanded round keys is AES-128
@@ -58,12 +59,17 @@ module _ (key : List ℕ) (w : List (List (List ℕ))) (nonce a p : List ℕ) (e
   unfolding generationEncryption
   tag-given r h = h ∙ ap (λ (f : List ℕ → List ℕ). encryptedTag micLength f nonce a p) (cipher-is key w e)
 
-  pub ciphertext-given : (c out o : List ℕ) → take (length p) c ≡ counterMode (cipher w) nonce p → o ≡ over out 0 (take (length p) c)
-      → o ≡ over out 0 (sealedBy micLength key nonce a p .ciphertext)
+  pub ciphertext-given : (out o : List ℕ) → o ≡ over out 0 (counterMode (cipher w) nonce p) → o ≡ over out 0 (sealedBy micLength key nonce a p .ciphertext)
   unfolding generationEncryption
-  ciphertext-given c out o h g = g ∙ ap (over out 0) (h ∙ ap (λ (f : List ℕ → List ℕ). counterMode f nonce p) (cipher-is key w e))
+  ciphertext-given out o h = h ∙ ap (λ (f : List ℕ → List ℕ). over out 0 (counterMode f nonce p)) (cipher-is key w e)
 
 -- ---- opening, under the round keys w
+
+-- what counter mode left at the front of an array
+pub mode-taken : (ciph : List ℕ → List ℕ) (nonce d o p : List ℕ) → p ≡ over o 0 (counterMode ciph nonce d) → take (length d) p ≡ counterMode ciph nonce d
+mode-taken ciph nonce d o p h =
+    ap (take (length d)) h ∙ ap (λ (n : ℕ). take n (over o 0 (counterMode ciph nonce d))) (sym (length-counterMode ciph nonce d))
+    ∙ take-over o (counterMode ciph nonce d)
 
 module _ (w : List (List (List ℕ))) (nonce a c mic p : List ℕ) (h : p ≡ counterMode (cipher w) nonce c) where
   -- the payload is the one of the definition

@@ -1,8 +1,10 @@
 // SP 800-38C, A.2: the blocks of the formatted input.
 
 ghost use mathlib.Core.Path.{_≡_};
-ghost use Prim.Native.Nat.{_≤_, _<_};
+ghost use Prim.Native.Nat.{_+_, _≤_, _<_};
 ghost use lib.ListN.{length, getD};
+ghost use Rattle.octets.specs.Strings.{tab};
+ghost use Rattle.octets.specs.Numbers.{bytesOf};
 ghost use Rattle.ccm.specs.Formatting.{headed, flags, firstBlock, encodedData, blocksOf, blockAt, lastBlock, formatted};
 
 // A.2.1: the flags of B_0, for a tag of t bytes and a bytes of associated data.
@@ -18,52 +20,24 @@ fn flags(t: usize, a: usize) -> u8
 }
 
 // A.2.1: B_0, for a bytes of associated data and p bytes of payload.
-pub fn first_block(t: usize, nonce: [u8; 13], a: usize, p: usize) -> [u8; 16]
+fn first_block(t: usize, nonce: [u8; 13], a: usize, p: usize) -> [u32; 4]
     requires { ⌜ (2 ≤ t) × (t ≤ 16) ⌝ }
-    ensures { λ r. ⌜ r ≡ firstBlock t nonce a p ⌝ }
+    ensures { λ r. ⌜ bytesOf r ≡ firstBlock t nonce a p ⌝ }
 {
     with_nonce(flags(t, a), nonce, p)
 }
 
 // A block of a first byte, the nonce and a two-byte number, most significant first.
-pub fn with_nonce(first: u8, nonce: [u8; 13], x: usize) -> [u8; 16]
-    ensures { λ r. ⌜ r ≡ headed first nonce x ⌝ }
+pub fn with_nonce(first: u8, nonce: [u8; 13], x: usize) -> [u32; 4]
+    ensures { λ r. ⌜ bytesOf r ≡ headed first nonce x ⌝ }
 {
+    let n = nonce;
     [
-        first,
-        nonce[0],
-        nonce[1],
-        nonce[2],
-        nonce[3],
-        nonce[4],
-        nonce[5],
-        nonce[6],
-        nonce[7],
-        nonce[8],
-        nonce[9],
-        nonce[10],
-        nonce[11],
-        nonce[12],
-        (x / 256 % 256) as u8,
-        (x % 256) as u8,
+        octets::word_of(first, n[0], n[1], n[2]),
+        octets::word_of(n[3], n[4], n[5], n[6]),
+        octets::word_of(n[7], n[8], n[9], n[10]),
+        octets::word_of(n[11], n[12], (x / 256 % 256) as u8, (x % 256) as u8),
     ]
-}
-
-// A.2.2: byte i of the associated data behind its two-byte length; 0 past the end, and where there is no data.
-fn data_byte(auth: &[u8], i: usize) -> u8
-    ensures { λ r. ⌜ r ≡ getD (encodedData (now (auth .entry))) i 0 ⌝ }
-{
-    let n = auth.len();
-    if n == 0 {
-        return 0;
-    }
-    if i == 0 {
-        return (n / 256 % 256) as u8;
-    }
-    if i == 1 {
-        return (n % 256) as u8;
-    }
-    octets::byte_at(auth, i - 2)
 }
 
 // How many blocks n bytes fill.
@@ -94,38 +68,54 @@ pub fn last_block(auth: &[u8], payload: &[u8]) -> usize
     data_blocks(auth) + blocks_of(payload.len())
 }
 
-// Block i of the associated data behind its length.
-fn data_block(auth: &[u8], i: usize) -> [u8; 16]
-    requires { ⌜ i < 65536 ⌝ }
-    ensures { λ r. ⌜ r ≡ blockAt (encodedData (now (auth .entry))) i ⌝ }
+// The block of the sixteen bytes from place p on, 0 past the end.
+pub fn block_at(s: &[u8], p: usize) -> [u32; 4]
+    requires { ⌜ p < 1048576 ⌝ }
+    ensures { λ r. ⌜ bytesOf r ≡ tab (λ j. getD (now (s .entry)) (p + j) 0) 16 ⌝ }
 {
-    let mut b = [0u8; 16];
-    let mut j = 0;
-    while j < 16 {
-        b[j] = data_byte(auth, i * 16 + j);
-        j += 1;
-    }
-    b
+    [
+        octets::read_u32(s, p),
+        octets::read_u32(s, p + 4),
+        octets::read_u32(s, p + 8),
+        octets::read_u32(s, p + 12),
+    ]
 }
 
-// A.2.3: block i of the payload.
-fn payload_block(payload: &[u8], i: usize) -> [u8; 16]
-    requires { ⌜ i < 65536 ⌝ }
-    ensures { λ r. ⌜ r ≡ blockAt (now (payload .entry)) i ⌝ }
+// A.2.2: the first block of the associated data, its length in two bytes in front; zeros where there is no data.
+fn first_data_block(auth: &[u8]) -> [u32; 4]
+    ensures { λ r. ⌜ bytesOf r ≡ blockAt (encodedData (now (auth .entry))) 0 ⌝ }
 {
-    let mut b = [0u8; 16];
-    let mut j = 0;
-    while j < 16 {
-        b[j] = octets::byte_at(payload, i * 16 + j);
-        j += 1;
+    let n = auth.len();
+    let high = (n / 256 % 256) as u8;
+    let low = (n % 256) as u8;
+    [
+        octets::word_of(
+            high,
+            low,
+            octets::byte_at(auth, 0),
+            octets::byte_at(auth, 1),
+        ),
+        octets::read_u32(auth, 2),
+        octets::read_u32(auth, 6),
+        octets::read_u32(auth, 10),
+    ]
+}
+
+// Block i of the associated data behind its length.
+fn data_block(auth: &[u8], i: usize) -> [u32; 4]
+    requires { ⌜ i < 65536 ⌝ }
+    ensures { λ r. ⌜ bytesOf r ≡ blockAt (encodedData (now (auth .entry))) i ⌝ }
+{
+    if i == 0 {
+        return first_data_block(auth);
     }
-    b
+    block_at(auth, i * 16 - 2)
 }
 
 // B_i of the formatted input.
-pub fn formatted_block(t: usize, nonce: [u8; 13], auth: &[u8], payload: &[u8], i: usize) -> [u8; 16]
+pub fn formatted_block(t: usize, nonce: [u8; 13], auth: &[u8], payload: &[u8], i: usize) -> [u32; 4]
     requires { ⌜ (2 ≤ t) × (t ≤ 16) × (length (now auth) < 65000) × (length (now payload) < 65000) × (i < 65536) ⌝ }
-    ensures { λ r. ⌜ r ≡ formatted t nonce (now (auth .entry)) (now (payload .entry)) i ⌝ }
+    ensures { λ r. ⌜ bytesOf r ≡ formatted t nonce (now (auth .entry)) (now (payload .entry)) i ⌝ }
 {
     if i == 0 {
         return first_block(t, nonce, auth.len(), payload.len());
@@ -135,5 +125,5 @@ pub fn formatted_block(t: usize, nonce: [u8; 13], auth: &[u8], payload: &[u8], i
     if k < m {
         return data_block(auth, k);
     }
-    payload_block(payload, k - m)
+    block_at(payload, (k - m) * 16)
 }

@@ -6,7 +6,9 @@ ghost use Prim.Native.Nat.{_≤_, _<_};
 ghost use lib.Dec.{eqb};
 ghost use lib.ListN.{length};
 ghost use Rattle.octets.specs.Strings.{xored};
+ghost use Rattle.octets.specs.Numbers.{bytesOf};
 ghost use Rattle.aes.specs.Cipher.{cipher};
+ghost use Rattle.aes.specs.Table.{cipherTable};
 ghost use Rattle.ccm.specs.Mac.{macChain};
 ghost use Rattle.ccm.specs.Generation.{encryptedTag};
 ghost use Rattle.ccm.specs.Verification.{sameBytes, tagValid};
@@ -15,39 +17,40 @@ use crate::MIC_LENGTH;
 use crate::counter;
 use crate::formatting;
 
-// Two blocks, byte by byte.
-fn xor_block(a: [u8; 16], b: [u8; 16]) -> [u8; 16]
-    ensures { λ r. ⌜ r ≡ xored 16 a b ⌝ }
+// Y_i of B_i and Y_(i - 1): the cipher of their exclusive or.
+fn chained(table: &[u32; 256], keys: &[[[u8; 4]; 4]; 11], b: [u32; 4], y: [u32; 4]) -> [u32; 4]
+    requires { ⌜ now table ≡ cipherTable ⌝ }
+    ensures { λ r. ⌜ bytesOf r ≡ cipher (now (keys .entry)) (xored 16 (bytesOf b) (bytesOf y)) ⌝ }
 {
-    let mut x = [0u8; 16];
-    let mut i = 0;
-    while i < 16 {
-        x[i] = a[i] ^ b[i];
-        i += 1;
-    }
-    x
+    aes::cipher(
+        table,
+        keys,
+        b[0] ^ y[0],
+        b[1] ^ y[1],
+        b[2] ^ y[2],
+        b[3] ^ y[3],
+    )
 }
 
 // Y_r: the chain over the whole formatted input.
 pub fn cbc_mac(
+    table: &[u32; 256],
     keys: &[[[u8; 4]; 4]; 11],
     t: usize,
     nonce: [u8; 13],
     auth: &[u8],
     payload: &[u8],
-) -> [u8; 16]
-    requires { ⌜ (2 ≤ t) × (t ≤ 16) × (length (now auth) < 65000) × (length (now payload) < 65000) ⌝ }
-    ensures { λ r. ⌜ r ≡ macChain t (cipher (now (keys .entry))) nonce (now (auth .entry)) (now (payload .entry)) .block ⌝ }
+) -> [u32; 4]
+    requires { ⌜ (now table ≡ cipherTable) × (2 ≤ t) × (t ≤ 16) × (length (now auth) < 65000) × (length (now payload) < 65000) ⌝ }
+    ensures { λ r. ⌜ bytesOf r ≡ macChain t (cipher (now (keys .entry))) nonce (now (auth .entry)) (now (payload .entry)) .block ⌝ }
 {
     let last = formatting::last_block(auth, payload);
-    let mut y = aes::cipher(
-        keys,
-        formatting::formatted_block(t, nonce, auth, payload, 0),
-    );
+    let first = formatting::formatted_block(t, nonce, auth, payload, 0);
+    let mut y = aes::cipher(table, keys, first[0], first[1], first[2], first[3]);
     let mut i = 0;
     while i < last {
         let b = formatting::formatted_block(t, nonce, auth, payload, i + 1);
-        let next = aes::cipher(keys, xor_block(b, y));
+        let next = chained(table, keys, b, y);
         y = next;
         i += 1;
     }
@@ -56,17 +59,18 @@ pub fn cbc_mac(
 
 // The tag of the payload, masked by S_0.
 pub fn encrypted_tag(
+    table: &[u32; 256],
     keys: &[[[u8; 4]; 4]; 11],
     nonce: [u8; 13],
     auth: &[u8],
     payload: &[u8],
 ) -> [u8; 4]
-    requires { ⌜ (length (now auth) < 65000) × (length (now payload) < 65000) ⌝ }
+    requires { ⌜ (now table ≡ cipherTable) × (length (now auth) < 65000) × (length (now payload) < 65000) ⌝ }
     ensures { λ r. ⌜ r ≡ encryptedTag micLength (cipher (now (keys .entry))) nonce (now (auth .entry)) (now (payload .entry)) ⌝ }
 {
-    let y = cbc_mac(keys, MIC_LENGTH, nonce, auth, payload);
-    let s = counter::key_block(keys, nonce, 0);
-    [y[0] ^ s[0], y[1] ^ s[1], y[2] ^ s[2], y[3] ^ s[3]]
+    let y = cbc_mac(table, keys, MIC_LENGTH, nonce, auth, payload);
+    let s = counter::key_block(table, keys, nonce, 0);
+    octets::bytes_of(y[0] ^ s[0])
 }
 
 // Whether all was the same so far and these two bytes are; there is no branch on them.
@@ -91,17 +95,20 @@ fn same_bytes(u: &[u8], v: &[u8], n: usize) -> bool
 
 // Whether the MIC, unmasked by S_0, is the tag of the payload.
 pub fn tag_valid(
+    table: &[u32; 256],
     keys: &[[[u8; 4]; 4]; 11],
     nonce: [u8; 13],
     auth: &[u8],
     payload: &[u8],
     mic: [u8; 4],
 ) -> bool
-    requires { ⌜ (length (now auth) < 65000) × (length (now payload) < 65000) ⌝ }
+    requires { ⌜ (now table ≡ cipherTable) × (length (now auth) < 65000) × (length (now payload) < 65000) ⌝ }
     ensures { λ r. ⌜ r ≡ tagValid micLength (cipher (now (keys .entry))) nonce (now (auth .entry)) (now (payload .entry)) mic ⌝ }
 {
-    let y = cbc_mac(keys, MIC_LENGTH, nonce, auth, payload);
-    let s = counter::key_block(keys, nonce, 0);
-    let t = [mic[0] ^ s[0], mic[1] ^ s[1], mic[2] ^ s[2], mic[3] ^ s[3]];
-    same_bytes(&t, &y, MIC_LENGTH)
+    let y = cbc_mac(table, keys, MIC_LENGTH, nonce, auth, payload);
+    let s = counter::key_block(table, keys, nonce, 0);
+    let received = octets::word_of(mic[0], mic[1], mic[2], mic[3]);
+    let t = octets::bytes_of(received ^ s[0]);
+    let computed = octets::bytes_of(y[0]);
+    same_bytes(&t, &computed, MIC_LENGTH)
 }

@@ -1,20 +1,12 @@
--- The laws of the field that turn on its 256 elements: the inverse is one, with 0 sent to 0, and the products with {02} and {03} by shifts. Each is computed
--- at every byte.
+-- The laws of the field that turn on its 256 elements: the inverse is one, with 0 sent to 0; and what the table of the rounds rests on, that the
+-- multiples of a substitute are bytes and its double is its product with {02}. Each is computed at every byte.
 -- Assumes nothing.
 use mathlib.Core.Path.{_≡_, refl}
-use Prim.Native.Nat.{ℕ, zero, suc, _*_, _/_, _%_, _<_}
+use Prim.Native.Nat.{ℕ, zero, suc, _<_}
 use native.Mathlib.Nat.{le-of-suc-le-suc, not-suc-le-zero}
-use Rattle.field.specs.Field.{_⊕_, xtime, productOfBits, product, bitPower, power, inverse}
-use Rattle.field.proofs.Computed.{same-below}
-
--- 4.2.1: a shift, and {1b} where a bit was shifted out
-pub double-by-shift : (x : ℕ) → x < 256 → (x / 128 * 0x1b) ⊕ (x * 2 % 256) ≡ product 2 x
-unfolding xtime productOfBits product
-double-by-shift = same-below (λ x. (x / 128 * 0x1b) ⊕ (x * 2 % 256)) (product 2) 256 tt
-
-pub triple-by-double : (x : ℕ) → x < 256 → x ⊕ product 2 x ≡ product 3 x
-unfolding xtime productOfBits product
-triple-by-double = same-below (λ x. x ⊕ product 2 x) (product 3) 256 tt
+use Rattle.field.specs.Field.{xtime, productOfBits, product, bitPower, power, inverse}
+use Rattle.field.specs.SBox.{bit, affineBit, ofBits, affine, sbox}
+use Rattle.field.proofs.Computed.{same-below, bounded-below}
 
 -- 4.2: what the inverse of a byte is, but for 0
 pub product-inverse : (x : ℕ) → 0 < x → x < 256 → product x (inverse x) ≡ 1
@@ -26,3 +18,21 @@ product-inverse (suc y) z h = same-below (λ y. product (suc y) (inverse (suc y)
 pub inverse-zero : inverse 0 ≡ 0
 unfolding xtime productOfBits product bitPower power inverse
 inverse-zero = refl
+
+-- 5.1.1: a byte is substituted by a byte
+pub sbox-byte : (x : ℕ) → x < 256 → sbox x < 256
+unfolding xtime productOfBits product bitPower power inverse bit affineBit ofBits affine sbox
+sbox-byte = bounded-below sbox 256 256 tt
+
+-- 4.2.1: xtime is the product with {02}, and gives a byte
+pub double-product : (y : ℕ) → y < 256 → xtime y ≡ product 2 y
+unfolding xtime productOfBits product
+double-product = same-below xtime (product 2) 256 tt
+
+pub double-byte : (y : ℕ) → y < 256 → xtime y < 256
+unfolding xtime
+double-byte = bounded-below xtime 256 256 tt
+
+pub triple-byte : (y : ℕ) → y < 256 → product 3 y < 256
+unfolding xtime productOfBits product
+triple-byte = bounded-below (product 3) 256 256 tt

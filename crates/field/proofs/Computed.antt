@@ -5,7 +5,7 @@ use mathlib.Core.Bool.{Bool, true, false, _&&_}
 use mathlib.Core.Logic.{⊎-elim}
 use Prim.Native.Nat.{ℕ, zero, suc, _+_, _<_}
 use native.Mathlib.Nat.{le-of-suc-le-suc, not-suc-le-zero, eq-or-lt-of-le, add-zero, zero-add, add-suc, suc-add}
-use lib.Dec.{T, eqb, eqb→eq}
+use lib.Dec.{T, eqb, eqb→eq, ltb, ltb→lt}
 use lib.ListN.{getD}
 use Rattle.field.specs.SBox.{valuesFrom}
 
@@ -31,6 +31,10 @@ each-below p (suc n) t x h =
 -- two functions that the test finds equal below n
 pub same-below : (f g : ℕ → ℕ) (n : ℕ) → T (allBelow (λ (x : ℕ). eqb (f x) (g x)) n) → (x : ℕ) → x < n → f x ≡ g x
 same-below f g n t x h = eqb→eq (f x) (g x) (each-below (λ (y : ℕ). eqb (f y) (g y)) n t x h)
+
+-- a function whose values the test finds below m
+pub bounded-below : (f : ℕ → ℕ) (m n : ℕ) → T (allBelow (λ (x : ℕ). ltb (f x) m) n) → (x : ℕ) → x < n → f x < m
+bounded-below f m n t x h = ltb→lt (f x) m (each-below (λ (y : ℕ). ltb (f y) m) n t x h)
 
 getD-valuesFrom : (f : ℕ → ℕ) (k n i : ℕ) → i < n → getD (valuesFrom f k n) i 0 ≡ f (k + i)
 unfolding valuesFrom

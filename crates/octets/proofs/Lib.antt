@@ -2,6 +2,7 @@
 pub mod Strings
 pub mod Xor
 pub mod Numbers
+pub mod Words
 pub mod Fields
 mod Halves
 pub mod Conditions

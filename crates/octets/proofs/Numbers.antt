@@ -1,7 +1,7 @@
 -- Numbers of n bytes, least significant byte first: writing and reading undo each other, and a number is made of its
 -- lower and its upper bytes. All by induction on n.
 -- Assumes nothing.
-use mathlib.Core.Path.{_≡_, refl, ap, _∙_}
+use mathlib.Core.Path.{_≡_, refl, sym, ap, _∙_}
 use mathlib.Core.List.{List, [], _∷_, _++_}
 use Prim.Native.Nat.{ℕ, zero, suc, _+_, _*_, _/_, _%_, _^_, _≤_, _<_}
 use native.Mathlib.Nat.{mod-lt, mod-add-div', pow-suc, pow-zero, suc-add, zero-add, add-zero, add-assoc, add-mul, mul-assoc, mul-comm, div-div-eq-div-mul, div-lt-iff-lt-mul, div-one, mul-one}
@@ -10,8 +10,9 @@ use native.Mathlib.Omega.{arith}
 use lib.ListN.{length, getD, take, drop, List·getD-eq-default}
 use lib.Seq.{getD-append-add, drop-cons}
 use lib.Arith.{digits-lt, mod-mul}
-use Rattle.octets.specs.Strings.{Below}
+use Rattle.octets.specs.Strings.{tab, Below}
 use Rattle.octets.specs.Numbers.{le, leAt}
+use Rattle.octets.proofs.Strings.{tab-cons, tab-ext}
 
 pow-pos : (n : ℕ) → 0 < 256 ^ n
 pow-pos zero = omega arith
@@ -51,6 +52,14 @@ leAt-same (suc n) s t i j h =
     leAt-same n s t (i + 1) (j + 1) (λ k l. rw (add-assoc i 1 k, add-assoc j 1 k, one-add) (h (suc k) (omega arith))) in
     λ m. first m + rest m * 256
 
+-- the number of four bytes that stand one behind the other
+pub leAt-four : (s : List ℕ) (i : ℕ) → leAt 4 (getD s i 0 ∷ getD s (i + 1) 0 ∷ getD s (i + 2) 0 ∷ getD s (i + 3) 0 ∷ []) 0 ≡ leAt 4 s i
+unfolding leAt
+leAt-four s i =
+    let third : i + 2 ≡ i + 1 + 1 = omega arith in
+    let fourth : i + 3 ≡ i + 1 + 1 + 1 = omega arith in
+    rw (third, fourth)
+
 -- behind a front of known length
 pub leAt-behind : (n : ℕ) (p s : List ℕ) (i : ℕ) → leAt n (p ++ s) (length p + i) ≡ leAt n s i
 leAt-behind n p s i = leAt-same n (p ++ s) s (length p + i) i (λ k l. rw (add-assoc (length p) i k) (getD-append-add p s (i + k) 0))
@@ -74,6 +83,30 @@ le-leAt (suc n) s i b h =
     let high : (getD s i 0 + leAt n s (i + 1) * 256) / 256 ≡ leAt n s (i + 1) = omega arith in
     rw (drop-cons s i 0 (omega arith), ← add-one i)
     (λ k. low k ∷ (ap (le n) high ∙ le-leAt n s (i + 1) b (omega arith)) k)
+
+-- the same of the bytes from place i on, those past the end being 0
+pub le-leAt-tab : (n : ℕ) (s : List ℕ) (i : ℕ) → Below 256 s → le n (leAt n s i) ≡ tab (λ (k : ℕ). getD s (i + k) 0) n
+unfolding leAt le tab
+le-leAt-tab zero s i b = refl
+le-leAt-tab (suc n) s i b =
+    let small : getD s i 0 < 256 = b i in
+    let low : (getD s i 0 + leAt n s (i + 1) * 256) % 256 ≡ getD s i 0 = omega arith in
+    let high : (getD s i 0 + leAt n s (i + 1) * 256) / 256 ≡ leAt n s (i + 1) = omega arith in
+    (λ k. low k ∷ (ap (le n) high ∙ le-leAt-tab n s (i + 1) b) k)
+    ∙ (λ k. ap (λ (j : ℕ). getD s j 0) (sym (add-zero i)) k ∷ tab-ext (λ (j : ℕ). getD s (i + 1 + j) 0) (λ (j : ℕ). getD s (i + suc j) 0) n (λ j l. rw (add-assoc i 1 j, one-add) refl) k)
+    ∙ sym (tab-cons (λ (k : ℕ). getD s (i + k) 0) n)
+
+-- four bytes
+pub le-leAt-four : (a b c d : ℕ) → a < 256 → b < 256 → c < 256 → d < 256 → le 4 (leAt 4 (a ∷ b ∷ c ∷ d ∷ []) 0) ≡ a ∷ b ∷ c ∷ d ∷ []
+unfolding tab
+le-leAt-four a b c d ha hb hc hd = le-leAt-tab 4 (a ∷ b ∷ c ∷ d ∷ []) 0 bytes
+  where
+    bytes : Below 256 (a ∷ b ∷ c ∷ d ∷ [])
+    bytes zero = ha
+    bytes (suc zero) = hb
+    bytes (suc (suc zero)) = hc
+    bytes (suc (suc (suc zero))) = hd
+    bytes (suc (suc (suc (suc i)))) = omega arith
 
 -- the lower m bytes and the n above them
 pub le-add : (m n x : ℕ) → le (m + n) x ≡ le m x ++ le n (x / 256 ^ m)

@@ -44,6 +44,12 @@ unfolding tab
 tab-getD s d zero h = refl
 tab-getD s d (suc n) h = rw (tab-getD s d n (omega arith)) (sym (take-suc s n d h))
 
+-- its first entry and the rest
+pub tab-cons : {A : Type 0} (f : ℕ → A) (n : ℕ) → tab f (suc n) ≡ f 0 ∷ tab (λ (i : ℕ). f (suc i)) n
+unfolding tab
+tab-cons f zero = refl
+tab-cons f (suc n) = ap (λ (l : List _). l ++ (f (suc n) ∷ [])) (tab-cons f n)
+
 -- a loop that fills from the front: one more entry stored
 pub fill-more : {A : Type 0} (f : ℕ → A) (n : ℕ) (b : List A) → n < length b
     → set (tab f n ++ drop n b) n (f n) ≡ tab f (n + 1) ++ drop (n + 1) b

@@ -1,13 +1,13 @@
 -- Exclusive or undone: xor with the same number twice is the identity, for numbers by their binary digits and so for
 -- byte strings by index.
 -- Assumes nothing.
-use mathlib.Core.Path.{_≡_, refl, ap, _∙_}
+use mathlib.Core.Path.{_≡_, refl, sym, ap, _∙_}
 use mathlib.Core.List.{List}
 use Prim.Native.Nat.{ℕ, zero, suc, _+_, _*_, _/_, _%_, _≤_, _<_}
 use native.Mathlib.Nat.{mod-lt, div-add-mod'}
 use native.Mathlib.Omega.{arith}
 use lib.Arith.{bin-ind}
-use lib.Bits.{bitXor, differ, xor-step, xor-zero-l, xor-self}
+use lib.Bits.{bitXor, differ, xor-step, xor-zero-l, xor-self, xor-comm, xor-shr}
 use lib.ListN.{length, getD, take}
 use Rattle.octets.specs.Strings.{xored}
 use Rattle.octets.proofs.Strings.{length-tab, getD-tab, tab-ext, tab-getD}
@@ -46,6 +46,42 @@ xor-twice a =
     ∙ ap (λ (x : ℕ). n / 2 * 2 + x) (differ-twice (n % 2) (b % 2) (mod-lt n (omega arith)) (mod-lt b (omega arith)))
     ∙ div-add-mod' n 2)
     a
+
+differ-assoc : (x y z : ℕ) → x < 2 → y < 2 → z < 2 → differ (differ x y) z ≡ differ x (differ y z)
+differ-assoc zero y z hx hy hz = refl
+differ-assoc (suc zero) zero z hx hy hz = refl
+differ-assoc (suc zero) (suc zero) zero hx hy hz = refl
+differ-assoc (suc zero) (suc zero) (suc zero) hx hy hz = refl
+differ-assoc (suc zero) (suc zero) (suc (suc z)) hx hy hz = absurd (omega arith)
+differ-assoc (suc zero) (suc (suc y)) z hx hy hz = absurd (omega arith)
+differ-assoc (suc (suc x)) y z hx hy hz = absurd (omega arith)
+
+-- the digits of an exclusive or
+xor-half : (a b : ℕ) → bitXor a b / 2 ≡ bitXor (a / 2) (b / 2)
+xor-half a b = xor-shr a b 1
+
+xor-odd : (a b : ℕ) → bitXor a b % 2 ≡ differ (a % 2) (b % 2)
+xor-odd a b =
+    let d : ℕ = differ (a % 2) (b % 2) in
+    let small : d < 2 = differ-lt (a % 2) (b % 2) (mod-lt a (omega arith)) (mod-lt b (omega arith)) in
+    let q : ℕ = bitXor (a / 2) (b / 2) in
+    let odd : (q * 2 + d) % 2 ≡ d = omega arith in
+    ap (λ (x : ℕ). x % 2) (xor-step a b) ∙ odd
+
+pub xor-assoc : (a b c : ℕ) → bitXor (bitXor a b) c ≡ bitXor a (bitXor b c)
+xor-assoc a =
+    bin-ind (λ (n : ℕ). (b c : ℕ) → bitXor (bitXor n b) c ≡ bitXor n (bitXor b c)) (λ b c. refl)
+    (λ n ih b c.
+    xor-step (bitXor n b) c
+    ∙ (λ i. bitXor (xor-half n b i) (c / 2) * 2 + differ (xor-odd n b i) (c % 2))
+    ∙ (λ i. ih (b / 2) (c / 2) i * 2 + differ-assoc (n % 2) (b % 2) (c % 2) (mod-lt n (omega arith)) (mod-lt b (omega arith)) (mod-lt c (omega arith)) i)
+    ∙ (λ i. bitXor (n / 2) (sym (xor-half b c) i) * 2 + differ (n % 2) (sym (xor-odd b c) i))
+    ∙ sym (xor-step n (bitXor b c)))
+    a
+
+-- the first two of three exchanged
+pub xor-swap : (a b c : ℕ) → bitXor a (bitXor b c) ≡ bitXor b (bitXor a c)
+xor-swap a b c = sym (xor-assoc a b c) ∙ ap (λ (x : ℕ). bitXor x c) (xor-comm a b) ∙ xor-assoc b a c
 
 pub length-xored : (n : ℕ) (a s : List ℕ) → length (xored n a s) ≡ n
 unfolding xored

@@ -1,10 +1,11 @@
 // Byte strings: reading with 0 past the end, copying, and numbers least significant byte first.
 
 ghost use mathlib.Core.Path.{_≡_};
+ghost use mathlib.Core.List.{[], _∷_};
 ghost use Prim.Native.Nat.{_+_, _*_, _≤_, _<_};
 ghost use lib.ListN.{length, getD};
 ghost use Rattle.octets.specs.Strings.{over};
-ghost use Rattle.octets.specs.Numbers.{le, leAt};
+ghost use Rattle.octets.specs.Numbers.{le, leAt, bytesOf};
 ghost use Rattle.octets.specs.Fields.{bit};
 
 pub mod refusals;
@@ -36,6 +37,66 @@ pub fn byte_at(s: &[u8], i: usize) -> u8
     if i < s.len() { s[i] } else { 0 }
 }
 
+// The word of four bytes, least significant first.
+pub fn word_of(a: u8, b: u8, c: u8, d: u8) -> u32
+    ensures number { λ r. ⌜ r ≡ leAt 4 (a ∷ b ∷ c ∷ d ∷ []) 0 ⌝ }
+    ensures bytes { λ r. ⌜ le 4 r ≡ a ∷ b ∷ c ∷ d ∷ [] ⌝ }
+{
+    (a as u32) + (b as u32) * 0x100 + (c as u32) * 0x1_0000 + (d as u32) * 0x100_0000
+}
+
+// The four bytes of a word, least significant first.
+pub fn bytes_of(w: u32) -> [u8; 4]
+    ensures { λ r. ⌜ r ≡ le 4 w ⌝ }
+{
+    [
+        (w % 256) as u8,
+        (w / 0x100 % 256) as u8,
+        (w / 0x1_0000 % 256) as u8,
+        (w / 0x100_0000) as u8,
+    ]
+}
+
+// The four words of sixteen bytes.
+pub fn block_words(b: [u8; 16]) -> [u32; 4]
+    ensures { λ r. ⌜ bytesOf r ≡ b ⌝ }
+{
+    [
+        word_of(b[0], b[1], b[2], b[3]),
+        word_of(b[4], b[5], b[6], b[7]),
+        word_of(b[8], b[9], b[10], b[11]),
+        word_of(b[12], b[13], b[14], b[15]),
+    ]
+}
+
+// The sixteen bytes of four words.
+pub fn block_bytes(w: [u32; 4]) -> [u8; 16]
+    ensures { λ r. ⌜ r ≡ bytesOf w ⌝ }
+{
+    let a = bytes_of(w[0]);
+    let b = bytes_of(w[1]);
+    let c = bytes_of(w[2]);
+    let d = bytes_of(w[3]);
+    [
+        a[0],
+        a[1],
+        a[2],
+        a[3],
+        b[0],
+        b[1],
+        b[2],
+        b[3],
+        c[0],
+        c[1],
+        c[2],
+        c[3],
+        d[0],
+        d[1],
+        d[2],
+        d[3],
+    ]
+}
+
 // The 16-bit number at place i, least significant byte first; bytes past the end count 0.
 pub fn read_u16(s: &[u8], i: usize) -> u16
     ensures { λ r. ⌜ r ≡ leAt 2 (now (s .entry)) i ⌝ }
@@ -54,6 +115,9 @@ pub fn read_u32(s: &[u8], i: usize) -> u32
 {
     if s.len() <= i {
         return 0;
+    }
+    if 4 <= s.len() - i {
+        return word_of(s[i], s[i + 1], s[i + 2], s[i + 3]);
     }
     let low = read_u16(s, i);
     let high = read_u16(s, i + 2);

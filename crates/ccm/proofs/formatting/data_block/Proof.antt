@@ -1,45 +1,18 @@
--- `ccm::formatting::data_block` meets its contract. The loop's invariant: the first j bytes are the block's.
--- The measure is what is left of the sixteen. Assumes nothing.
-use mathlib.Core.Path.{_≡_, refl}
-use mathlib.Core.List.{_++_}
-use Prim.Native.Nat.{ℕ, _+_, _-_, _*_, _≤_}
-use lib.ListN.{getD, drop}
-use native.Mathlib.Omega.{arith}
+-- `ccm::formatting::data_block` meets its contract: the block with the length, or one behind it. Assumes nothing.
 use borrow.Author.Needs.{needs}
+use mathlib.Core.Path.{sym, ap, _∙_}
 use Rattle.ccm.proofs.formatting.data_block.Statement.{statement}
 use Rattle.ccm.proofs.formatting.data_block.Tie as tie
-use Rattle.octets.specs.Strings.{tab}
-use Rattle.octets.proofs.Strings.{fill-more}
 use Rattle.ccm.specs.Formatting.{encodedData, blockAt}
+use Rattle.ccm.proofs.Blocks.{data-later}
 
-abbrev Inv-loop : tie.InvT-loop
-Inv-loop auth i b₀ j₀ b j = (j ≤ 16) × (b ≡ tab (λ (k : ℕ). getD (encodedData auth) (i * 16 + k) 0) j ++ drop j b₀)
+returns : tie.Need-returns
+returns c = c .first-data-block .ensures ∙ ap (blockAt (encodedData _)) (sym (c .before .if1 .taken))
 
-abbrev μ-loop : tie.MeasureT-loop
-μ-loop auth i b₀ j₀ b j = 16 - j
-
-loop-holds : tie.Need-loop-holds Inv-loop μ-loop
-unfolding tab
-loop-holds c = (omega arith, refl)
-
-array-write-b : tie.Need-array-write-b Inv-loop μ-loop
-array-write-b c = omega arith
-
-loop-again : tie.Need-loop-again Inv-loop μ-loop
-loop-again c =
-    let a = c .before .before .before .before .args in
-    let l = c .before .before .loop in
-    (omega arith, rw (l .inv .1, c .data-byte .ensures) (fill-more (λ (k : ℕ). getD (encodedData (a .auth .now)) (a .i * 16 + k) 0) (l .j) _ (c .before .loop-test .taken)))
-
-returns : tie.Need-returns Inv-loop μ-loop
-unfolding blockAt tab
-returns c =
-    let l = c .before .loop in
-    let e : l .j ≡ 16 = omega (arith, c .loop-test .left) in
-    rw (l .inv .1, e) refl
+returns-2 : tie.Need-returns-2
+returns-2 c = c .block-at .ensures ∙ data-later _ _ (c .before .if1 .left)
 
 pub data-block-spec : {M : Type 1} → statement M
 data-block-spec =
     tie.close
-    (tie.spec Inv-loop μ-loop loop-holds (λ c. search needs) (λ c. search needs) (λ c κs. search needs) array-write-b
-    (λ c. search needs) (λ c. search needs) loop-again returns)
+    (tie.spec (λ c κs. search needs) returns (λ c. search needs) (λ c. search needs) (λ c κs. search needs) returns-2)

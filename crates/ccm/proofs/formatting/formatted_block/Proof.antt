@@ -20,10 +20,11 @@ returns-2 c =
     ∙ formatted-data (a .t) (a .nonce) (a .auth .now) (a .payload .now) (a .i) (c .before .before .before .if1 .left) (rw (← m .ensures .0) (c .before .if2 .taken))
 
 returns-3 : tie.Need-returns-3
+unfolding blockAt
 returns-3 c =
     let a = c .before .before .before .before .before .before .args in
     let m = c .before .before .data-blocks in
-    c .payload-block .ensures
+    c .block-at .ensures
     ∙ ap (λ (k : ℕ). blockAt (a .payload .now) (a .i - 1 - k)) (m .ensures .0)
     ∙ formatted-payload (a .t) (a .nonce) (a .auth .now) (a .payload .now) (a .i) (c .before .before .before .if1 .left) (rw (← m .ensures .0) (c .before .if2 .left))
 
@@ -31,4 +32,4 @@ pub formatted-block-spec : {M : Type 1} → statement M
 formatted-block-spec =
     tie.close
     (tie.spec (λ c κs. search needs) returns (λ c. search needs) (λ c κs. search needs) (λ c κs. search needs)
-    returns-2 (λ c κs. search needs) returns-3)
+    returns-2 (λ c. search needs) (λ c κs. search needs) returns-3)

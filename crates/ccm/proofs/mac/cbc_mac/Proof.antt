@@ -1,32 +1,33 @@
--- `ccm::mac::cbc_mac` meets its contract. The loop's invariant: the block is Y_i. The measure is what is left of the blocks. Assumes nothing.
+-- `ccm::mac::cbc_mac` meets its contract. The loop's invariant: the words are those of Y_i. The measure is what is left of the blocks. Assumes nothing.
+use borrow.Author.Needs.{needs}
 use mathlib.Core.Path.{_≡_, refl, ap, _∙_}
 use Prim.Native.Nat.{_-_, _≤_}
 use native.Mathlib.Omega.{arith}
-use borrow.Author.Needs.{needs}
 use Rattle.ccm.proofs.mac.cbc_mac.Statement.{statement}
 use Rattle.ccm.proofs.mac.cbc_mac.Tie as tie
+use Rattle.octets.specs.Strings.{xored}
+use Rattle.octets.specs.Numbers.{bytesOf}
 use Rattle.aes.specs.Cipher.{cipher}
 use Rattle.ccm.specs.Formatting.{formatted}
 use Rattle.ccm.specs.Mac.{chain, macChain}
 use Rattle.ccm.proofs.Chains.{chain-next}
 
 abbrev Inv-loop : tie.InvT-loop
-Inv-loop keys t nonce auth payload last y₀ i₀ y i = (i ≤ last) × (y ≡ chain (cipher keys) (formatted t nonce auth payload) i .block)
+Inv-loop table keys t nonce auth payload last y₀ i₀ y i = (i ≤ last) × (bytesOf y ≡ chain (cipher keys) (formatted t nonce auth payload) i .block)
 
 abbrev μ-loop : tie.MeasureT-loop
-μ-loop keys t nonce auth payload last y₀ i₀ y i = last - i
+μ-loop table keys t nonce auth payload last y₀ i₀ y i = last - i
 
 loop-holds : tie.Need-loop-holds Inv-loop μ-loop
-unfolding chain
-loop-holds c = (omega arith, rw (c .cipher .ensures, c .before .formatted-block .ensures) refl)
+unfolding bytesOf chain
+loop-holds c = (omega arith, c .cipher .ensures ∙ ap (cipher _) (c .before .formatted-block .ensures))
 
 loop-again : tie.Need-loop-again Inv-loop μ-loop
 loop-again c =
-    let turn = c .before .before .before .before in
+    let turn = c .before .before .before in
     let a = turn .before .before .before .before .before .before .args in (
       omega arith,
-      c .cipher2 .ensures
-          ∙ ap (cipher (a .keys .now)) (c .before .xor-block .ensures ∙ rw (c .before .before .formatted-block2 .ensures, turn .loop .inv .1) refl)
+      c .chained .ensures ∙ ap (cipher _) (λ k. xored 16 (c .before .formatted-block2 .ensures k) (turn .loop .inv .1 k))
           ∙ chain-next (cipher (a .keys .now)) (formatted (a .t) (a .nonce) (a .auth .now) (a .payload .now)) (turn .loop .i),
     )
 
@@ -41,6 +42,6 @@ returns c =
 pub cbc-mac-spec : {M : Type 1} → statement M
 cbc-mac-spec =
     tie.close
-    (tie.spec Inv-loop μ-loop (λ c κs. search needs) (λ c κs. search needs) (λ c κs. search needs) loop-holds
-    (λ c. search needs) (λ c κs. search needs) (λ c κs. search needs) (λ c κs. search needs) (λ c. search needs)
-    (λ c. search needs) loop-again returns)
+    (tie.spec Inv-loop μ-loop (λ c κs. search needs) (λ c κs. search needs) (λ c. search needs) (λ c. search needs)
+    (λ c. search needs) (λ c. search needs) (λ c κs. search needs) loop-holds (λ c. search needs)
+    (λ c κs. search needs) (λ c κs. search needs) (λ c. search needs) (λ c. search needs) loop-again returns)

@@ -1,26 +1,18 @@
--- `ccm::mac::encrypted_tag` meets its contract: the first four bytes of Y_r and S_0. Assumes nothing.
+-- `ccm::mac::encrypted_tag` meets its contract: the first word of Y_r and of S_0. Assumes nothing.
 use borrow.Author.Needs.{needs}
-use native.Mathlib.Omega.{arith}
+use mathlib.Core.Path.{_∙_}
 use Rattle.ccm.proofs.mac.encrypted_tag.Statement.{statement}
 use Rattle.ccm.proofs.mac.encrypted_tag.Tie as tie
-use Rattle.octets.specs.Strings.{tab, xored}
-use Rattle.aes.specs.Cipher.{cipher}
-use Rattle.ccm.specs.Mac.{macChain, mac}
-use Rattle.ccm.specs.Counters.{keyBlock}
+use Rattle.ccm.specs.Mac.{mac}
 use Rattle.ccm.specs.Generation.{encryptedTag}
-use Rattle.ccm.proofs.Tags.{xored-front}
+use Rattle.ccm.proofs.Tags.{masked-tag}
 
 returns : tie.Need-returns
-unfolding encryptedTag mac xored tab
-returns c =
-    let a = c .before .before .before .before .args in
-    let ciph = cipher (a .keys .now) in
-    let y = macChain 4 ciph (a .nonce) (a .auth .now) (a .payload .now) .block in
-    rw (c .before .cbc-mac .ensures, c .key-block .ensures) (xored-front 4 4 y (keyBlock ciph (a .nonce) 0) (omega arith))
+unfolding encryptedTag mac
+returns c = c .bytes-of .ensures ∙ masked-tag _ _ _ _ (c .before .before .cbc-mac .ensures) (c .before .key-block .ensures)
 
 pub encrypted-tag-spec : {M : Type 1} → statement M
 encrypted-tag-spec =
     tie.close
     (tie.spec (λ c κs. search needs) (λ c κs. search needs) (λ c. search needs) (λ c. search needs)
-    (λ c. search needs) (λ c. search needs) (λ c. search needs) (λ c. search needs) (λ c. search needs)
-    (λ c. search needs) returns)
+    (λ c κs. search needs) returns)
