@@ -17,7 +17,7 @@ SHELL := bash
 export PATH := $(PATH):$(shell echo ~)/.cargo/bin
 
 # The toolchain that everything here was proved with, as rt version prints it.
-TOOLCHAIN := rattle-kit-5b logic 064da1ca440f63e7
+TOOLCHAIN := rattle-kit-5b-plain logic 097e4c862dff5811
 
 PREFIX ?= /usr/local
 DESTDIR ?=

@@ -41,7 +41,7 @@
 extern "C" {
 #endif
 
-#define NWK_VERSION "0.3.0"
+#define NWK_VERSION "0.3.1"
 #define NWK_VERSION_NUMBER 0x000300
 
 #ifdef __cplusplus

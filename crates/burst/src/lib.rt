@@ -7,7 +7,7 @@ ghost use mathlib.Core.Path.{_≡_};
 ghost use mathlib.Core.List.{List};
 ghost use Prim.Native.Nat.{ℕ, _*_, _≤_};
 ghost use lib.ListN.{length};
-ghost use Rattle.ccm.specs.Operations.{lookupTable, Under};
+ghost use Rattle.ccm.specs.Operations.{Under};
 ghost use Rattle.frame.specs.Opening.{openFrame};
 ghost use Rattle.records.specs.OpenedRecord.{openedRecord};
 ghost use Rattle.burst.specs.Burst.{total, burstRefusal, outAfter, answersAfter, openBurst};
@@ -56,31 +56,23 @@ fn refusal(lengths: &[u16], bytes: usize, room: usize, places: usize) -> u8
 }
 
 // Open one frame under a key's round keys into its part of the output, its answer to its place.
-fn open_one(
-    table: &[u32; 256],
-    keys: &[[[u8; 4]; 4]; 11],
-    frame: &[u8],
-    part: &mut [u8],
-    place: &mut [u8; 182],
-)
-    requires { ⌜ now table ≡ lookupTable ⌝ }
+fn open_one(keys: &[[[u8; 4]; 4]; 11], frame: &[u8], part: &mut [u8], place: &mut [u8; 182])
     ensures part { λ _. ⌜ Under (now (keys .entry)) (λ (key : List ℕ). now (part .exit) ≡ openFrame key (now (frame .entry)) (now (part .entry)) .out) ⌝ }
     ensures place { λ _. ⌜ Under (now (keys .entry)) (λ (key : List ℕ). now (place .exit) ≡ openedRecord (openFrame key (now (frame .entry)) (now (part .entry)) .answer)) ⌝ }
 {
-    let opened = frame::opening::open_under(table, keys, frame, part);
+    let opened = frame::opening::open_under(keys, frame, part);
     opened_record::put_opened(place, opened);
 }
 
 // Open each frame of a burst that is not refused, under a key's round keys.
 fn open_each(
-    table: &[u32; 256],
     keys: &[[[u8; 4]; 4]; 11],
     frames: &[u8],
     lengths: &[u16],
     out: &mut [u8],
     answers: &mut [[u8; 182]],
 )
-    requires { ⌜ (burstRefusal (now lengths) (length (now frames)) (length (now out)) (length (now answers)) ≡ 0) × (now table ≡ lookupTable) ⌝ }
+    requires { ⌜ burstRefusal (now lengths) (length (now frames)) (length (now out)) (length (now answers)) ≡ 0 ⌝ }
     ensures out { λ _. ⌜ Under (now (keys .entry)) (λ (key : List ℕ). now (out .exit) ≡ outAfter key (now (frames .entry)) (now (lengths .entry)) (now (out .entry)) (length (now (lengths .entry)))) ⌝ }
     ensures answers { λ _. ⌜ Under (now (keys .entry)) (λ (key : List ℕ). now (answers .exit) ≡ answersAfter key (now (frames .entry)) (now (lengths .entry)) (now (out .entry)) (now (answers .entry)) (length (now (lengths .entry)))) ⌝ }
 {
@@ -90,7 +82,6 @@ fn open_each(
         let end = at + lengths[k] as usize;
         let part = MAX_NSDU_SIZE * k;
         open_one(
-            table,
             keys,
             &frames[at..end],
             &mut out[part..part + MAX_NSDU_SIZE],
@@ -123,8 +114,7 @@ pub fn open_burst(
     }
     let bytes = key.0;
     let keys = ccm::expand(bytes);
-    let table = ccm::lookup_table();
-    open_each(&table, &keys, frames, lengths, out, answers);
+    open_each(&keys, frames, lengths, out, answers);
     BurstOpened {
         refusal: 0,
         frames: lengths.len(),

@@ -12,7 +12,6 @@ use Rattle.octets.specs.Refusals.{unless, on, by, firstOf}
 use Rattle.octets.specs.Writing.{Run, written}
 use Rattle.aes.specs.KeyExpansion.{keyExpansion}
 use Rattle.aes.specs.Cipher.{aes128}
-use Rattle.aes.specs.Table.{cipherTable}
 use Rattle.ccm.specs.Generation.{Generated, generationEncryption}
 use Rattle.ccm.specs.Verification.{Verified, decryptionVerification}
 use Rattle.ccm.specs.declared.{Sealed.Sealed, Split.Split}
@@ -35,10 +34,6 @@ openedBy t key nonce a c mic = decryptionVerification t (aes128 key) nonce a c m
 -- the round keys of a key, for a caller that opens more than once under it
 unfoldable pub expanded : List ℕ → List (List (List ℕ))
 expanded key = keyExpansion key
-
--- the table that the cipher looks up in, under a name for the crates above, which lend it
-abbrev pub lookupTable : List ℕ
-lookupTable = cipherTable
 
 -- a promise made under the round keys w: it is kept of the key that they are expanded from
 abbrev pub Under : List (List (List ℕ)) → (List ℕ → Type 0) → Type 0

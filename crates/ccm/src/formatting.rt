@@ -41,7 +41,7 @@ pub fn with_nonce(first: u8, nonce: [u8; 13], x: usize) -> [u32; 4]
 }
 
 // How many blocks n bytes fill.
-pub fn blocks_of(n: usize) -> usize
+fn blocks_of(n: usize) -> usize
     requires { ⌜ n < 65536 ⌝ }
     ensures { λ r. ⌜ (r ≡ blocksOf n) × (r < 4097) ⌝ }
 {

@@ -7,7 +7,7 @@ ghost use mathlib.Core.List.{List};
 ghost use Prim.Native.Nat.{ℕ, _≤_};
 ghost use lib.ListN.{length};
 ghost use Rattle.octets.specs.Strings.{over};
-ghost use Rattle.ccm.specs.Operations.{micLength, sealedBy, openedBy, expanded, lookupTable, Under, sealRefusal, encryptCcm, givenIf, decryptCcm, splitMic};
+ghost use Rattle.ccm.specs.Operations.{micLength, sealedBy, openedBy, expanded, Under, sealRefusal, encryptCcm, givenIf, decryptCcm, splitMic};
 
 mod counter;
 mod formatting;
@@ -55,13 +55,6 @@ pub fn expand(key: [u8; 16]) -> [[[u8; 4]; 4]; 11]
     aes::key_expansion(key)
 }
 
-// The table that opening looks up in, for a caller that opens more than once.
-pub fn lookup_table() -> [u32; 256]
-    ensures { λ r. ⌜ r ≡ lookupTable ⌝ }
-{
-    aes::cipher_table()
-}
-
 // Generation-encryption (SP 800-38C, 6.1), for a caller that has checked the lengths: the ciphertext goes to the front of
 // the output, the MIC is given.
 pub fn seal(key: [u8; 16], nonce: [u8; 13], auth: &[u8], payload: &[u8], out: &mut [u8]) -> [u8; 4]
@@ -70,7 +63,7 @@ pub fn seal(key: [u8; 16], nonce: [u8; 13], auth: &[u8], payload: &[u8], out: &m
     ensures buffer { λ _. ⌜ now (out .exit) ≡ over (now (out .entry)) 0 (sealedBy micLength key nonce (now (auth .entry)) (now (payload .entry)) .ciphertext) ⌝ }
 {
     let keys = expand(key);
-    let table = lookup_table();
+    let table = aes::cipher_table();
     counter::counter_mode(&table, &keys, nonce, payload, out);
     mac::encrypted_tag(&table, &keys, nonce, auth, payload)
 }
@@ -78,7 +71,6 @@ pub fn seal(key: [u8; 16], nonce: [u8; 13], auth: &[u8], payload: &[u8], out: &m
 // Decryption-verification (SP 800-38C, 6.2) under a key's round keys, for a caller that has checked the lengths: whether the
 // MIC is the one computed; only then the payload goes to the front of the output.
 pub fn open_under(
-    table: &[u32; 256],
     keys: &[[[u8; 4]; 4]; 11],
     nonce: [u8; 13],
     auth: &[u8],
@@ -86,14 +78,15 @@ pub fn open_under(
     mic: [u8; 4],
     out: &mut [u8],
 ) -> bool
-    requires { ⌜ (now table ≡ lookupTable) × (length (now auth) ≤ 127) × (length (now ciphertext) ≤ 127) × (length (now ciphertext) ≤ length (now out)) ⌝ }
+    requires { ⌜ (length (now auth) ≤ 127) × (length (now ciphertext) ≤ 127) × (length (now ciphertext) ≤ length (now out)) ⌝ }
     ensures valid { λ r. ⌜ Under (now (keys .entry)) (λ (key : List ℕ). r ≡ openedBy micLength key nonce (now (auth .entry)) (now (ciphertext .entry)) mic .valid) ⌝ }
     ensures buffer { λ r. ⌜ Under (now (keys .entry)) (λ (key : List ℕ). now (out .exit) ≡ givenIf r (openedBy micLength key nonce (now (auth .entry)) (now (ciphertext .entry)) mic) (now (out .entry))) ⌝ }
 {
     let n = ciphertext.len();
+    let table = aes::cipher_table();
     let mut payload = [0u8; MAX_LENGTH];
-    counter::counter_mode(table, keys, nonce, ciphertext, &mut payload);
-    let valid = mac::tag_valid(table, keys, nonce, auth, &payload[..n], mic);
+    counter::counter_mode(&table, keys, nonce, ciphertext, &mut payload);
+    let valid = mac::tag_valid(&table, keys, nonce, auth, &payload[..n], mic);
     if valid {
         octets::copy_at(out, 0, &payload[..n]);
     }
@@ -147,8 +140,7 @@ pub fn decrypt_ccm(
         };
     }
     let keys = expand(key);
-    let table = lookup_table();
-    if open_under(&table, &keys, nonce, auth, ciphertext, mic, out) {
+    if open_under(&keys, nonce, auth, ciphertext, mic, out) {
         return Written {
             refusal: 0,
             length: ciphertext.len(),

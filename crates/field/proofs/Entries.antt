@@ -1,7 +1,6 @@
 -- The table of the rounds by its entries: at each byte the four bytes of the entry are the multiples of what the byte is substituted by.
 -- Assumes nothing.
 use mathlib.Core.Path.{_≡_, ap, _∙_}
-use mathlib.Core.List.{List}
 use Prim.Native.Nat.{ℕ, _<_}
 use lib.ListN.{getD}
 use Rattle.octets.specs.Numbers.{le, leAt}

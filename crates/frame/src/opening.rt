@@ -17,7 +17,7 @@ ghost use lib.ListN.{length};
 ghost use Rattle.octets.specs.Refusals.{firstOf};
 ghost use Rattle.header.specs.Auxiliary.{auxBytes};
 ghost use Rattle.header.specs.Writing.{badHeader, headerBytes};
-ghost use Rattle.ccm.specs.Operations.{micLength, openedBy, lookupTable, Under, givenIf};
+ghost use Rattle.ccm.specs.Operations.{micLength, openedBy, Under, givenIf};
 ghost use Rattle.frame.specs.Security.{networkLevel, nonce, authenticated};
 ghost use Rattle.frame.specs.Opening.{ciphertextOf, micOf, openRefusals, openRefused, openFrame};
 
@@ -61,50 +61,42 @@ pub fn open_refusal(number: u8, h: NwkHeader, aux: OptionAuxHeader, part: usize,
 
 // Open ciphertext and MIC: whether the MIC is the one computed; only then the payload goes to the front of the output.
 fn open_part(
-    table: &[u32; 256],
     keys: &[[[u8; 4]; 4]; 11],
     nonce: [u8; 13],
     auth: &[u8],
     part: &[u8],
     out: &mut [u8],
 ) -> bool
-    requires { ⌜ (length (now auth) ≤ 127) × (length (now part) ≤ 127) × (4 ≤ length (now part)) × (length (now part) - 4 ≤ length (now out)) × (now table ≡ lookupTable) ⌝ }
+    requires { ⌜ (length (now auth) ≤ 127) × (length (now part) ≤ 127) × (4 ≤ length (now part)) × (length (now part) - 4 ≤ length (now out)) ⌝ }
     ensures valid { λ r. ⌜ Under (now (keys .entry)) (λ (key : List ℕ). r ≡ openedBy micLength key nonce (now (auth .entry)) (ciphertextOf micLength (now (part .entry))) (micOf micLength (now (part .entry))) .valid) ⌝ }
     ensures buffer { λ r. ⌜ Under (now (keys .entry)) (λ (key : List ℕ). now (out .exit) ≡ givenIf r (openedBy micLength key nonce (now (auth .entry)) (ciphertextOf micLength (now (part .entry))) (micOf micLength (now (part .entry)))) (now (out .entry))) ⌝ }
 {
     let split = ccm::split_mic(part);
     let mic = split.mic;
     let n = part.len() - ccm::MIC_LENGTH;
-    ccm::open_under(table, keys, nonce, auth, &part[..n], mic, out)
+    ccm::open_under(keys, nonce, auth, &part[..n], mic, out)
 }
 
 // Open a frame that was read and meets no refusal but perhaps 19.
 fn open_frame(
-    table: &[u32; 256],
     keys: &[[[u8; 4]; 4]; 11],
     h: NwkHeader,
     aux: NwkAuxHeader,
     part: &[u8],
     out: &mut [u8],
 ) -> bool
-    requires { ⌜ (badHeader h ≡ false) × (length (headerBytes h) + length (auxBytes aux) ≤ 118) × (length (now part) ≤ 127) × (4 ≤ length (now part)) × (length (now part) - 4 ≤ length (now out)) × (now table ≡ lookupTable) ⌝ }
+    requires { ⌜ (badHeader h ≡ false) × (length (headerBytes h) + length (auxBytes aux) ≤ 118) × (length (now part) ≤ 127) × (4 ≤ length (now part)) × (length (now part) - 4 ≤ length (now out)) ⌝ }
     ensures valid { λ r. ⌜ Under (now (keys .entry)) (λ (key : List ℕ). r ≡ openedBy micLength key (nonce networkLevel h aux) (authenticated networkLevel h aux) (ciphertextOf micLength (now (part .entry))) (micOf micLength (now (part .entry))) .valid) ⌝ }
     ensures buffer { λ r. ⌜ Under (now (keys .entry)) (λ (key : List ℕ). now (out .exit) ≡ givenIf r (openedBy micLength key (nonce networkLevel h aux) (authenticated networkLevel h aux) (ciphertextOf micLength (now (part .entry))) (micOf micLength (now (part .entry)))) (now (out .entry))) ⌝ }
 {
     let nonce = security::nonce_of(h, aux, NwkSecurityLevel::EncMic32);
     let auth = security::both_headers(h, security::at_level(aux, NwkSecurityLevel::EncMic32));
     let start = h.size() + aux.size();
-    open_part(table, keys, nonce, &auth[..start], part, out)
+    open_part(keys, nonce, &auth[..start], part, out)
 }
 
 // Open a frame under a key's round keys, for a caller that opens more than one; the same refusals as `open`.
-pub fn open_under(
-    table: &[u32; 256],
-    keys: &[[[u8; 4]; 4]; 11],
-    frame: &[u8],
-    out: &mut [u8],
-) -> FrameOpened
-    requires { ⌜ now table ≡ lookupTable ⌝ }
+pub fn open_under(keys: &[[[u8; 4]; 4]; 11], frame: &[u8], out: &mut [u8]) -> FrameOpened
     ensures answer { λ r. ⌜ Under (now (keys .entry)) (λ (key : List ℕ). r ≡ openFrame key (now (frame .entry)) (now (out .entry)) .answer) ⌝ }
     ensures buffer { λ _. ⌜ Under (now (keys .entry)) (λ (key : List ℕ). now (out .exit) ≡ openFrame key (now (frame .entry)) (now (out .entry)) .out) ⌝ }
 {
@@ -117,7 +109,7 @@ pub fn open_under(
         return FrameOpened::refused(refusal);
     }
     let present = aux.or_blank();
-    if open_frame(table, keys, header, present, part, out) {
+    if open_frame(keys, header, present, part, out) {
         return FrameOpened {
             refusal: 0,
             length: part.len() - ccm::MIC_LENGTH,
@@ -136,6 +128,5 @@ pub fn open(key: Key, frame: &[u8], out: &mut [u8]) -> FrameOpened
 {
     let bytes = key.0;
     let keys = ccm::expand(bytes);
-    let table = ccm::lookup_table();
-    open_under(&table, &keys, frame, out)
+    open_under(&keys, frame, out)
 }

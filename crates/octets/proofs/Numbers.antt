@@ -93,7 +93,8 @@ le-leAt-tab (suc n) s i b =
     let low : (getD s i 0 + leAt n s (i + 1) * 256) % 256 ≡ getD s i 0 = omega arith in
     let high : (getD s i 0 + leAt n s (i + 1) * 256) / 256 ≡ leAt n s (i + 1) = omega arith in
     (λ k. low k ∷ (ap (le n) high ∙ le-leAt-tab n s (i + 1) b) k)
-    ∙ (λ k. ap (λ (j : ℕ). getD s j 0) (sym (add-zero i)) k ∷ tab-ext (λ (j : ℕ). getD s (i + 1 + j) 0) (λ (j : ℕ). getD s (i + suc j) 0) n (λ j l. rw (add-assoc i 1 j, one-add) refl) k)
+    ∙ (λ k. ap (λ (j : ℕ). getD s j 0) (sym (add-zero i)) k
+    ∷ tab-ext (λ (j : ℕ). getD s (i + 1 + j) 0) (λ (j : ℕ). getD s (i + suc j) 0) n (λ j l. rw (add-assoc i 1 j, one-add) refl) k)
     ∙ sym (tab-cons (λ (k : ℕ). getD s (i + k) 0) n)
 
 -- four bytes

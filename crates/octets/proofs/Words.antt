@@ -1,10 +1,10 @@
 -- Words of four bytes: the bytes of an exclusive or are the exclusive or of the bytes, for one word and for a block of four.
 -- Assumes nothing.
 use mathlib.Core.Path.{_≡_, refl, sym, ap, _∙_}
-use mathlib.Core.List.{List, [], _∷_, _++_}
+use mathlib.Core.List.{[], _∷_, _++_}
 use Prim.Native.Nat.{ℕ, zero, suc, _/_}
 use lib.Bits.{bitXor, xor-mod, xor-shr}
-use lib.ListN.{length, getD}
+use lib.ListN.{getD}
 use Rattle.octets.specs.Strings.{tab, xored}
 use Rattle.octets.specs.Numbers.{le, bytesOf}
 use Rattle.octets.proofs.Strings.{tab-cons}

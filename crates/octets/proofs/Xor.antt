@@ -1,26 +1,16 @@
--- Exclusive or undone: xor with the same number twice is the identity, for numbers by their binary digits and so for
--- byte strings by index.
+-- Exclusive or: it is associative, by the numbers' binary digits, so that three may be put in any order and the same number twice is
+-- undone, for numbers and so for byte strings by index.
 -- Assumes nothing.
 use mathlib.Core.Path.{_≡_, refl, sym, ap, _∙_}
 use mathlib.Core.List.{List}
 use Prim.Native.Nat.{ℕ, zero, suc, _+_, _*_, _/_, _%_, _≤_, _<_}
-use native.Mathlib.Nat.{mod-lt, div-add-mod'}
+use native.Mathlib.Nat.{mod-lt}
 use native.Mathlib.Omega.{arith}
 use lib.Arith.{bin-ind}
-use lib.Bits.{bitXor, differ, xor-step, xor-zero-l, xor-self, xor-comm, xor-shr}
+use lib.Bits.{bitXor, differ, xor-step, xor-zero-r, xor-self, xor-comm, xor-shr}
 use lib.ListN.{length, getD, take}
 use Rattle.octets.specs.Strings.{xored}
 use Rattle.octets.proofs.Strings.{length-tab, getD-tab, tab-ext, tab-getD}
-
-differ-twice : (x y : ℕ) → x < 2 → y < 2 → differ (differ x y) y ≡ x
-differ-twice zero zero hx hy = refl
-differ-twice zero (suc zero) hx hy = refl
-differ-twice (suc zero) zero hx hy = refl
-differ-twice (suc zero) (suc zero) hx hy = refl
-differ-twice zero (suc (suc y)) hx hy = absurd (omega arith)
-differ-twice (suc zero) (suc (suc y)) hx hy = absurd (omega arith)
-differ-twice (suc (suc x)) zero hx hy = absurd (omega arith)
-differ-twice (suc (suc x)) (suc y) hx hy = absurd (omega arith)
 
 differ-lt : (x y : ℕ) → x < 2 → y < 2 → differ x y < 2
 differ-lt zero y hx hy = hy
@@ -28,24 +18,6 @@ differ-lt (suc zero) zero hx hy = hx
 differ-lt (suc zero) (suc zero) hx hy = omega arith
 differ-lt (suc zero) (suc (suc y)) hx hy = absurd (omega arith)
 differ-lt (suc (suc x)) y hx hy = absurd (omega arith)
-
-pub xor-twice : (a b : ℕ) → bitXor (bitXor a b) b ≡ a
-xor-twice a =
-    bin-ind (λ (n : ℕ). (b : ℕ) → bitXor (bitXor n b) b ≡ n)
-    (λ b. ap (λ (x : ℕ). bitXor x b) (xor-zero-l b) ∙ xor-self b)
-    (λ n ih b.
-    let q : ℕ = bitXor (n / 2) (b / 2) in
-    let d : ℕ = differ (n % 2) (b % 2) in
-    let small : d < 2 = differ-lt (n % 2) (b % 2) (mod-lt n (omega arith)) (mod-lt b (omega arith)) in
-    let half : (q * 2 + d) / 2 ≡ q = omega arith in
-    let odd : (q * 2 + d) % 2 ≡ d = omega arith in
-    ap (λ (x : ℕ). bitXor x b) (xor-step n b) ∙ xor-step (q * 2 + d) b
-    ∙ ap (λ (x : ℕ). bitXor x (b / 2) * 2 + differ ((q * 2 + d) % 2) (b % 2)) half
-    ∙ ap (λ (x : ℕ). bitXor q (b / 2) * 2 + differ x (b % 2)) odd
-    ∙ ap (λ (x : ℕ). x * 2 + differ d (b % 2)) (ih (b / 2))
-    ∙ ap (λ (x : ℕ). n / 2 * 2 + x) (differ-twice (n % 2) (b % 2) (mod-lt n (omega arith)) (mod-lt b (omega arith)))
-    ∙ div-add-mod' n 2)
-    a
 
 differ-assoc : (x y z : ℕ) → x < 2 → y < 2 → z < 2 → differ (differ x y) z ≡ differ x (differ y z)
 differ-assoc zero y z hx hy hz = refl
@@ -78,6 +50,10 @@ xor-assoc a =
     ∙ (λ i. bitXor (n / 2) (sym (xor-half b c) i) * 2 + differ (n % 2) (sym (xor-odd b c) i))
     ∙ sym (xor-step n (bitXor b c)))
     a
+
+-- the same number twice
+pub xor-twice : (a b : ℕ) → bitXor (bitXor a b) b ≡ a
+xor-twice a b = xor-assoc a b b ∙ ap (bitXor a) (xor-self b) ∙ xor-zero-r a
 
 -- the first two of three exchanged
 pub xor-swap : (a b c : ℕ) → bitXor a (bitXor b c) ≡ bitXor b (bitXor a c)

@@ -3,8 +3,6 @@
 use borrow.Author.Needs.{needs}
 use Rattle.aes.proofs.rounds.last_column.Statement.{statement}
 use Rattle.aes.proofs.rounds.last_column.Tie as tie
-use Rattle.aes.specs.State.{four}
-use Rattle.aes.specs.Words.{xorWord}
 
 returns : tie.Need-returns
 returns c = cc

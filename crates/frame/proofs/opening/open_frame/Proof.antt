@@ -39,7 +39,7 @@ open-part-requires : tie.Need-open-part-requires
 open-part-requires c κs =
     let s = c .before .before in
     let p = start s .pre in
-    (omega (arith, ap length (taken s) ∙ auth-length networkLevel (start s .args .h) (start s .args .aux), p .1), p .2, p .3, p .4, p .5)
+    (omega (arith, ap length (taken s) ∙ auth-length networkLevel (start s .args .h) (start s .args .aux), p .1), p .2, p .3, p .4)
 
 returns : tie.Need-returns
 returns c =

@@ -18,7 +18,7 @@ open-under-requires : tie.Need-open-under-requires
 open-under-requires c κs =
     let start = c .before .before .before .before .before .before .before in
     let l = length-take-le (length (start .args .part .now) - 4) (start .args .part .now) (omega arith) in
-    (start .pre .4, start .pre .0, omega (arith, l, start .pre .1), omega (arith, l, start .pre .3))
+    (start .pre .0, omega (arith, l, start .pre .1), omega (arith, l, start .pre .3))
 
 returns : tie.Need-returns
 unfolding ciphertextOf

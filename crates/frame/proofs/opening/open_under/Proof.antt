@@ -30,10 +30,10 @@ open-frame-requires c κs =
     let s = ready _ _ _ _ _ (sym (passed .before .open-refusal .ensures) ∙ passed .if1 .left) in
     let r = ready-facts _ _ (λ i. read .before .before .shared-slice-known .given i .fits) (read .read-frame .ensures) (s .read) (s .present) in
     let e = ap (λ (x : NwkAuxHeader). length (headerBytes (read .read-frame .result .header)) + length (auxBytes x)) (c .before .or-blank .ensures) in
-    (r .0, omega (arith, e, r .1), omega (arith, ap length (rest .behind .ensures), r .2), s .tagged, s .fits, read .before .before .before .pre)
+    (r .0, omega (arith, e, r .1), omega (arith, ap length (rest .behind .ensures), r .2), s .tagged, s .fits)
 
-sub-t18 : tie.Need-sub-t18
-sub-t18 c =
+sub-t17 : tie.Need-sub-t17
+sub-t17 c =
     let passed = c .before .before .before .before .before .before in
     omega (arith, ready _ _ _ _ _ (sym (passed .before .open-refusal .ensures) ∙ passed .if1 .left) .tagged)
 
@@ -63,5 +63,5 @@ pub open-under-spec : {M : Type 1} → statement M
 open-under-spec =
     tie.close
     (tie.spec (λ c κs. search needs) (λ c κs. search needs) (λ c κs. search needs) (λ c κs. search needs) returns
-    (λ c κs. search needs) open-frame-requires sub-t18 (λ c. search needs) returns-2 (λ c κs. search needs)
+    (λ c κs. search needs) open-frame-requires sub-t17 (λ c. search needs) returns-2 (λ c κs. search needs)
     (λ c. search needs) returns-3)
