@@ -42,7 +42,7 @@ extern "C" {
 #endif
 
 #define NWK_VERSION "0.3.1"
-#define NWK_VERSION_NUMBER 0x000300
+#define NWK_VERSION_NUMBER 0x000301
 
 #ifdef __cplusplus
 #define NWK_CAST(type, value) static_cast<type>(value)
