@@ -1,4 +1,4 @@
--- The tag by its bytes: only its first t bytes count, in the mask and in the comparison.
+-- The tag by its bytes: only its first t bytes count, in the mask and in the comparison; and as the first word of a block.
 -- Assumes nothing.
 use mathlib.Core.Path.{_≡_, refl, sym, ap, _∙_}
 use mathlib.Core.Bool.{cond, false}
@@ -20,7 +20,7 @@ pub same-next : (i : ℕ) (u v : List ℕ) → cond (eqb (getD u i 0) (getD v i 
 unfolding sameBytes
 same-next i u v = rw add-one refl
 
-pub xored-front : (n k : ℕ) (y s : List ℕ) → n ≤ k → xored n y s ≡ xored n (take k y) s
+xored-front : (n k : ℕ) (y s : List ℕ) → n ≤ k → xored n y s ≡ xored n (take k y) s
 unfolding xored
 xored-front n k y s h = tab-ext _ _ n (λ i l. ap (λ (x : ℕ). bitXor x (getD s i 0)) (sym (getD-take k y i 0 (omega arith))))
 

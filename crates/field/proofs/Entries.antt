@@ -18,4 +18,4 @@ multiples-back y h = le-leAt-four (xtime y) y y (product 3 y) (double-byte y h) 
 
 pub entry-bytes : (x : ℕ) → x < 256 → le 4 (getD roundTable x 0) ≡ multiples (sbox x)
 unfolding roundEntry roundTable
-entry-bytes x h = ap (le 4) (getD-values roundEntry 256 x h) ∙ multiples-back (sbox x) (sbox-byte x h)
+entry-bytes x h = ap (le 4) (getD-values roundEntry 256 x h) ∙ multiples-back (sbox x) (sbox-byte x)

@@ -16,7 +16,7 @@ returns c =
     rw (c .bytes-of .ensures, le-xorWord, le-xorWord, le-xorWord, odd .rotated .ensures, le-xorWord)
     (rw (c .before .number .ensures, first .entry3 .ensures, even .rotated-twice2 .ensures, even .before .entry4 .ensures)
     (rw (second .before .entry .ensures, odd .before .rotated-twice .ensures, second .entry2 .ensures)
-    (mixed _ _ _ _ (sbox-byte (a .a) (search needs)) (sbox-byte (a .b) (search needs)) (sbox-byte (a .c) (search needs)) (sbox-byte (a .d) (search needs)) (a .k))))
+    (mixed _ _ _ _ (sbox-byte (a .a)) (sbox-byte (a .b)) (sbox-byte (a .c)) (sbox-byte (a .d)) (a .k))))
 
 pub column-spec : {M : Type 1} → statement M
 column-spec =
