@@ -34,22 +34,22 @@ void make_burst(struct burst *b, size_t length) {
   }
 }
 
-/* 16 plain headers without their last bytes, which opening refuses by this number. */
-static void make_refused_burst(struct burst *b, size_t missing, uint8_t refusal) {
+/* 16 frames of so many bytes: a plain header, and zeros behind it. */
+static void make_plain_burst(struct burst *b, size_t length, uint64_t answer) {
   struct reading r;
   make_plain_header(&r);
-  begin(b, (uint64_t)refusal << 32);
+  begin(b, answer);
   for (size_t k = 0; k < NWK_MAX_BURST; k++) {
-    append(b, k, r.bytes, r.length - missing);
+    append(b, k, r.bytes, length);
   }
 }
 
 void make_short_burst(struct burst *b) {
-  make_refused_burst(b, 1, NWK_REFUSED_SHORT_HEADER);
+  make_plain_burst(b, HEADER_LENGTH - 1, (uint64_t)NWK_REFUSED_SHORT_HEADER << 32);
 }
 
-void make_unsecured_burst(struct burst *b) {
-  make_refused_burst(b, 0, NWK_REFUSED_NO_AUXILIARY);
+void make_clear_burst(struct burst *b, size_t length) {
+  make_plain_burst(b, HEADER_LENGTH + length, (uint64_t)1 << 40 | length);
 }
 
 bool open_burst(void *input) {

@@ -22,10 +22,11 @@ struct burst {
 /* 16 messages with payloads of so many bytes, no two alike. */
 void make_burst(struct burst *b, size_t length);
 
-/* 16 frames that opening refuses: by 2 because they are too short for a header, by 14 because they have no auxiliary
- * header. */
+/* 16 clear frames with payloads of so many bytes. */
+void make_clear_burst(struct burst *b, size_t length);
+
+/* 16 frames that opening refuses by 2: they are too short for a header. */
 void make_short_burst(struct burst *b);
-void make_unsecured_burst(struct burst *b);
 
 /* One call of nwk_open_burst, and a call of nwk_open for each frame. */
 call open_burst, open_each;

@@ -4,7 +4,6 @@
 
 #define LINK_STATUS 8
 #define FIRST_AND_LAST_FRAME 0x60
-#define HEADER_LENGTH 8
 
 void make_plain_header(struct reading *r) {
   static const uint8_t header[HEADER_LENGTH] = {0x48, 0x00, 0x00, 0x00, 0x34, 0x12, 30, 7};

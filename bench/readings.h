@@ -12,6 +12,7 @@ struct reading {
 };
 
 /* A header of 8 bytes. */
+#define HEADER_LENGTH 8
 void make_plain_header(struct reading *r);
 
 /* A header with both IEEE addresses and a source route of so many relays. */

@@ -107,17 +107,17 @@ static size_t over_messages(call *run) {
   return most;
 }
 
-/* Bursts of 16 frames, opened and refused. */
+/* Bursts of 16 frames, opened, clear and refused. */
 static size_t over_bursts(call *run) {
   static struct burst b;
   size_t most = 0;
   for (size_t n = 0; n <= MAX_MESSAGE; n++) {
     make_burst(&b, n);
     most = larger(most, touched(run, &b));
+    make_clear_burst(&b, n);
+    most = larger(most, touched(run, &b));
   }
   make_short_burst(&b);
-  most = larger(most, touched(run, &b));
-  make_unsecured_burst(&b);
   return larger(most, touched(run, &b));
 }
 

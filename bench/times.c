@@ -172,8 +172,15 @@ static struct row opened_row(struct burst *b, size_t length) {
   return row;
 }
 
-static struct row refused_row(struct burst *b, void (*make)(struct burst *b)) {
-  make(b);
+static struct row clear_row(struct burst *b, size_t length) {
+  make_clear_burst(b, length);
+  struct row row = burst_row(b);
+  snprintf(row.label, sizeof row.label, "clear, %zu bytes", length);
+  return row;
+}
+
+static struct row refused_row(struct burst *b) {
+  make_short_burst(b);
   struct row row = burst_row(b);
   snprintf(row.label, sizeof row.label, "refused by %u", NWK_REFUSAL(b->answer));
   return row;
@@ -185,7 +192,7 @@ void compare_bursts_with_calls(void) {
   for (size_t i = 0; i < LENGTHS; i++) {
     rows[i] = opened_row(&bursts[i], lengths[i]);
   }
-  rows[LENGTHS] = refused_row(&bursts[LENGTHS], make_short_burst);
-  rows[LENGTHS + 1] = refused_row(&bursts[LENGTHS + 1], make_unsecured_burst);
+  rows[LENGTHS] = clear_row(&bursts[LENGTHS], lengths[LENGTHS - 1]);
+  rows[LENGTHS + 1] = refused_row(&bursts[LENGTHS + 1]);
   compare_ways("nwk_open_burst of 16 frames beside 16 calls of nwk_open", "each frame", rows, LENGTHS + 2);
 }

@@ -1,4 +1,4 @@
-/* Opens a burst: frames that the radio handed over at once, one of them damaged and one empty.
+/* Opens a burst: frames that the radio handed over at once, one of them damaged, one empty and one clear.
  *
  *   rt staticlib nwk
  *   cc -Wall -Wextra -Iinclude examples/burst.c target/staticlib/libnwk.a -o burst && ./burst
@@ -29,23 +29,39 @@ static uint16_t seal(struct nwk_key key, uint32_t counter, const char *reading, 
                                        (const uint8_t *)reading, 6, frame, room));
 }
 
-/* One line for a frame: its record and its part of the output. */
-static void show(size_t k, const uint8_t *record, const uint8_t *part) {
-  if (record[NWK_OPENED_REFUSAL] != NWK_ACCEPTED) {
-    printf("frame %zu: refused by %u: %s\n", k, record[NWK_OPENED_REFUSAL], nwk_refusal_text(record[NWK_OPENED_REFUSAL]));
-    return;
-  }
+/* Writes a clear reading of 6 bytes from 0x1234, and gives the frame's length, 0 where that is refused. */
+static uint16_t leave_clear(const char *reading, uint8_t *frame, size_t room) {
+  uint8_t header[NWK_HEADER_RECORD] = {0};
+  header[NWK_HEADER_VERSION] = 2;
+  nwk_put16(header + NWK_HEADER_SOURCE, 0x1234);
+  header[NWK_HEADER_RADIUS] = 30;
+  return (uint16_t)NWK_LENGTH(nwk_write_frame(header, sizeof header, (const uint8_t *)reading, 6, frame, room));
+}
+
+/* One line for a frame: its record, its part of the output, and where its own bytes end. The mark says which of the two has the
+ * payload, and whether anybody vouches for it. */
+static void show(size_t k, const uint8_t *record, const uint8_t *part, const uint8_t *frame_end) {
   const unsigned length = nwk_get16(record + NWK_OPENED_LENGTH);
-  printf("frame %zu: %u bytes from 0x%04X, counter %lu: %.*s\n", k, length,
-         nwk_get16(record + NWK_OPENED_HEADER + NWK_HEADER_SOURCE),
-         (unsigned long)nwk_get32(record + NWK_OPENED_AUXILIARY + NWK_AUXILIARY_COUNTER), (int)length, (const char *)part);
+  const unsigned source = nwk_get16(record + NWK_OPENED_HEADER + NWK_HEADER_SOURCE);
+  switch (record[NWK_OPENED_MARK]) {
+  case NWK_MARK_SEALED:
+    printf("frame %zu: %u bytes from 0x%04X, counter %lu: %.*s\n", k, length, source,
+           (unsigned long)nwk_get32(record + NWK_OPENED_AUXILIARY + NWK_AUXILIARY_COUNTER), (int)length, (const char *)part);
+    break;
+  case NWK_MARK_CLEAR:
+    printf("frame %zu: %u bytes, clear, said to be from 0x%04X: %.*s\n", k, length, source, (int)length,
+           (const char *)(frame_end - length));
+    break;
+  default:
+    printf("frame %zu: refused by %u: %s\n", k, record[NWK_OPENED_REFUSAL], nwk_refusal_text(record[NWK_OPENED_REFUSAL]));
+  }
 }
 
 int main(void) {
   const struct nwk_key key = nwk_key_of(key_bytes);
   const char *const readings[] = {"21.5 C", "21.7 C", "", "21.9 C"};
-  uint8_t frames[4 * NWK_MAX_FRAME];
-  uint16_t lengths[4] = {0};
+  uint8_t frames[5 * NWK_MAX_FRAME];
+  uint16_t lengths[5] = {0};
   size_t end = 0;
   uint32_t counter = 0;
   for (size_t k = 0; k < 4; k++) {
@@ -54,19 +70,23 @@ int main(void) {
     }
     end += lengths[k];
   }
+  lengths[4] = leave_clear("22.0 C", frames + end, sizeof frames - end);
+  end += lengths[4];
   /* The last bit of the second frame. */
   frames[lengths[0] + lengths[1] - 1] ^= 1;
 
   uint8_t answers[NWK_MAX_BURST][NWK_OPENED_RECORD];
   uint8_t out[NWK_MAX_BURST * NWK_MAX_PAYLOAD];
-  uint64_t answer = nwk_open_burst(key.first, key.second, frames, end, lengths, 4, answers, NWK_MAX_BURST, out, sizeof out);
+  uint64_t answer = nwk_open_burst(key.first, key.second, frames, end, lengths, 5, answers, NWK_MAX_BURST, out, sizeof out);
   if (NWK_REFUSAL(answer) != NWK_ACCEPTED) {
     printf("refused: %s\n", nwk_refusal_text(NWK_REFUSAL(answer)));
     return 1;
   }
   printf("%u frames in one call\n", NWK_LENGTH(answer));
+  const uint8_t *frame_end = frames;
   for (size_t k = 0; k < NWK_LENGTH(answer); k++) {
-    show(k, answers[k], out + k * NWK_MAX_PAYLOAD);
+    frame_end += lengths[k];
+    show(k, answers[k], out + k * NWK_MAX_PAYLOAD, frame_end);
   }
   return 0;
 }

@@ -70,6 +70,11 @@ int main(void) {
     printf("opening refused: %s\n", nwk_refusal_text(NWK_REFUSAL(opened)));
     return 1;
   }
+  /* A clear frame is accepted too, with nothing in the output and nobody who vouches for it. */
+  if (NWK_CLEAR(opened)) {
+    printf("not a sealed frame\n");
+    return 1;
+  }
   size_t m = NWK_LENGTH(opened);
   const uint8_t *header_read = record + NWK_OPENED_HEADER;
   const uint8_t *auxiliary_read = record + NWK_OPENED_AUXILIARY;

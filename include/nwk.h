@@ -6,10 +6,10 @@
  * numbers, its first eight bytes in the first, the first byte lowest (nwk_key_of).
  *
  * Every function answers one number: the length in bits 0 to 31 (NWK_LENGTH), the refusal in bits 32 to 39 (NWK_REFUSAL,
- * 0: accepted), the other bits 0. A refusal has length 0 and leaves every lent byte as it was, records included. Where
- * nothing is refused, each result stands at the front of its buffer (each frame's of a burst at the front of its own part) and
- * the rest of the buffer stays. Refusals are checked in the order in which each function's comment lists those that it can
- * answer: rising, but for 20, which is first of all.
+ * 0: accepted), in bit 40 of nwk_open's answer whether the frame was clear (NWK_CLEAR), the other bits 0. A refusal has length 0
+ * and leaves every lent byte as it was, records included. Where nothing is refused, each result stands at the front of its
+ * buffer (each frame's of a burst at the front of its own part) and the rest of the buffer stays. Refusals are checked in the
+ * order in which each function's comment lists those that it can answer: rising, but for 20, which is first of all.
  *
  * Example:
  *
@@ -41,8 +41,8 @@
 extern "C" {
 #endif
 
-#define NWK_VERSION "0.3.1"
-#define NWK_VERSION_NUMBER 0x000301
+#define NWK_VERSION "0.4.0"
+#define NWK_VERSION_NUMBER 0x000400
 
 #ifdef __cplusplus
 #define NWK_CAST(type, value) static_cast<type>(value)
@@ -52,6 +52,9 @@ extern "C" {
 
 #define NWK_LENGTH(answer) NWK_CAST(uint32_t, (answer) & 0xFFFFFFFFu)
 #define NWK_REFUSAL(answer) NWK_CAST(uint8_t, (answer) >> 32 & 0xFFu)
+
+/* Of an answer of nwk_open that is no refusal: 1 if the frame was clear, 0 if it was sealed. */
+#define NWK_CLEAR(answer) NWK_CAST(uint8_t, (answer) >> 40 & 1u)
 
 /* The longest frame, and the longest payload or command. */
 #define NWK_MAX_FRAME 118
@@ -144,14 +147,14 @@ enum nwk_refusal {
  *   offset  bytes  field
  *        0      1  refusal. Where nwk_open fills a record this is 0, since it leaves the record of a refused frame as it was; in a
  *                  burst it is a refused frame's number, and all the rest of that record is 0
- *        1      1  mark: room for what is said of a frame beside; 0
- *        2      2  length of the payload
+ *        1      1  mark: NWK_MARK_CLEAR, NWK_MARK_SEALED, or beside a refusal NWK_MARK_NONE
+ *        2      2  length of the payload, wherever it stands (nwk_open)
  *        4      1  count of cipher blocks; 0 until it is reported
  *        5      1  presence of the IEEE that the nonce used; 0 until it is reported
  *        6      8  that IEEE, in wire order; 0 until it is reported
  *       14      2  0
  *       16    147  header record
- *      163     19  auxiliary record, with the level as received
+ *      163     19  auxiliary record, with the level as received; absent, all zeros, where the frame was clear
  */
 #define NWK_HEADER_RECORD 147
 #define NWK_HEADER_FRAME_TYPE 0
@@ -199,6 +202,11 @@ enum nwk_refusal {
 #define NWK_OPENED_NONCE_IEEE 6
 #define NWK_OPENED_HEADER 16
 #define NWK_OPENED_AUXILIARY 163
+
+/* The mark of an opened record. A record of zeros bears none. */
+#define NWK_MARK_NONE 0
+#define NWK_MARK_CLEAR 1
+#define NWK_MARK_SEALED 2
 
 /* Command record, 535 bytes
  *
@@ -295,9 +303,16 @@ uint64_t nwk_seal(uint64_t key_first, uint64_t key_second, const uint8_t *header
                   const uint8_t *auxiliary, size_t auxiliary_len, const uint8_t *payload, size_t payload_len, uint8_t *out,
                   size_t out_len);
 
-/* Open a frame. Length: the payload's bytes. Refusals: 1 to 12 as nwk_read_frame; 14 no auxiliary header; 15 no IEEE for the
- * nonce; 16 fewer than 4 bytes behind the headers; 18 out shorter than the payload, or opened shorter than 182; 19 the MIC is
- * not the one computed. Afterwards out holds the payload in its first bytes, and opened the opened record. */
+/* Open a frame. Length: the payload's bytes. Look at NWK_CLEAR(answer) before you take the payload:
+ *
+ *   0  the frame was sealed and its payload is authenticated. It stands in the first bytes of out.
+ *   1  the frame was clear, its security bit off, and nobody vouches for it: anyone may have sent it. Its payload stands in the
+ *      last bytes of bytes. out is not touched, and may be shorter than the length, or empty. The auxiliary record is absent.
+ *
+ * nwk_payload gives the address in either case. A payload of type 1 is a command, sealed or clear (nwk_payload_kind).
+ * Refusals: 1 to 12 as nwk_read_frame; of a sealed frame 15 no IEEE for the nonce, 16 fewer than 4 bytes behind the headers, 18
+ * out shorter than the payload; of any frame 18 opened shorter than 182; of a sealed frame 19 the MIC is not the one computed.
+ * Afterwards opened holds the opened record, with the same mark. */
 uint64_t nwk_open(uint64_t key_first, uint64_t key_second, const uint8_t *bytes, size_t bytes_len, uint8_t *opened,
                   size_t opened_len, uint8_t *out, size_t out_len);
 
@@ -306,10 +321,11 @@ uint64_t nwk_open(uint64_t key_first, uint64_t key_second, const uint8_t *bytes,
  * lengths; lengths whose sum is not frames_len; out shorter than 108 times lengths_count; fewer answers than lengths. Nothing
  * else refuses a burst: no frames are accepted with 0, and a frame that opening alone refuses has its number in its own record
  * and stops no other.
- * Afterwards answers[k] is the opened record of frame k (from 0), number and length included, and its payload stands at the front
- * of its own part of out, the 108 bytes from 108 * k: what nwk_open would leave of frame k alone with that part lent. Beside
- * a refused frame's number all the rest of its record is 0, and its part stays. So do the bytes behind a payload and behind the last
- * part, and the records past the number of frames. */
+ * Afterwards answers[k] is the opened record of frame k (from 0), number, mark and length included. The mark says where the payload
+ * of frame k is: NWK_MARK_SEALED at the front of its own part of out, the 108 bytes from 108 * k; NWK_MARK_CLEAR in the last bytes
+ * of frame k, and its part is not touched; NWK_MARK_NONE nowhere, the frame is refused. It is what nwk_open would leave of frame k
+ * alone with that part lent. Beside a refused frame's number all the rest of its record is 0, and its part stays. So do the bytes
+ * behind a payload and behind the last part, and the records past the number of frames. */
 uint64_t nwk_open_burst(uint64_t key_first, uint64_t key_second, const uint8_t *frames, size_t frames_len,
                         const uint16_t *lengths, size_t lengths_count, uint8_t (*answers)[NWK_OPENED_RECORD],
                         size_t answers_count, uint8_t *out, size_t out_len);
@@ -382,7 +398,7 @@ static inline const char *nwk_refusal_text(uint8_t refusal) {
       "an auxiliary header with extended nonce has exactly 13 bytes",
       "an unsecured payload, or a command to read, has more than 108 bytes",
       "a field to write exceeds its bits or has an undeclared code, or a list exceeds its places",
-      "sealing or opening has no auxiliary header",
+      "sealing has no auxiliary header",
       "sealing or opening has neither an auxiliary nor a header source IEEE",
       "ciphertext with MIC has fewer than 4 bytes",
       "the bytes to write exceed 118 for a header or frame, or 108 for a payload, alone or in a frame",
@@ -406,6 +422,16 @@ static inline struct nwk_key nwk_key_of(const uint8_t bytes[16]) {
     key.second = key.second << 8 | bytes[8 + i];
   }
   return key;
+}
+
+/* Where the payload is that an answer of nwk_open speaks of, NWK_LENGTH(answer) bytes of it: behind the headers of the frame if it
+ * was clear, at the front of out if it was sealed. NULL beside a refusal. bytes, bytes_len and out are those that nwk_open was
+ * given, out with what it left there. */
+static inline const uint8_t *nwk_payload(uint64_t answer, const uint8_t *bytes, size_t bytes_len, const uint8_t *out) {
+  if (NWK_REFUSAL(answer) != NWK_ACCEPTED) {
+    return NULL;
+  }
+  return NWK_CLEAR(answer) ? bytes + (bytes_len - NWK_LENGTH(answer)) : out;
 }
 
 /* A number of two or four bytes in a record, which has the least significant byte first. */

@@ -1,5 +1,5 @@
-/* What nwk.h adds to the functions: names, texts, the key's two numbers, and NULL for an empty slice. It is C and C++, and
- * host/tests/c_header.rs compares what it prints.
+/* What nwk.h adds to the functions: names, texts, the key's two numbers, where a payload is, and NULL for an empty slice. It is
+ * C and C++, and host/tests/c_header.rs compares what it prints.
  *
  *   cc -std=c11 -Wall -Wextra -Iinclude tests/header.c target/staticlib/libnwk.a -o header && ./header
  *   g++ -x c++ -Wall -Wextra -Wold-style-cast -Iinclude tests/header.c -x none target/staticlib/libnwk.a -o header && ./header
@@ -56,6 +56,52 @@ static void print_kinds(void) {
   printf("\n");
 }
 
+/* The mark in an answer, and the marks of a record. */
+static void print_marks(void) {
+  const uint64_t clear = NWK_CAST(uint64_t, 1) << 40;
+  printf("marks %u %u %u clear %u %u %u %u\n", NWK_MARK_NONE, NWK_MARK_CLEAR, NWK_MARK_SEALED, NWK_CLEAR(clear | 16),
+         NWK_LENGTH(clear | 16), NWK_REFUSAL(clear | 16), NWK_CLEAR(~clear));
+}
+
+/* Opens a frame that has so many bytes, and says where nwk_payload finds the payload: so far into the frame, in the output, or
+ * nowhere. */
+static void print_place(const char *name, const uint8_t *frame, size_t n, uint8_t *out, size_t room) {
+  uint8_t record[NWK_OPENED_RECORD] = {0};
+  const uint64_t answer = nwk_open(0, 0, frame, n, record, sizeof record, out, room);
+  const uint8_t *payload = nwk_payload(answer, frame, n, out);
+  printf("%s %u clear %u mark %u length %u %u payload", name, NWK_REFUSAL(answer), NWK_CLEAR(answer), record[NWK_OPENED_MARK],
+         NWK_LENGTH(answer), nwk_get16(record + NWK_OPENED_LENGTH));
+  if (payload == NULL) {
+    printf(" nowhere\n");
+  } else if (payload == out) {
+    printf(" in out\n");
+  } else {
+    printf(" from %u\n", NWK_CAST(unsigned, payload - frame));
+  }
+}
+
+/* A clear frame with a payload and one without, each without an output, a sealed frame, and the same one damaged. */
+static void print_payloads(void) {
+  uint8_t header[NWK_HEADER_RECORD] = {0};
+  uint8_t auxiliary[NWK_AUXILIARY_RECORD] = {0};
+  const uint8_t payload[3] = {1, 2, 3};
+  uint8_t frame[NWK_MAX_FRAME] = {0};
+  uint8_t out[NWK_MAX_PAYLOAD] = {0};
+  uint32_t n = NWK_LENGTH(nwk_write_frame(header, sizeof header, payload, sizeof payload, frame, sizeof frame));
+  print_place("clear", frame, n, NULL, 0);
+  print_place("clear_with_room", frame, n, out, sizeof out);
+  print_place("clear_empty", frame, n - 3, NULL, 0);
+  header[NWK_HEADER_SECURITY_BIT] = 1;
+  auxiliary[NWK_AUXILIARY_PRESENT] = 1;
+  auxiliary[NWK_AUXILIARY_EXTENDED_NONCE_BIT] = 1;
+  auxiliary[NWK_AUXILIARY_HAS_IEEE] = 1;
+  n = NWK_LENGTH(nwk_seal(0, 0, header, sizeof header, auxiliary, sizeof auxiliary, payload, sizeof payload, frame, sizeof frame));
+  print_place("sealed", frame, n, out, sizeof out);
+  print_place("sealed_no_room", frame, n, NULL, 0);
+  frame[n - 1] ^= 1;
+  print_place("damaged", frame, n, out, sizeof out);
+}
+
 static void print_answer(const char *name, uint64_t answer) {
   printf("%s %u %u\n", name, NWK_REFUSAL(answer), NWK_LENGTH(answer));
 }
@@ -103,6 +149,8 @@ int main(void) {
   print_key();
   print_numbers();
   print_kinds();
+  print_marks();
+  print_payloads();
   print_empty();
   print_texts();
   return 0;

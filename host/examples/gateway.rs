@@ -1,11 +1,12 @@
-//! The gateway's loop: the frames that the radio hands over at once are opened in one call, the counter of each is compared
-//! with its sender's last one, and what does not pass is counted by its reason.
+//! The gateway's loop: the frames that the radio hands over at once are opened in one call, the counter of each sealed one is
+//! compared with its sender's last one, and what does not pass is counted by its reason. Clear frames, for which nobody
+//! vouches, go another way than authenticated ones.
 //!
 //!   cargo run --release --example gateway
 use std::collections::BTreeMap;
 use store_reader::{
-    hex, open_burst, Eui64, Key, NwkCommand, NwkPayload, OpenedFrame, OpenedRecord, Refusal, MAX_BURST,
-    MAX_BURST_OUTPUT, MAX_FRAME,
+    hex, open_burst, ClearFrame, Eui64, Key, NwkCommand, NwkPayload, Opened, OpenedFrame, OpenedRecord, Refusal,
+    MAX_BURST, MAX_BURST_OUTPUT, MAX_FRAME,
 };
 
 /// What the radio handed over: records 2, 3, 8, 3 again, 10 and 16 of `samples/store.pcap`, without their MAC headers.
@@ -18,12 +19,13 @@ const HEARD: [&str; 6] = [
     "08020000107A1E0D284B230100C3B2A11C004B12000089413A1AB7E349F695D6D89B0AC7A3850567311A",
 ];
 
-/// Each sender's last counter, and why frames did not pass.
+/// Each sender's last counter, why frames did not pass, and how many were clear.
 #[derive(Default)]
 struct Gateway {
     counters: BTreeMap<Eui64, u32>,
     refused: BTreeMap<Refusal, u64>,
     repeated: u64,
+    clear: u64,
 }
 
 impl Gateway {
@@ -35,12 +37,16 @@ impl Gateway {
     }
 
     /// Takes what was answered of a frame.
-    fn take(&mut self, answer: Result<OpenedFrame<'_>, Refusal>) -> Result<(), Refusal> {
+    fn take(&mut self, answer: Result<Opened<'_>, Refusal>) -> Result<(), Refusal> {
         match answer {
-            Ok(opened) if self.is_new(&opened) => deliver(&opened),
-            Ok(_) => {
+            Ok(Opened::Sealed(frame)) if self.is_new(&frame) => deliver(&frame),
+            Ok(Opened::Sealed(_)) => {
                 self.repeated += 1;
                 Ok(())
+            }
+            Ok(Opened::Clear(frame)) => {
+                self.clear += 1;
+                show_to_staff(&frame)
             }
             // The archive is not the one of this crate: nothing it says can be used.
             Err(Refusal::INTERNAL) => Err(Refusal::INTERNAL),
@@ -48,7 +54,6 @@ impl Gateway {
                 *self.refused.entry(refusal).or_default() += 1;
                 match refusal {
                     Refusal::WRONG_MIC => println!("damaged, or under another network's key"),
-                    Refusal::NO_AUXILIARY => println!("not sealed: a probe that has yet to join?"),
                     other => println!("{other}"),
                 }
                 Ok(())
@@ -56,12 +61,12 @@ impl Gateway {
         }
     }
 
-    /// Whether the counter is above the sender's last one, whose place it then takes.
-    fn is_new(&mut self, opened: &OpenedFrame<'_>) -> bool {
-        let Some(sender) = opened.auxiliary.extended_source.or(opened.header.source_ieee) else {
+    /// Whether the counter is above the sender's last one, whose place it then takes. A clear frame has no counter.
+    fn is_new(&mut self, frame: &OpenedFrame<'_>) -> bool {
+        let Some(sender) = frame.auxiliary.extended_source.or(frame.header.source_ieee) else {
             return false;
         };
-        let counter = opened.auxiliary.frame_counter;
+        let counter = frame.auxiliary.frame_counter;
         if self.counters.get(&sender).is_some_and(|last| counter <= *last) {
             return false;
         }
@@ -70,12 +75,24 @@ impl Gateway {
     }
 }
 
-/// Hands a payload on: a command is read, the rest goes to the layer above.
-fn deliver(opened: &OpenedFrame<'_>) -> Result<(), Refusal> {
-    let source = opened.header.source;
-    match opened.header.frame_control.frame_type.payload()? {
-        NwkPayload::Command => println!("{source}: {:?}", NwkCommand::read(opened.payload)?.command_id()),
-        NwkPayload::Opaque => println!("{source}: {} bytes for the layer above", opened.payload.len()),
+/// Hands an authenticated payload on: a command is read, the rest goes to the layer above.
+fn deliver(frame: &OpenedFrame<'_>) -> Result<(), Refusal> {
+    let source = frame.header.source;
+    match frame.header.frame_control.frame_type.payload()? {
+        NwkPayload::Command => println!("{source}: {:?}", NwkCommand::read(frame.payload)?.command_id()),
+        NwkPayload::Opaque => println!("{source}: {} bytes for the layer above", frame.payload.len()),
+    }
+    Ok(())
+}
+
+/// Shows a clear frame to the commissioning staff, and hands nothing on: anyone may have sent it.
+fn show_to_staff(frame: &ClearFrame<'_>) -> Result<(), Refusal> {
+    let source = frame.header.source;
+    match frame.header.frame_control.frame_type.payload()? {
+        NwkPayload::Command => println!("clear, from {source}: {:?}", NwkCommand::read(frame.payload)?.command_id()),
+        NwkPayload::Opaque => {
+            println!("clear, from {source}: {} bytes of a probe that has yet to join", frame.payload.len())
+        }
     }
     Ok(())
 }
@@ -93,6 +110,6 @@ fn main() -> Result<(), Box<dyn std::error::Error>> {
     for (refusal, count) in &gateway.refused {
         println!("{count} {refusal}");
     }
-    println!("{} heard before", gateway.repeated);
+    println!("{} heard before, {} clear", gateway.repeated, gateway.clear);
     Ok(())
 }

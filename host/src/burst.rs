@@ -1,6 +1,6 @@
 //! Opening a burst: the frames that the radio hands over at once.
 use crate::refusal::length;
-use crate::{sys, Key, OpenedFrame, OpenedRecord, Refusal, MAX_PAYLOAD};
+use crate::{sys, Key, Opened, OpenedRecord, Refusal, MAX_PAYLOAD};
 use core::fmt;
 use core::iter::{FusedIterator, Zip};
 use core::slice::{ChunksExact, Iter};
@@ -9,47 +9,56 @@ use core::slice::{ChunksExact, Iter};
 /// each. What comes back gives every frame, in its order, as [`open`](crate::open) would have. A refused frame stops no
 /// other.
 ///
-/// The payload of frame k (from 0) stands at the front of its own part of the output, the [`MAX_PAYLOAD`] bytes from
-/// `MAX_PAYLOAD * k`; the rest of the output stays as it was. `answers` has a place for each frame, and may have more.
+/// Look at each frame's mark first: it says where its payload is, and whether anybody vouches for it. The payload of a sealed
+/// frame k (from 0) stands at the front of its own part of the output, the [`MAX_PAYLOAD`] bytes from `MAX_PAYLOAD * k`. A clear
+/// frame leaves its part as it was: its payload is the last bytes of that frame, and its length says nothing of the output.
+/// If the frame's type is 1 that is a command, to be read apart. The rest of the output stays as it was. `answers` has a
+/// place for each frame, and may have more.
 ///
 /// ```
 /// use store_reader::{
-///     open, open_burst, seal, Eui64, Key, Nwk, NwkAuxHeader, NwkFrameType, NwkHeader, OpenedRecord, Refusal, MAX_BURST,
-///     MAX_BURST_OUTPUT, MAX_FRAME, MAX_PAYLOAD,
+///     open, open_burst, seal, write, Eui64, Key, Nwk, NwkAuxHeader, NwkFrameType, NwkHeader, Opened, OpenedRecord, Refusal,
+///     MAX_BURST, MAX_BURST_OUTPUT, MAX_FRAME, MAX_PAYLOAD,
 /// };
 ///
 /// let key: Key = "C0C1C2C3C4C5C6C7C8C9CACBCCCDCECF".parse().unwrap();
 /// let mut header = NwkHeader::new(NwkFrameType::Data, Nwk(0x1234), Nwk(0x0000));
-/// header.frame_control.security = true;
 /// let probe = Eui64([1, 2, 3, 4, 5, 6, 7, 8]);
 ///
-/// // Two frames end to end, the last bit of the first one damaged.
-/// let mut frames = [0; 2 * MAX_FRAME];
-/// let n = seal(&key, &header, Some(&NwkAuxHeader::new(1, probe)), b"21.5 C", &mut frames)?;
-/// let m = seal(&key, &header, Some(&NwkAuxHeader::new(2, probe)), b"21.7 C", &mut frames[n..])?;
-/// frames[n - 1] ^= 1;
+/// // Three frames end to end: a clear one, a sealed one whose last bit is damaged, and a sealed one.
+/// let mut frames = [0; 3 * MAX_FRAME];
+/// let m = write(&header, b"new here", &mut frames)?;
+/// header.frame_control.security = true;
+/// let n = seal(&key, &header, Some(&NwkAuxHeader::new(1, probe)), b"21.5 C", &mut frames[m..])?;
+/// let end = m + n + seal(&key, &header, Some(&NwkAuxHeader::new(2, probe)), b"21.7 C", &mut frames[m + n..])?;
+/// frames[m + n - 1] ^= 1;
 ///
+/// let lengths = [m as u16, n as u16, n as u16];
 /// let mut answers = [OpenedRecord::new(); MAX_BURST];
 /// let mut out = [0; MAX_BURST_OUTPUT];
-/// let mut burst = open_burst(&key, &frames[..n + m], &[n as u16, m as u16], &mut answers, &mut out)?;
-/// assert_eq!(burst.len(), 2);
+/// let mut burst = open_burst(&key, &frames[..end], &lengths, &mut answers, &mut out)?;
+/// assert_eq!(burst.len(), 3);
+/// match burst.next().unwrap()? {
+///     Opened::Clear(frame) => assert_eq!(frame.payload, &frames[m - 8..m]),
+///     Opened::Sealed(_) => panic!("it was clear"),
+/// }
 /// assert_eq!(burst.next(), Some(Err(Refusal::WRONG_MIC)));
 ///
-/// let second = burst.next().unwrap();
-/// assert_eq!(second, open(&key, &frames[n..n + m], &mut [0; MAX_PAYLOAD]));
-/// assert_eq!(second?.payload, b"21.7 C");
+/// let third = burst.next().unwrap();
+/// assert_eq!(third, open(&key, &frames[m + n..end], &mut [0; MAX_PAYLOAD]));
+/// assert_eq!(third?.sealed().map(|frame| frame.payload), Some(&b"21.7 C"[..]));
 /// # Ok::<(), Refusal>(())
 /// ```
 ///
 /// # Errors
 ///
 /// Refusal 20: there are more than 16 lengths, they do not add up to the bytes of `frames`, the output is shorter than 108
-/// times their number, or there are fewer answers than lengths. A frame's own refusal, 1 to 12, 14, 15, 16 or 19, is no
-/// error of the burst: it stands where that frame does.
+/// times their number, or there are fewer answers than lengths. A frame's own refusal, 1 to 12, 15, 16 or 19, is no error of
+/// the burst: it stands where that frame does.
 pub fn open_burst<'a>(
     key: &Key,
-    frames: &[u8],
-    lengths: &[u16],
+    frames: &'a [u8],
+    lengths: &'a [u16],
     answers: &'a mut [OpenedRecord],
     out: &'a mut [u8],
 ) -> Result<Burst<'a>, Refusal> {
@@ -71,26 +80,32 @@ pub fn open_burst<'a>(
         )
     };
     let answers = answers.get(..length(answer)?).ok_or(Refusal::INTERNAL)?;
-    Ok(Burst { frames: answers.iter().zip(out.chunks_exact(MAX_PAYLOAD)) })
+    Ok(Burst { answers: answers.iter().zip(lengths).zip(out.chunks_exact(MAX_PAYLOAD)), frames })
 }
 
 /// The frames of a burst: an iterator over what [`open`](crate::open) would have given for each. [`open_burst`] makes it.
 #[derive(Clone)]
 pub struct Burst<'a> {
-    /// The answer of each frame, and its part of the output.
-    frames: Zip<Iter<'a, OpenedRecord>, ChunksExact<'a, u8>>,
+    /// The answer of each frame, its length, and its part of the output.
+    answers: Zip<Zip<Iter<'a, OpenedRecord>, Iter<'a, u16>>, ChunksExact<'a, u8>>,
+    /// The frames that are still to come, end to end.
+    frames: &'a [u8],
 }
 
 impl<'a> Iterator for Burst<'a> {
-    type Item = Result<OpenedFrame<'a>, Refusal>;
+    type Item = Result<Opened<'a>, Refusal>;
 
     fn next(&mut self) -> Option<Self::Item> {
-        let (record, part) = self.frames.next()?;
-        Some(OpenedFrame::from_record(record, part))
+        let ((record, length), part) = self.answers.next()?;
+        let Some((frame, rest)) = self.frames.split_at_checked(usize::from(*length)) else {
+            return Some(Err(Refusal::INTERNAL));
+        };
+        self.frames = rest;
+        Some(Opened::from_record(record, frame, part))
     }
 
     fn size_hint(&self) -> (usize, Option<usize>) {
-        self.frames.size_hint()
+        self.answers.size_hint()
     }
 }
 

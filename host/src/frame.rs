@@ -1,7 +1,7 @@
 //! Reading, writing, sealing and opening frames.
 use crate::header::Records;
-use crate::refusal::length;
-use crate::{sys, Key, NwkAuxHeader, NwkHeader, OpenedRecord, Refusal};
+use crate::refusal::{is_clear, length};
+use crate::{sys, Key, NwkAuxHeader, NwkHeader, Opened, OpenedRecord, Refusal};
 
 /// A frame as read: its headers, and what is behind them. Behind an auxiliary header that is ciphertext with MIC, else
 /// the payload.
@@ -13,27 +13,6 @@ pub struct NwkFrame<'a> {
     pub auxiliary: Option<NwkAuxHeader>,
     /// The bytes behind the headers.
     pub rest: &'a [u8],
-}
-
-/// A sealed frame as opened: its headers, the auxiliary one with the level received, and its payload.
-#[derive(Debug, Clone, PartialEq, Eq)]
-pub struct OpenedFrame<'a> {
-    /// The NWK header.
-    pub header: NwkHeader,
-    /// The auxiliary header.
-    pub auxiliary: NwkAuxHeader,
-    /// The bytes that were sealed, at the front of the output. The frame's type says what they are:
-    /// [`NwkFrameType::payload`](crate::NwkFrameType::payload).
-    pub payload: &'a [u8],
-}
-
-impl<'a> OpenedFrame<'a> {
-    /// The frame of a record that the codec filled in, its payload at the front of the output; or the record's refusal.
-    pub(crate) fn from_record(record: &OpenedRecord, out: &'a [u8]) -> Result<Self, Refusal> {
-        let n = record.length()?;
-        let (header, auxiliary) = record.headers()?;
-        Ok(Self { header, auxiliary, payload: out.get(..n).ok_or(Refusal::INTERNAL)? })
-    }
 }
 
 /// Reads a frame without a key.
@@ -117,7 +96,7 @@ pub fn write(header: &NwkHeader, payload: &[u8], out: &mut [u8]) -> Result<usize
 /// assert_eq!(n, 8 + 14 + 6 + 4);
 ///
 /// let mut out = [0; MAX_PAYLOAD];
-/// let opened = open(&key, &frame[..n], &mut out)?;
+/// let opened = open(&key, &frame[..n], &mut out)?.sealed().expect("a sealed frame");
 /// assert_eq!((opened.header, opened.auxiliary, opened.payload), (header, auxiliary, &b"21.5 C"[..]));
 ///
 /// frame[n - 1] ^= 1;
@@ -155,13 +134,47 @@ pub fn seal(
     })
 }
 
-/// Opens a sealed frame; its payload stands at the front of the output, of which [`MAX_PAYLOAD`](crate::MAX_PAYLOAD) bytes are
-/// always enough. An example stands at [`seal`]; [`open_burst`](crate::open_burst) opens several frames at once.
+/// Opens a frame, and says whether it was sealed or clear. Look at that mark first: it says where the payload is, and whether
+/// anybody vouches for it.
+///
+/// - A sealed frame's payload is authenticated, and stands at the front of the output, of which
+///   [`MAX_PAYLOAD`](crate::MAX_PAYLOAD) bytes are always enough.
+/// - A clear frame has its security bit off. Its payload is a part of the frame; the key is not used and the output is not
+///   touched, so the payload may be longer than the output, which may be empty. Anyone may have sent it. If the frame's type is
+///   1 it is a command, to be read apart.
+///
+/// ```
+/// use store_reader::{
+///     open, seal, write, Eui64, Key, Nwk, NwkAuxHeader, NwkFrameType, NwkHeader, Opened, Refusal, MAX_FRAME, MAX_PAYLOAD,
+/// };
+///
+/// let key: Key = "C0C1C2C3C4C5C6C7C8C9CACBCCCDCECF".parse().unwrap();
+/// let mut header = NwkHeader::new(NwkFrameType::Data, Nwk(0x1234), Nwk(0x0000));
+/// let (mut sealed, mut clear) = ([0; MAX_FRAME], [0; MAX_FRAME]);
+/// let m = write(&header, b"new here", &mut clear)?;
+/// header.frame_control.security = true;
+/// let auxiliary = NwkAuxHeader::new(1, Eui64([1, 2, 3, 4, 5, 6, 7, 8]));
+/// let n = seal(&key, &header, Some(&auxiliary), b"21.5 C", &mut sealed)?;
+///
+/// let mut out = [0; MAX_PAYLOAD];
+/// match open(&key, &sealed[..n], &mut out)? {
+///     Opened::Sealed(frame) => assert_eq!(frame.payload, b"21.5 C"),
+///     Opened::Clear(_) => panic!("it was sealed"),
+/// }
+///
+/// // A clear frame needs no output, and is no authenticated one.
+/// let opened = open(&key, &clear[..m], &mut [])?;
+/// assert_eq!(opened.clone().sealed(), None);
+/// assert_eq!(opened.clear().map(|frame| frame.payload), Some(&b"new here"[..]));
+/// # Ok::<(), Refusal>(())
+/// ```
+///
+/// [`open_burst`](crate::open_burst) opens several frames at once.
 ///
 /// # Errors
 ///
-/// Refusals 1 to 12, 14, 15, 16, 18, 19.
-pub fn open<'a>(key: &Key, frame: &[u8], out: &'a mut [u8]) -> Result<OpenedFrame<'a>, Refusal> {
+/// Refusals 1 to 12; of a sealed frame also 15, 16, 18, 19.
+pub fn open<'a>(key: &Key, frame: &'a [u8], out: &'a mut [u8]) -> Result<Opened<'a>, Refusal> {
     let (first, second) = key.halves();
     let mut record = OpenedRecord::new();
     // SAFETY: each pointer goes with the length of its slice, and no two slices overlap.
@@ -178,5 +191,9 @@ pub fn open<'a>(key: &Key, frame: &[u8], out: &'a mut [u8]) -> Result<OpenedFram
         )
     };
     length(answer)?;
-    OpenedFrame::from_record(&record, out)
+    let opened = Opened::from_record(&record, frame, out)?;
+    match is_clear(answer) == matches!(opened, Opened::Clear(_)) {
+        true => Ok(opened),
+        false => Err(Refusal::INTERNAL),
+    }
 }

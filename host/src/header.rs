@@ -9,9 +9,15 @@ const HEADER_RECORD: usize = 147;
 const AUXILIARY_RECORD: usize = 19;
 const OPENED_RECORD: usize = 182;
 
-/// Where an opened record has the payload's length, and the header record with the auxiliary record behind it.
+/// Where an opened record has its mark, the payload's length, and the header record with the auxiliary record behind it.
+const OPENED_MARK_AT: usize = 1;
 const OPENED_LENGTH_AT: usize = 2;
 const OPENED_HEADER_AT: usize = 16;
+
+/// The marks of an opened record: that of a refused frame, of a clear one and of a sealed one.
+const MARK_NONE: u8 = 0;
+const MARK_CLEAR: u8 = 1;
+const MARK_SEALED: u8 = 2;
 
 /// How many relays a source route has places for.
 const RELAY_PLACES: usize = 54;
@@ -440,19 +446,29 @@ impl OpenedRecord {
         Self([0; OPENED_RECORD])
     }
 
-    /// The payload's length, or by which number the frame was refused.
-    pub(crate) fn length(&self) -> Result<usize, Refusal> {
-        accepted(Taker::new(&self.0, 0).byte())?;
-        Ok(usize::from(Taker::new(&self.0, OPENED_LENGTH_AT).word()))
+    /// Whether the frame was sealed, or by which number it was refused. A refused frame bears no mark, an accepted one does.
+    pub(crate) fn is_sealed(&self) -> Result<bool, Refusal> {
+        let refusal = accepted(Taker::new(&self.0, 0).byte());
+        match (refusal, Taker::new(&self.0, OPENED_MARK_AT).byte()) {
+            (Err(refusal), MARK_NONE) => Err(refusal),
+            (Ok(()), MARK_CLEAR) => Ok(false),
+            (Ok(()), MARK_SEALED) => Ok(true),
+            _ => Err(Refusal::INTERNAL),
+        }
     }
 
-    /// The two headers. An opened frame has both.
-    pub(crate) fn headers(&self) -> Result<(NwkHeader, NwkAuxHeader), Refusal> {
+    /// The payload's length, wherever it stands.
+    pub(crate) fn length(&self) -> usize {
+        usize::from(Taker::new(&self.0, OPENED_LENGTH_AT).word())
+    }
+
+    /// The two headers, of which a clear frame has the first alone.
+    pub(crate) fn headers(&self) -> Result<(NwkHeader, Option<NwkAuxHeader>), Refusal> {
         let (_, records) = self.0.split_at(OPENED_HEADER_AT);
         let (header, auxiliary) = records.split_at(HEADER_RECORD);
         let header = header.try_into().map_err(|_| Refusal::INTERNAL)?;
         let auxiliary = auxiliary.try_into().map_err(|_| Refusal::INTERNAL)?;
-        Ok((NwkHeader::from_record(header)?, NwkAuxHeader::from_record(auxiliary)?.ok_or(Refusal::INTERNAL)?))
+        Ok((NwkHeader::from_record(header)?, NwkAuxHeader::from_record(auxiliary)?))
     }
 }
 

@@ -17,7 +17,8 @@
 //! let mut frame = [0; MAX_FRAME];
 //! let n = seal(&key, &header, Some(&NwkAuxHeader::new(1, probe)), b"21.5 C", &mut frame)?;
 //! let mut out = [0; MAX_PAYLOAD];
-//! assert_eq!(open(&key, &frame[..n], &mut out)?.payload, b"21.5 C");
+//! let opened = open(&key, &frame[..n], &mut out)?.sealed().expect("a sealed frame");
+//! assert_eq!(opened.payload, b"21.5 C");
 //!
 //! // The last byte lost: the MIC is then not the one computed.
 //! let refusal = open(&key, &frame[..n - 1], &mut out).unwrap_err();
@@ -26,7 +27,9 @@
 //! # Ok::<(), Refusal>(())
 //! ```
 //!
-//! The frames that a radio hands over at once are opened in one call by [`open_burst`].
+//! [`open`] takes clear frames too, whose security bit is off and whose payload nobody vouches for. So what it gives has a
+//! mark, [`Opened`], and there is no way to a payload but through it. The frames that a radio hands over at once are opened in
+//! one call by [`open_burst`].
 #![no_std]
 #![deny(missing_docs)]
 #![warn(clippy::missing_errors_doc, clippy::must_use_candidate)]
@@ -39,6 +42,7 @@ mod command;
 mod frame;
 mod header;
 mod list;
+mod opened;
 mod record;
 mod refusal;
 #[doc(hidden)]
@@ -53,12 +57,13 @@ pub use command::{
     NwkEndDeviceTimeoutResponseStatus, NwkLinkPowerDeltaType, NwkLinkStatus, NwkNetworkStatus, NwkPowerListEntry,
     NwkRejoinCapabilityInformation, NwkReportCommandIdentifier, NwkRouteRequestManyToOne, NwkUpdateCommandIdentifier,
 };
-pub use frame::{open, read, seal, write, NwkFrame, OpenedFrame};
+pub use frame::{open, read, seal, write, NwkFrame};
 pub use header::{
     NwkAuxHeader, NwkFrameControl, NwkFrameType, NwkHeader, NwkPayload, NwkRouteDiscovery,
     NwkSecurityHeaderControlField, NwkSecurityHeaderKeyId, NwkSecurityLevel, NwkSourceRoute, OpenedRecord,
 };
 pub use list::{Full, List};
+pub use opened::{ClearFrame, Opened, OpenedFrame};
 pub use refusal::Refusal;
 
 /// The most bytes that a frame has.

@@ -31,7 +31,7 @@ refusals! {
     NO_KEY_SEQUENCE = 11, "an auxiliary header with extended nonce has exactly 13 bytes";
     PAYLOAD = 12, "an unsecured payload, or a command to read, has more than 108 bytes";
     FIELD = 13, "a field to write exceeds its bits or has an undeclared code, or a list exceeds its places";
-    NO_AUXILIARY = 14, "sealing or opening has no auxiliary header";
+    NO_AUXILIARY = 14, "sealing has no auxiliary header";
     NO_IEEE = 15, "sealing or opening has neither an auxiliary nor a header source IEEE";
     NO_MIC = 16, "ciphertext with MIC has fewer than 4 bytes";
     LENGTH = 17, "the bytes to write exceed 118 for a header or frame, or 108 for a payload, alone or in a frame";
@@ -61,8 +61,8 @@ refusals! {
 pub struct Refusal(u8);
 
 impl Refusal {
-    /// Not an answer of the codec and not in the list: the codec filled in a code that this crate does not know, so the
-    /// archive is not the one that the crate was written for. The number is 255.
+    /// Not an answer of the codec and not in the list: the codec filled in a code or a mark that this crate does not know, so
+    /// the archive is not the one that the crate was written for. The number is 255.
     pub const INTERNAL: Self = Self(u8::MAX);
 
     /// The refusal with this number, if the list has it.
@@ -122,6 +122,11 @@ pub(crate) fn length(answer: u64) -> Result<usize, Refusal> {
     let low = answer.to_le_bytes();
     accepted(low[4])?;
     Ok(u32::from_le_bytes([low[0], low[1], low[2], low[3]]) as usize)
+}
+
+/// Whether an answer of opening has the mark of a clear frame: bit 40.
+pub(crate) fn is_clear(answer: u64) -> bool {
+    answer >> 40 & 1 == 1
 }
 
 /// The refusal with a number that the codec gave; 0 is none.

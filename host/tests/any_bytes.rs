@@ -5,7 +5,7 @@ mod support;
 use std::fs;
 use store_reader::{
     decrypt_ccm, encrypt_ccm, hex, open, open_burst, read, seal, split_mic, write, Eui64, Key, NwkAuxHeader,
-    NwkCommand, NwkHeader, OpenedRecord, Refusal, MAX_BURST, MAX_FRAME, MAX_PAYLOAD,
+    NwkCommand, NwkHeader, Opened, OpenedRecord, Refusal, MAX_BURST, MAX_FRAME, MAX_PAYLOAD,
 };
 use support::command::{root, run, KEY};
 use support::random::Random;
@@ -23,10 +23,28 @@ fn bytes(random: &mut Random) -> Vec<u8> {
     bytes
 }
 
+/// Any bytes may be a clear frame, whose payload is then that frame's last bytes. They are no sealed one, since no MIC is right
+/// by chance, and opening never gives 14. Says whether the frame was clear.
+fn is_clear(opened: Result<Opened, Refusal>, frame: &[u8]) -> bool {
+    match opened {
+        Ok(Opened::Sealed(_)) => panic!("a MIC is right by chance"),
+        Ok(Opened::Clear(clear)) => {
+            assert_eq!(clear.payload.as_ptr_range().end, frame.as_ptr_range().end);
+            assert!(clear.payload.len() <= MAX_PAYLOAD && !clear.header.frame_control.security);
+            true
+        }
+        Err(refusal) => {
+            let number = refusal.number();
+            assert!((1..=19).contains(&number) && number != 14, "{refusal}");
+            false
+        }
+    }
+}
+
 #[test]
 fn safe_operations_take_any_bytes() {
     let mut random = Random::new(SEED);
-    let (mut headers, mut commands) = (0, 0);
+    let (mut headers, mut clear, mut commands) = (0, 0, 0);
     for _ in 0..ROUNDS {
         let (input, key) = (bytes(&mut random), Key::new(random.array()));
         let room = random.below(MAX_FRAME + 4);
@@ -40,9 +58,8 @@ fn safe_operations_take_any_bytes() {
             let _ = seal(&key, &frame.header, None, frame.rest, &mut out).map_err(number);
         }
         out.fill(0xA5);
-        if open(&key, &input, &mut out).map(|_| ()).map_err(number).is_err() {
-            assert!(out.iter().all(|byte| *byte == 0xA5));
-        }
+        clear += usize::from(is_clear(open(&key, &input, &mut out), &input));
+        assert!(out.iter().all(|byte| *byte == 0xA5));
         let _ = NwkHeader::read(&input).map_err(number);
         let _ = NwkAuxHeader::read(&input).map_err(number);
         if let Ok(command) = NwkCommand::read(&input).map_err(number) {
@@ -57,8 +74,8 @@ fn safe_operations_take_any_bytes() {
         let _ = split_mic(&input).map_err(number);
         let _ = hex(&String::from_utf8_lossy(&input), &mut out);
     }
-    println!("{ROUNDS} inputs, {headers} read as frames, {commands} as commands");
-    assert!(headers > ROUNDS / 20 && commands > ROUNDS / 2);
+    println!("{ROUNDS} inputs, {headers} read as frames, {clear} opened as clear, {commands} read as commands");
+    assert!(headers > ROUNDS / 20 && clear > ROUNDS / 20 && commands > ROUNDS / 2);
 }
 
 /// Lengths that cut the bytes into frames: any, or such that they add up.
@@ -76,7 +93,7 @@ fn lengths(bytes: &[u8], random: &mut Random) -> Vec<u16> {
 #[test]
 fn a_burst_takes_any_bytes_and_lengths() {
     let mut random = Random::new(SEED + 2);
-    let (mut bursts, mut frames) = (0, 0);
+    let (mut bursts, mut frames, mut clear) = (0, 0, 0);
     for _ in 0..ROUNDS / 4 {
         let (input, key) = (bytes(&mut random), Key::new(random.array()));
         let lengths = lengths(&input, &mut random);
@@ -87,17 +104,19 @@ fn a_burst_takes_any_bytes_and_lengths() {
             Ok(burst) => {
                 assert_eq!(burst.len(), lengths.len());
                 bursts += 1;
-                for answer in burst {
-                    let number = answer.expect_err("no MIC is right by chance").number();
-                    assert!((1..=19).contains(&number), "{number}");
+                let mut end = 0;
+                for (answer, &length) in burst.zip(&lengths) {
+                    end += usize::from(length);
+                    clear += usize::from(is_clear(answer, &input[..end]));
                     frames += 1;
                 }
             }
         }
         assert!(out.iter().all(|byte| *byte == 0xA5));
     }
-    println!("{bursts} bursts with {frames} frames");
+    println!("{bursts} bursts with {frames} frames, {clear} of them clear");
     assert!(bursts > ROUNDS / 20 && frames > ROUNDS / 4, "{bursts} bursts with {frames} frames");
+    assert!(clear > ROUNDS / 100, "{clear} clear frames");
 }
 
 /// Samples with bytes changed, put in, taken out and cut off: the command ends with a status of its own and its lines.

@@ -1,18 +1,18 @@
 //! Bursts: each frame has the answer and leaves the bytes that the codec's own `nwk_open` gives for that frame alone, with
-//! its part of the output lent; and the words of document 02, request 1, case by case.
+//! its part of the output lent; and the words of document 02, requests 1 and 3, case by case.
 #[allow(dead_code)]
 mod support;
 
-use support::calls::{check_boundary, lengths_of, perform, Call, Outcome};
+use support::calls::{check_boundary, length_of, lengths_of, payload_of, perform, Call, Outcome};
 use support::compare::compare;
 use support::generate::bursts;
 use support::hex::unhex;
-use support::operations::{Operation, MAX_BURST, OPENED_RECORD, PART};
+use support::operations::{Operation, MARK_CLEAR, MARK_SEALED, MAX_BURST, OPENED_MARK, OPENED_RECORD, PART};
 use support::random::Random;
 
 const SEED: u64 = 0xB0_0257;
 const ROUNDS: usize = 6_000;
-/// Bursts of every size, and each own answer, are compared at least this often.
+/// Bursts of every size, each own answer and each mark are compared at least this often.
 const AT_LEAST: usize = 20;
 
 const FILL: u8 = 0xA5;
@@ -35,43 +35,65 @@ fn asked(frames: &[u8], lengths: &[u16], answers: usize, room: usize) -> Outcome
     compare(&Call::burst(KEY, frames, lengths, answers, room), FILL, 0x96)
 }
 
-/// What `nwk_open` leaves of a frame alone in a record and a part that were filled, and its number.
-fn alone(key: [u8; 16], frame: &[u8], fill: u8) -> (u8, Vec<u8>, Vec<u8>) {
-    let rooms = vec![OPENED_RECORD, PART];
-    let call = Call { operation: Operation::Open, key, inputs: vec![frame.to_vec()], rooms };
-    let mut opened = perform(&call, fill, 0x69);
-    let part = opened.outputs.pop().expect("a part");
-    let record = opened.outputs.pop().expect("a record");
-    (opened.refusal(), record, part)
-}
-
 /// The record that a burst has for a frame: opening's own, or its number and zeros.
-fn answer(number: u8, record: Vec<u8>) -> Vec<u8> {
-    match number {
-        0 => record,
-        _ => [vec![number], vec![0; OPENED_RECORD - 1]].concat(),
+fn answer(alone: &Outcome) -> Vec<u8> {
+    match alone.refusal() {
+        0 => alone.outputs[0].clone(),
+        number => [vec![number], vec![0; OPENED_RECORD - 1]].concat(),
     }
 }
 
-/// Compares each frame with opening it alone, and gives the frames' own answers.
-fn compare_with_open(call: &Call, opened: &Outcome, fill: u8) -> Vec<u8> {
+/// Compares each frame with opening it alone into its part: the answer with its mark, the part, and where the payload is. Gives
+/// the frames' own numbers and marks.
+fn compare_with_open(call: &Call, opened: &Outcome, fill: u8) -> Vec<(u8, u8)> {
     let mut own = Vec::new();
-    let mut rest = &call.inputs[0][..];
-    for ((k, length), (record, part)) in lengths_of(&call.inputs[1]).into_iter().enumerate().zip(opened.frames()) {
-        let (frame, behind) = rest.split_at(length);
-        rest = behind;
-        let (number, its_record, its_part) = alone(call.key, frame, fill);
-        assert_eq!(record, answer(number, its_record), "answer {k}: {}", call.line());
-        assert_eq!(part, its_part, "part {k}: {}", call.line());
-        own.push(number);
+    for (k, (frame, (record, part))) in call.frames().into_iter().zip(opened.frames()).enumerate() {
+        let its_call = Call::open(call.key, frame, PART);
+        let alone = perform(&its_call, fill, 0x69);
+        assert_eq!(record, answer(&alone), "answer {k}: {}", call.line());
+        assert_eq!(part, alone.outputs[1], "part {k}: {}", call.line());
+        if alone.refusal() == 0 {
+            assert_eq!(record[OPENED_MARK] == MARK_CLEAR, alone.clear(), "mark {k}: {}", call.line());
+            assert_eq!(length_of(record), alone.length(), "length {k}: {}", call.line());
+            assert_eq!(payload_of(record, frame, part), alone.payload(&its_call), "payload {k}: {}", call.line());
+        }
+        own.push((record[0], record[OPENED_MARK]));
     }
     own
+}
+
+/// How often each size of a burst, each own number of a frame and each mark was compared.
+#[derive(Default, Debug)]
+struct Compared {
+    sizes: [usize; MAX_BURST + 1],
+    numbers: [usize; 20],
+    marks: [usize; 3],
+}
+
+impl Compared {
+    fn count(&mut self, own: &[(u8, u8)]) {
+        self.sizes[own.len()] += 1;
+        for &(number, mark) in own {
+            self.numbers[usize::from(number)] += 1;
+            self.marks[usize::from(mark)] += 1;
+        }
+    }
+
+    fn check(&self) {
+        assert!(self.sizes.iter().chain(&self.marks).all(|&met| met >= AT_LEAST), "{self:?}");
+        for number in 0..20 {
+            let met = self.numbers[number];
+            // A part has room for every payload, opening writes nothing from a record, and it never gives 14.
+            let never = [13, 14, 17, 18].contains(&number);
+            assert!(if never { met == 0 } else { met >= AT_LEAST }, "{number} was met {met} times");
+        }
+    }
 }
 
 #[test]
 fn each_frame_is_as_opened_alone() {
     let mut random = Random::new(SEED);
-    let (mut sizes, mut numbers) = ([0; MAX_BURST + 1], [0; 20]);
+    let mut compared = Compared::default();
     for _ in 0..ROUNDS {
         let (key, fill) = (random.array(), random.byte());
         let inputs = bursts::inputs(&key, &mut random);
@@ -84,18 +106,12 @@ fn each_frame_is_as_opened_alone() {
         assert_eq!(opened.answer, expected, "{}", call.line());
         let own = compare_with_open(&call, &opened, fill);
         assert_eq!(own.len(), opened.length());
-        own.into_iter().for_each(|number| numbers[usize::from(number)] += 1);
         if count <= MAX_BURST {
-            sizes[count] += 1;
+            compared.count(&own);
         }
     }
-    println!("bursts by size {sizes:?}, frames by answer {numbers:?}");
-    assert!(sizes.iter().all(|&met| met >= AT_LEAST), "{sizes:?}");
-    for number in (0..20).filter(|number| ![13, 17, 18].contains(number)) {
-        assert!(numbers[number] >= AT_LEAST, "{number} was met {} times", numbers[number]);
-    }
-    // A part has room for every payload, and opening writes nothing from a record.
-    assert_eq!((numbers[13], numbers[17], numbers[18]), (0, 0, 0));
+    println!("{compared:?}");
+    compared.check();
 }
 
 /// "Frame number k (from 0) writes its plaintext into its own 108-byte part of the output, starting at 108 × k", and "a
@@ -119,6 +135,38 @@ fn each_frame_has_its_own_part_and_answer() {
     }
     assert_eq!(opened.outputs[1], out);
     assert!(opened.outputs[0][6 * OPENED_RECORD..].iter().all(|&byte| byte == FILL), "the place past the frames");
+}
+
+/// A clear data frame without and with payload, and a clear command with a source IEEE.
+const EMPTY_CLEAR: &str = "0800FCFF34121E07";
+const BEACON: (&str, &str) = ("0800FCFF34121E07AABBCC", "AABBCC");
+const CLEAR_COMMAND: (&str, &str) = ("0910FCFF34121E07C3B2A11C004B12000440", "0440");
+
+/// "In a burst a clear frame writes nothing to its part, and its payload is the frame's last bytes." The reading without its
+/// security bit is clear, all behind its header being payload; secured without an IEEE it is 15; and 109 clear bytes are 12.
+#[test]
+fn clear_frames_stand_beside_sealed_ones() {
+    let (reading, beacon) = (bytes(READING.0), bytes(BEACON.0));
+    let mut turned_off = reading.clone();
+    turned_off[1] = 0x00;
+    let no_ieee = bytes("08020000107A1E070845230100004A795E1A");
+    let long = [&beacon[..8], &[7; 109]].concat();
+    let (command, empty) = (bytes(CLEAR_COMMAND.0), bytes(EMPTY_CLEAR));
+    let frames = [&beacon[..], &reading, &no_ieee, &turned_off, &long, &empty, &command, &reading];
+    let lengths = frames.map(|frame| frame.len() as u16);
+    let opened = asked(&frames.concat(), &lengths, 8, 8 * 108);
+    assert_eq!(opened.answer, 8);
+
+    let own: Vec<(u8, u8)> = opened.frames().map(|(record, _)| (record[0], record[1])).collect();
+    let (clear, sealed) = ((0, MARK_CLEAR), (0, MARK_SEALED));
+    assert_eq!(own, [clear, sealed, (15, 0), clear, (12, 0), clear, clear, sealed]);
+    let behind = &READING.0[16..];
+    let payloads = [BEACON.1, READING.1, "-", behind, "-", "-", CLEAR_COMMAND.1, READING.1].map(bytes);
+    for (k, (record, part)) in opened.frames().enumerate() {
+        assert_eq!(payload_of(record, frames[k], part), payloads[k], "frame {k}");
+        let written = if own[k] == sealed { payloads[k].len() } else { 0 };
+        assert!(part[written..].iter().all(|&byte| byte == FILL), "part {k}");
+    }
 }
 
 /// A burst of so many readings, and by how much its bytes, first length, answers and output are more than fits.

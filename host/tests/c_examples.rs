@@ -65,14 +65,28 @@ fn the_example_that_seals_and_opens() {
     assert!(printed.ends_with("damaged: refusal 19, length 0\n"), "{printed}");
 }
 
-/// By document 02 a refused frame stops no other: the damaged one has its own answer, 19, and the empty one 2.
+/// By document 02 a refused frame stops no other: the damaged one has its own answer, 19, and the empty one 2. The clear one
+/// is accepted and marked so.
 #[test]
 fn the_example_that_opens_a_burst() {
-    let expected = "4 frames in one call
+    let expected = "5 frames in one call
 frame 0: 6 bytes from 0x1234, counter 1: 21.5 C
 frame 1: refused by 19: the MIC is not the one computed
 frame 2: refused by 2: a header has fewer than 8 bytes
 frame 3: 6 bytes from 0x1234, counter 3: 21.9 C
+frame 4: 6 bytes, clear, said to be from 0x1234: 22.0 C
 ";
     assert_eq!(output("burst", &root().join("examples/burst.c")), expected);
+}
+
+/// The payloads are the reports that `samples/capture.py` put in: the neighbour's second with 1990 hundredths of a degree, the
+/// probe's sixth with 2200. The clear one needs no output, the sealed one does.
+#[test]
+fn the_example_that_opens_a_clear_frame() {
+    let expected = "clear, from 0x9C44, 16 bytes: 00 01 02 04 04 01 01 02 18 02 0A 00 00 29 C6 07
+sealed, from 0x7A10, 16 bytes: 00 01 02 04 04 01 01 06 18 06 0A 00 00 29 98 08
+refused by 18: the lent output is shorter than what is to be written
+refused by 19: the MIC is not the one computed
+";
+    assert_eq!(output("clear", &root().join("examples/clear.c")), expected);
 }

@@ -1,5 +1,5 @@
-//! What `include/nwk.h` adds to the functions, from C and from C++: names, texts, offsets, numbers of a key, NULL for an
-//! empty slice.
+//! What `include/nwk.h` adds to the functions, from C and from C++: names, texts, offsets, numbers of a key, marks, where a
+//! payload is, NULL for an empty slice.
 #[allow(dead_code)]
 mod support;
 
@@ -52,8 +52,26 @@ fn c_and_cpp_print_the_same() {
         assert_eq!(lines.next(), Some("put D4C3B2A1 get A1B2C3D4 A1B2"));
         // A plaintext is a command if the type is 1, else opaque; 2 and 4 are no types.
         assert_eq!(lines.next(), Some("payloads opaque command refused opaque refused"));
+        check_payloads(&mut lines);
         check_empty(&mut lines);
         check_texts(lines);
+    }
+}
+
+/// The marks, bit 40 of an answer with a length of 16, every bit but that one, and where payloads are. By document 02, request
+/// 3: a header of zeros has 8 bytes, behind which a clear payload starts, whatever the output; a sealed one is in the output;
+/// a refused frame has none, and no mark.
+fn check_payloads<'a>(lines: &mut impl Iterator<Item = &'a str>) {
+    for expected in [
+        "marks 0 1 2 clear 1 16 0 0",
+        "clear 0 clear 1 mark 1 length 3 3 payload from 8",
+        "clear_with_room 0 clear 1 mark 1 length 3 3 payload from 8",
+        "clear_empty 0 clear 1 mark 1 length 0 0 payload from 8",
+        "sealed 0 clear 0 mark 2 length 3 3 payload in out",
+        "sealed_no_room 18 clear 0 mark 0 length 0 0 payload nowhere",
+        "damaged 19 clear 0 mark 0 length 0 0 payload nowhere",
+    ] {
+        assert_eq!(lines.next(), Some(expected));
     }
 }
 

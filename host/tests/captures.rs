@@ -333,7 +333,7 @@ fn value<'a>(line: &'a str, field: &str) -> &'a str {
     behind.split([',', '}']).next().unwrap_or("").trim_matches('"')
 }
 
-/// tshark, given the keys, reads the same addresses, counters and kinds, and opens the same frames.
+/// tshark, given the keys, reads the same addresses, counters and kinds, and opens the same frames. A clear frame has no counter.
 #[test]
 fn tshark_says_the_same_of_the_sample() {
     let neighbour = "000102030405060708090A0B0C0D0E0F";
@@ -381,7 +381,8 @@ fn tshark_says_the_same_of_the_sample() {
         assert_eq!(value(our, "destination").to_lowercase(), theirs[4], "{line}");
         assert_eq!(value(our, "sequence"), theirs[5], "{line}");
         assert_eq!(value(our, "counter"), theirs[6], "{line}");
-        assert_eq!(refused == "0", !theirs[7].is_empty(), "{line}");
+        assert_eq!(value(our, "mark") == "sealed", !theirs[7].is_empty(), "{line}");
+        assert_eq!(value(our, "mark") == "clear", theirs[6].is_empty(), "{line}");
         compared += 1;
     }
     assert_eq!((printed.lines().count(), compared), (20, 12));

@@ -21,7 +21,7 @@ const OPENED: &str = "   1  2026-11-18T11:06:40.000000Z  0x1A62 0x0000>none     
    7  2026-11-18T11:06:46.000000Z  0x1A62 0x0000>0x3F21   data      0x0000 -> 0xD105  sequence 22  counter 90211  payload 8 bytes: 0201020404010109
    8  2026-11-18T11:06:47.000000Z  0x1A62 0x7A10>0x0000   data      0x7A10 -> 0x0000  sequence 8  counter 74566  ieee 00:12:4B:00:1C:A1:B2:C3  refused by 19: the MIC is not the one computed
    9  2026-11-18T11:06:48.000000Z  0x1A62 0x9C44>0x0000   data      0x9C44 -> 0x0000  sequence 1  counter 3  ieee 00:12:4B:00:AA:AA:00:44  refused by 19: the MIC is not the one computed
-  10  2026-11-18T11:06:49.000000Z  0x1A62 0x9C44>0x0000   data      0x9C44 -> 0x0000  sequence 2  refused by 14: sealing or opening has no auxiliary header
+  10  2026-11-18T11:06:49.000000Z  0x1A62 0x9C44>0x0000   data      0x9C44 -> 0x0000  sequence 2  clear  payload 16 bytes: 000102040401010218020A000029C607
   11  2026-11-18T11:06:50.000000Z  0x1A62 0x7A10>0x0000   command   0x7A10 -> 0x0000  sequence 9  counter 74567  end device timeout request: timeout 14, seconds 983040, configuration 0
   12  2026-11-18T11:06:51.000000Z  0x1A62 0x7A10>0x0000   data      0x7A10 -> 0x0000  sequence 10  refused by 10: an auxiliary header with extended nonce has 6 to 12 bytes  (wrong frame check sequence)
   13  2026-11-18T11:06:52.000000Z  0x1A62 0x3F21>0x0000   command   0x3F21 -> 0x0000  sequence 60  counter 7001  network status: status source route failure, of 0xD105
@@ -34,10 +34,9 @@ const OPENED: &str = "   1  2026-11-18T11:06:40.000000Z  0x1A62 0x0000>none     
   20  2026-11-18T11:06:59.000000Z  0x1A62 0x7A10>0x0000   MAC data frame without a payload
 ";
 
-const SUMMARY: &str = "14 frames: 9 opened, 5 refused
+const SUMMARY: &str = "14 frames: 9 opened, 1 clear, 4 refused
      1 refused by 3: the frame type is 2
      1 refused by 10: an auxiliary header with extended nonce has 6 to 12 bytes
-     1 refused by 14: sealing or opening has no auxiliary header
      2 refused by 19: the MIC is not the one computed
      1 with a wrong frame check sequence
 6 records without a NWK frame to open
@@ -101,8 +100,9 @@ fn filters_choose_what_is_printed_and_not_what_is_counted() {
         ran.out
     };
     assert_eq!(open(&["--summary-only"]), SUMMARY);
-    assert_eq!(open(&["--refused"]), numbered(OPENED, &[8, 9, 10, 12, 15]) + SUMMARY);
+    assert_eq!(open(&["--refused"]), numbered(OPENED, &[8, 9, 12, 15]) + SUMMARY);
     assert_eq!(open(&["--source", "0xD105"]), numbered(OPENED, &[5, 6]) + SUMMARY);
+    assert_eq!(open(&["--source", "0x9C44"]), numbered(OPENED, &[9, 10, 15]) + SUMMARY);
     // The router made two frames and passed two on, which its long address stands in.
     assert_eq!(open(&["--source", "00:12:4B:00:1C:A1:00:02"]), numbered(OPENED, &[5, 6, 13, 14]) + SUMMARY);
     assert_eq!(open(&["--source=d105", "--source=0000"]), numbered(OPENED, &[2, 5, 6, 7]) + SUMMARY);
@@ -119,16 +119,17 @@ fn several_keys_are_told_by_their_place() {
                  key 2  payload 16 bytes: 000102040401010118010A000029C607\n";
     assert_eq!(numbered(&ran.out, &[9]).lines().next(), ninth.lines().next());
     assert!(ran.out.contains("counter 74565  key 1  payload"), "{}", ran.out);
-    assert!(
-        ran.out.contains("14 frames: 10 opened, 4 refused\n     9 opened with key 1\n     1 opened with key 2\n"),
-        "{}",
-        ran.out
-    );
+    let counts = "14 frames: 10 opened, 1 clear, 3 refused\n     9 opened with key 1\n     1 opened with key 2\n";
+    assert!(ran.out.contains(counts), "{}", ran.out);
+    // A clear frame is shown once and with no key, in whatever order the keys come.
+    assert_eq!(numbered(&ran.out, &[10]).lines().next(), numbered(OPENED, &[10]).lines().next());
     assert!(!ran.out.contains(KEY) && !ran.out.contains("C0C1C2C3"), "a key is printed");
     let other = "000102030405060708090A0B0C0D0E0F";
     let ran = run(&["open", "--key", other, "--key-file=samples/store.key", "--json", "samples/store.pcap"], b"");
     assert!(ran.out.contains(r#""opened_with_key":2,"payload":"000102040401010118010A0000296608""#), "{}", ran.out);
     assert!(ran.out.contains(r#""opened_with":[{"key":1,"count":1},{"key":2,"count":9}]"#), "{}", ran.out);
+    let tenth = ran.out.lines().find(|line| line.starts_with(r#"{"record":10,"#)).expect("the tenth record");
+    assert!(tenth.contains(r#""refusal":0,"mark":"clear","#) && !tenth.contains("key"), "{tenth}");
 }
 
 /// Two keys that open the same frame, one of them with the frame's key sequence number: that one is tried first.
@@ -156,9 +157,15 @@ fn keys_that_look_wrong_are_said_at_the_end() {
     let ran = run(&["open", "--key", other, "--csv", "--by-sender", "samples/store.pcap"], b"");
     assert_eq!(ran.err, "store-reader: no key opened any of 11 sealed frames: the keys look wrong\n");
     assert!(!ran.out.contains("wrong") && ran.status == 0, "{}", ran.out);
-    // A capture without any sealed frame says nothing of the keys.
-    let ran = run(&["open", "--key", other], b"0800000034121E07AA\n");
+    // A capture without any sealed frame says nothing of the keys, and clear frames beside sealed ones speak for no key.
+    let clear = "0800000034121E07AA\n";
+    let ran = run(&["open", "--key", other], clear.as_bytes());
     assert!(!ran.out.contains("wrong"), "{}", ran.out);
+    let ran = run(&["open", "--key", other, "--summary-only"], format!("{clear}{SEALED}\n{clear}").as_bytes());
+    let expected = "3 frames: 0 opened, 2 clear, 1 refused\n     \
+                    1 refused by 19: the MIC is not the one computed\n\
+                    no key opened any of 1 sealed frame: the keys look wrong\n";
+    assert_eq!((ran.out.as_str(), ran.status), (expected, 0));
 }
 
 #[test]
@@ -192,7 +199,7 @@ fn a_damaged_frame_is_counted_and_the_rest_is_opened() {
         "data      0x7A10 -> 0x0000  sequence 7  counter 74565  ieee 00:12:4B:00:1C:A1:B2:C3  refused by 19: the MIC \
                 is not the one computed  (wrong frame check sequence)\n";
     assert!(ran.out.contains(line), "{}", ran.out);
-    assert!(ran.out.contains("14 frames: 8 opened, 6 refused\n"), "{}", ran.out);
+    assert!(ran.out.contains("14 frames: 8 opened, 1 clear, 5 refused\n"), "{}", ran.out);
     assert_eq!((ran.err.as_str(), ran.status), ("", 0));
 }
 
@@ -309,6 +316,7 @@ fn json_is_one_object_a_line() {
 fn full_shows_every_field() {
     let ran = run(&["open", "--key", KEY, "--full"], SEALED.as_bytes());
     let expected = "line 1
+  mark: sealed
   type: data
   source: 0x1234
   destination: 0x0000
@@ -337,9 +345,9 @@ fn the_summary_as_a_table() {
     let ran = run(&["open", "--key", KEY, "--csv", "samples/store.pcap"], b"");
     let expected = "counted,refusal,count,condition
 opened,,9,
+clear,,1,
 refused,3,1,the frame type is 2
 refused,10,1,an auxiliary header with extended nonce has 6 to 12 bytes
-refused,14,1,sealing or opening has no auxiliary header
 refused,19,2,the MIC is not the one computed
 not a NWK frame,,1,6LoWPAN frame
 not a NWK frame,,1,Green Power frame
@@ -353,6 +361,115 @@ not read,,0,
     assert_eq!((ran.out.as_str(), ran.err.as_str(), ran.status), (expected, "", 0));
     let quoted = run(&["refusals", "--csv"], b"").out;
     assert!(quoted.contains("\n8,\"a source route has fewer than 2 + 2n bytes for its n relays, or fewer than 2\"\n"));
+}
+
+/// Clear frames, by document 02 accepted and marked so. The first has a payload of one byte, the second none, the third and the
+/// fourth are commands: document 01's `04 40`, a leave with request, and `04`, which is unparsed. In the fifth one relay of a
+/// source route stands between the header's eight bytes and the payload.
+const CLEAR: &str = "08 00 00 00 34 12 1E 07 AA
+08 00 00 00 34 12 1E 08
+09 00 00 00 34 12 1E 09 04 40
+09 00 00 00 34 12 1E 0A 04
+08 04 00 00 34 12 1E 0B 01 00 78 56 AA BB
+";
+
+#[test]
+fn clear_frames_are_shown_as_such_and_counted_apart() {
+    let ran = run(&["open", "--key", KEY], format!("{CLEAR}{SEALED}\n08\n").as_bytes());
+    let expected = "   1  data      0x1234 -> 0x0000  sequence 7  clear  payload 1 byte: AA
+   2  data      0x1234 -> 0x0000  sequence 8  clear  payload 0 bytes
+   3  command   0x1234 -> 0x0000  sequence 9  clear  leave: request
+   4  command   0x1234 -> 0x0000  sequence 10  clear  unparsed: bytes 04
+   5  data      0x1234 -> 0x0000  sequence 11  clear  payload 2 bytes: AABB
+   6  data      0x1234 -> 0x0000  sequence 7  counter 74565  payload 12 bytes: 73746F726520726561646572
+   7  refused by 2: a header has fewer than 8 bytes
+7 frames: 1 opened, 5 clear, 1 refused
+     1 refused by 2: a header has fewer than 8 bytes
+";
+    assert_eq!((ran.out.as_str(), ran.err.as_str(), ran.status), (expected, "", 0));
+    // Refused ones are those that do not read: clear frames are none of them.
+    let ran = run(&["open", "--key", KEY, "--refused"], CLEAR.as_bytes());
+    assert_eq!((ran.out.as_str(), ran.status), ("5 frames: 0 opened, 5 clear, 0 refused\n", 0));
+}
+
+/// 108 bytes are the most that a clear payload has.
+#[test]
+fn the_longest_clear_payload_is_shown_whole() {
+    let frame = |n: usize| format!("0800000034121E07{}\n", "C5".repeat(n));
+    let ran = run(&["open", "--key", KEY], (frame(108) + &frame(109)).as_bytes());
+    let expected = format!(
+        "   1  data      0x1234 -> 0x0000  sequence 7  clear  payload 108 bytes: {}\n   \
+         2  data      0x1234 -> 0x0000  sequence 7  refused by 12: an unsecured payload, or a command to read, has more than \
+         108 bytes\n2 frames: 0 opened, 1 clear, 1 refused\n",
+        "C5".repeat(108)
+    );
+    assert!(ran.out.starts_with(&expected), "{}", ran.out);
+}
+
+#[test]
+fn the_mark_of_a_clear_frame_in_full() {
+    let third = CLEAR.lines().nth(2).expect("a frame");
+    let ran = run(&["open", "--key", KEY, "--full"], third.as_bytes());
+    let expected = "line 1
+  mark: clear
+  type: command
+  source: 0x1234
+  destination: 0x0000
+  sequence: 9
+  radius: 30
+  version: 2
+  discovery: suppress
+  security: no
+  end device initiator: no
+  command
+    name: leave
+    rejoin: no
+    request: yes
+    remove children: no
+  payload: 0440
+1 frame: 0 opened, 1 clear, 0 refused
+";
+    assert_eq!((ran.out.as_str(), ran.status), (expected, 0));
+}
+
+/// An accepted frame has its mark, a refused one none, and the summary counts the clear ones even where there are none.
+#[test]
+fn marks_as_json() {
+    let open = |input: &str| run(&["open", "--key", KEY, "--json"], input.as_bytes()).out;
+    let input = format!("{}\n{SEALED}\n08\n", &CLEAR.lines().next().expect("a frame"));
+    let expected = concat!(
+        r#"{"line":1,"refusal":0,"mark":"clear","type":"data","source":"0x1234","destination":"0x0000","sequence":7,"#,
+        r#""radius":30,"version":2,"discovery":"suppress","security":false,"end_device_initiator":false,"payload":"AA"}"#,
+        "\n",
+        r#"{"line":2,"refusal":0,"mark":"sealed","type":"data","source":"0x1234","destination":"0x0000","sequence":7,"#,
+        r#""radius":30,"version":2,"discovery":"enable","security":true,"end_device_initiator":false,"auxiliary":"#,
+        r#"{"counter":74565,"level":0,"key":"network key","key_sequence":0,"verified_counter":false,"#,
+        r#""ieee":"08:07:06:05:04:03:02:01"},"payload":"73746F726520726561646572"}"#,
+        "\n",
+        r#"{"line":3,"refusal":2,"condition":"a header has fewer than 8 bytes","bytes":"08"}"#,
+        "\n",
+        r#"{"summary":{"frames":3,"opened":1,"clear":1,"refused":1,"refusals":[{"refusal":2,"count":1,"#,
+        r#""condition":"a header has fewer than 8 bytes"}],"skipped":[],"wrong_fcs":0,"broken":0}}"#,
+        "\n"
+    );
+    assert_eq!(open(&input), expected);
+    let none = open(SEALED);
+    assert!(none.contains(r#"{"summary":{"frames":1,"opened":1,"clear":0,"refused":0,"#), "{none}");
+}
+
+/// Without a clear frame the line is as it was, and the table has its row with 0. Reading marks nothing.
+#[test]
+fn where_nothing_is_clear() {
+    let ran = run(&["open", "--key", KEY, "--summary-only"], SEALED.as_bytes());
+    assert_eq!(ran.out, "1 frame: 1 opened, 0 refused\n");
+    let ran = run(&["open", "--key", KEY, "--csv"], SEALED.as_bytes());
+    assert!(ran.out.starts_with("counted,refusal,count,condition\nopened,,1,\nclear,,0,\nwrong"), "{}", ran.out);
+    for options in [&[][..], &["--full"], &["--json"], &["--csv"], &["--by-sender"], &["--by-sender", "--csv"]] {
+        let read = run(&[&["read"], options].concat(), format!("{CLEAR}{SEALED}\n").as_bytes());
+        assert!(!read.out.contains("clear") && !read.out.contains("mark"), "{options:?}: {}", read.out);
+    }
+    let command = run(&["command"], b"04 40\n");
+    assert_eq!(command.out, "   1  leave: request\n1 command: 1 read, 0 refused\n");
 }
 
 #[test]

@@ -23,6 +23,9 @@ const FILES: [File; 7] = [
     File { program: "command_cases", name: "commands.txt", things: "cases" },
 ];
 
+/// The place of the mark in a case of opening.
+const MARK: usize = 5;
+
 const DAMAGED: &str = "is damaged";
 const DIFFERS: &str = "differs";
 /// The runs so far: each has a folder of its own.
@@ -88,7 +91,8 @@ impl File {
         damaged
     }
 
-    /// The words that a case of this file gives as its answer. An entry that fails with one ciphertext fails with another.
+    /// The words of digits that a case of this file gives as its answer. An entry that fails with one ciphertext fails with
+    /// another.
     fn answers(&self, words: &[&str]) -> &'static [usize] {
         match (self.name, words[0]) {
             ("aes128_ecb.txt", _) => &[2],
@@ -102,7 +106,7 @@ impl File {
             (_, "fields" | "aux-fields") => &[2],
             (_, "write") => &[4, 5],
             (_, "seal") => &[6, 7],
-            (_, "open") => &[4, 5, 6],
+            (_, "open") => &[4, 6, 7],
             (_, "split") => &[2, 3, 4],
             (_, kind) => panic!("{}: no answers are known for {kind}", self.name),
         }
@@ -196,6 +200,21 @@ fn other_answers_differ() {
             });
         }
         assert!(changed > 0, "{}", file.name);
+    });
+}
+
+/// Each mark in the place of the two others.
+#[test]
+fn other_marks_differ() {
+    run_if_built(|file| {
+        if file.name == "frames.txt" {
+            for mark in ["-", "clear", "sealed"] {
+                let changed = file.check("another mark", DIFFERS, |words| {
+                    (words[0] == "open").then(|| with_word(words, MARK, |_| mark.to_owned())).flatten()
+                });
+                assert!(changed > 0, "{mark}");
+            }
+        }
     });
 }
 

@@ -1,5 +1,5 @@
-//! The cases that document 01 prints under "At the boundaries", and known answers of FIPS 197 and of NIST's CCM validation
-//! set: each is asked of the codec and of the model.
+//! The cases that document 01 prints under "At the boundaries", those of document 02's request 3, and known answers of FIPS
+//! 197 and of NIST's CCM validation set: each is asked of the codec and of the model.
 #[allow(dead_code)]
 mod support;
 
@@ -73,6 +73,41 @@ fn an_unsecured_payload_has_at_most_108_bytes() {
         let mut frame = bytes("08 00 00 00 34 12 1E 07");
         frame.resize(8 + payload, 0xAA);
         assert_eq!(read_frame(frame).answer, answer, "{payload} bytes");
+    }
+}
+
+/// The answer's mark of a clear frame.
+const CLEAR: u64 = 1 << 40;
+
+/// "Opening now accepts a frame whose security bit is off, marks the answer as clear and does not touch the output. The length
+/// given is then the payload's": document 01's frame, with an output of every length up to the payload's and past it.
+#[test]
+fn a_clear_frame_is_opened_whatever_the_output() {
+    let frame = bytes("08 00 00 00 34 12 1E 07 AA");
+    for room in 0..3 {
+        let opened = asked(Operation::Open, [0; 16], vec![frame.clone()], vec![OPENED_RECORD, room]);
+        assert_eq!(opened.answer, CLEAR | 1, "{room} bytes");
+        // The mark, the length, and behind the first 16 bytes the header as read.
+        let mut expected = vec![0; OPENED_RECORD];
+        (expected[1], expected[2]) = (1, 1);
+        expected[16..16 + HEADER_RECORD].copy_from_slice(&read_header("08 00 00 00 34 12 1E 07 AA").outputs[0]);
+        assert_eq!((&opened.outputs[0], &opened.outputs[1]), (&expected, &vec![FILL; room]));
+    }
+    let short = asked(Operation::Open, [0; 16], vec![frame], vec![OPENED_RECORD - 1, 108]);
+    assert_eq!(short.answer, 18 << 32, "a record shorter than 182");
+}
+
+/// Reading's refusals hold for clear frames, and nothing else refuses one.
+#[test]
+fn a_clear_payload_has_at_most_108_bytes() {
+    for (payload, answer) in [(0, CLEAR), (108, CLEAR | 108), (109, 12 << 32), (110, 12 << 32), (111, 1 << 32)] {
+        let mut frame = bytes("08 00 00 00 34 12 1E 07");
+        frame.resize(8 + payload, 0xAA);
+        assert_eq!(open(frame).answer, answer, "{payload} bytes");
+    }
+    for (text, refusal) in [("08 00 00 00 34 12 1E", 2), ("0A 00 00 00 34 12 1E 07", 3), ("C8 00 00 00 34 12 1E 07", 4)]
+    {
+        assert_eq!(open(bytes(text)).answer, refusal << 32, "{text}");
     }
 }
 

@@ -1,14 +1,19 @@
 //! Every value of every byte that decides something: frame control, auxiliary control, the bytes of the records, and the
-//! lengths of a burst. The values do not come from the model's tables, so a code missing there would show.
+//! lengths of a burst; and every length of a clear payload, of an output and of a record. The values do not come from the
+//! model's tables, so a code missing there would show.
 #[allow(dead_code)]
 mod support;
 
 use support::calls::{Call, Outcome};
 use support::compare::compare;
 use support::generate::{commands, headers};
-use support::model::auxiliary::record as auxiliary_record;
-use support::model::header::{Header, SourceRoute};
-use support::operations::{Operation, AUXILIARY_RECORD, COMMAND_RECORD, HEADER_RECORD, PART};
+use support::model::auxiliary::{record as auxiliary_record, Auxiliary};
+use support::model::frame;
+use support::model::header::{self, Header, SourceRoute};
+use support::operations::{
+    Operation, AUXILIARY_RECORD, COMMAND_RECORD, HEADER_RECORD, MARK_CLEAR, MARK_SEALED, OPENED_MARK, OPENED_RECORD,
+    PART,
+};
 use support::random::Random;
 
 const SEED: u64 = 0xE4A0_571E;
@@ -55,6 +60,158 @@ fn every_frame_control() {
     }
     // three of four frame types and three of four discoveries
     assert_eq!(accepted, 65_536 / 16 * 9);
+}
+
+const KEY: [u8; 16] = [0; 16];
+/// The shortest headers: of a clear data frame and of a secured one.
+const CLEAR: [u8; 8] = [0x08, 0x00, 0, 0, 0x34, 0x12, 0x1E, 7];
+const SECURED: [u8; 8] = [0x08, 0x02, 0, 0, 0x34, 0x12, 0x1E, 7];
+
+fn opened(bytes: &[u8], room: usize) -> Outcome {
+    compare(&Call::open(KEY, bytes, room), FILL, 0x5A)
+}
+
+/// A header of this frame control with the fields that its bits say, the relays three.
+fn controlled(control: u16, random: &mut Random) -> Vec<u8> {
+    let field = |bit: u16, n: usize| if control >> bit & 1 == 1 { n } else { 0 };
+    let front = 6 + field(11, 8) + field(12, 8) + field(8, 1);
+    let mut bytes = [control.to_le_bytes().to_vec(), random.bytes(front)].concat();
+    if control >> 10 & 1 == 1 {
+        bytes.push(3);
+        bytes.extend(random.bytes(1 + 2 * 3));
+    }
+    bytes
+}
+
+/// This header sealed by the model with an auxiliary header that has an IEEE; none where the header is refused.
+fn sealed(front: &[u8], payload: &[u8], random: &mut Random) -> Option<Vec<u8>> {
+    let ieee = random.array();
+    let auxiliary = Auxiliary { extended_nonce: true, ieee: Some(ieee), ..headers::auxiliary(random) };
+    let (header, _) = header::read(front).ok()?;
+    Some(frame::seal(&KEY, &header, &auxiliary, &ieee, payload))
+}
+
+/// What opening makes of every frame control, the payload having 6 bytes: those refused, clear and sealed are counted.
+#[test]
+fn every_frame_control_opened() {
+    let mut random = Random::new(SEED + 7);
+    let mut counts = [0; 3];
+    for control in 0..=u16::MAX {
+        let (front, payload) = (controlled(control, &mut random), random.bytes(6));
+        let secured = control >> 9 & 1 == 1;
+        let written = secured.then(|| sealed(&front, &payload, &mut random)).flatten();
+        let opened = opened(&written.unwrap_or([&front[..], &payload].concat()), 6);
+        // three of four frame types and three of four discoveries are no refusal
+        let refused = control & 3 == 2 || control >> 6 & 3 == 3;
+        let (mark, left) = match (refused, secured) {
+            (true, _) => (0, &[FILL; 6][..]),
+            (false, false) => (MARK_CLEAR, &[FILL; 6][..]),
+            (false, true) => (MARK_SEALED, &payload[..]),
+        };
+        assert_eq!((opened.refusal() != 0, opened.clear()), (refused, mark == MARK_CLEAR), "{control:04X}");
+        assert_eq!(opened.outputs[0][OPENED_MARK], if refused { FILL } else { mark }, "{control:04X}");
+        assert_eq!(opened.outputs[1], left, "{control:04X}");
+        counts[usize::from(mark)] += 1;
+    }
+    assert_eq!(counts, [65_536 / 16 * 7, 32_768 / 16 * 9, 32_768 / 16 * 9]);
+}
+
+/// No security control makes a secured frame clear. Without an IEEE of the sender it is 15; with one a wrong MIC is 19, and a
+/// frame whose control differs from the sealed one in level or bit 7 only is sealed.
+#[test]
+fn every_security_control_opened() {
+    let mut random = Random::new(SEED + 8);
+    let to_ieee = [&[0x08, 0x0A][..], &SECURED[2..], &[1, 2, 3, 4, 5, 6, 7, 8]].concat();
+    for (front, control) in [&SECURED[..], &to_ieee].into_iter().flat_map(|front| (0..=255).map(move |c| (front, c))) {
+        let extended = control >> 5 & 1 == 1;
+        let auxiliary = random.bytes(if extended { 14 } else { 6 });
+        let mut bytes = [front, &auxiliary, &[1, 2, 3, 4, 5, 6]].concat();
+        bytes[front.len()] = control;
+        let number = if extended { 19 } else { 15 };
+        assert_eq!(opened(&bytes, 6).answer, number << 32, "{control:02X}");
+        let read = frame::read(&bytes).expect("two headers");
+        let (header, auxiliary) = (read.header, read.auxiliary.expect("an auxiliary header"));
+        if let Some(ieee) = auxiliary.ieee {
+            let mut bytes = frame::seal(&KEY, &header, &auxiliary, &ieee, &[1, 2]);
+            bytes[front.len()] = control;
+            let opened = opened(&bytes, 2);
+            assert_eq!((opened.answer, opened.outputs[0][OPENED_MARK]), (2, MARK_SEALED), "{control:02X}");
+        }
+    }
+}
+
+/// Clear payloads of 0 to 111 bytes behind the shortest header, into outputs of 0 to 120: up to 108 bytes are given, whatever
+/// is lent; 109 and 110 are 12, 111 is 1.
+#[test]
+fn every_clear_payload_into_every_output() {
+    let mut random = Random::new(SEED + 9);
+    for n in 0..=111u64 {
+        let bytes = [&CLEAR[..], &random.bytes(n as usize)].concat();
+        let expected = match n {
+            0..=108 => 1 << 40 | n,
+            109 | 110 => 12 << 32,
+            _ => 1 << 32,
+        };
+        for room in 0..=120 {
+            let call = Call::open(KEY, &bytes, room);
+            let opened = compare(&call, FILL, room as u8);
+            assert_eq!(opened.answer, expected, "{n} bytes into {room}");
+            assert_eq!(opened.outputs[1], vec![FILL; room], "{n} bytes into {room}");
+            assert!(n > 108 || opened.payload(&call) == &bytes[8..], "{n} bytes into {room}");
+        }
+    }
+}
+
+/// Each choice of the optional fields: the payload is what is behind all of them. In a burst it is the same, and the part stays.
+#[test]
+fn clear_frames_with_every_choice_of_fields() {
+    let mut random = Random::new(SEED + 10);
+    for choice in 0..16u16 {
+        let control = 0x0008 | (choice & 1) << 8 | (choice >> 1) << 10;
+        let front = controlled(control, &mut random);
+        for n in 0..=118 - front.len() {
+            let bytes = [&front[..], &random.bytes(n)].concat();
+            let alone = Call::open(KEY, &bytes, 0);
+            let opened = compare(&alone, FILL, n as u8);
+            let in_burst = burst(&bytes, &[bytes.len() as u16], 1, PART);
+            assert_eq!(in_burst.outputs[1], [FILL; PART]);
+            if n > 108 {
+                assert_eq!((opened.answer, in_burst.outputs[0][0]), (12 << 32, 12));
+                continue;
+            }
+            assert_eq!(opened.answer, 1 << 40 | n as u64);
+            assert_eq!(opened.payload(&alone), &bytes[front.len()..]);
+            assert_eq!(in_burst.outputs[0], opened.outputs[0]);
+        }
+    }
+}
+
+/// A record of every length up to 200: below 182 it is 18 beside a clear frame, whatever the output, and beside a sealed one, its
+/// MIC right or wrong. Reading's refusals, 15 and 16 come before.
+#[test]
+fn every_length_of_an_opened_record() {
+    let mut random = Random::new(SEED + 11);
+    let clear = [&CLEAR[..], &[1; 20]].concat();
+    let sealed = sealed(&SECURED, &[1; 20], &mut random).expect("a header that is read");
+    let wrong = [&sealed[..sealed.len() - 1], &[!sealed[sealed.len() - 1]]].concat();
+    let no_ieee = [&SECURED[..], &[0x08, 1, 0, 0, 0, 9]].concat();
+    for room in 0..=200 {
+        let answer = |frame: &[u8], output: usize| {
+            let mut call = Call::open(KEY, frame, output);
+            call.rooms[0] = room;
+            compare(&call, FILL, room as u8).answer
+        };
+        let unless_short = |answer: u64| if room < OPENED_RECORD { 18 << 32 } else { answer };
+        for output in [0, 19, 20, 120] {
+            assert_eq!(answer(&clear, output), unless_short(1 << 40 | 20));
+        }
+        assert_eq!(answer(&sealed, 20), unless_short(20));
+        assert_eq!(answer(&sealed, 19), 18 << 32);
+        assert_eq!(answer(&wrong, 20), unless_short(19 << 32));
+        assert_eq!(answer(&clear[..7], 20), 2 << 32);
+        assert_eq!(answer(&no_ieee, 20), 15 << 32);
+        assert_eq!(answer(&sealed[..25], 20), 16 << 32);
+    }
 }
 
 #[test]

@@ -174,13 +174,13 @@ fn bytes_that_are_no_command_are_kept() {
     }
 }
 
-#[test]
-fn a_header_with_every_field() {
-    let bytes = [
-        0x89, 0x9D, 0x21, 0x43, 0x65, 0x87, 0x1E, 0x07, 1, 2, 3, 4, 5, 6, 7, 8, 0x11, 0x12, 0x13, 0x14, 0x15, 0x16,
-        0x17, 0x18, 0x5A, 2, 1, 0x0A, 0x0B, 0x0C, 0x0D,
-    ];
-    let (header, n) = NwkHeader::read(&bytes).expect("a header");
+/// A header with every field, and what it means.
+const FULL_HEADER: [u8; 31] = [
+    0x89, 0x9D, 0x21, 0x43, 0x65, 0x87, 0x1E, 0x07, 1, 2, 3, 4, 5, 6, 7, 8, 0x11, 0x12, 0x13, 0x14, 0x15, 0x16, 0x17,
+    0x18, 0x5A, 2, 1, 0x0A, 0x0B, 0x0C, 0x0D,
+];
+
+fn full_header() -> NwkHeader {
     let control = NwkFrameControl {
         frame_type: NwkFrameType::Command,
         protocol_version: 2,
@@ -193,7 +193,7 @@ fn a_header_with_every_field() {
         end_device_initiator: false,
         reserved1: 2,
     };
-    let expected = NwkHeader {
+    NwkHeader {
         frame_control: control,
         destination: Nwk(0x4321),
         source: Nwk(0x8765),
@@ -203,11 +203,27 @@ fn a_header_with_every_field() {
         source_ieee: Some(IEEE_2),
         multicast_control: Some(0x5A),
         source_route: Some(NwkSourceRoute { relay_index: 1, relays: list(&[Nwk(0x0B0A), Nwk(0x0D0C)]) }),
-    };
-    assert_eq!((header, n), (expected.clone(), bytes.len()));
+    }
+}
+
+#[test]
+fn a_header_with_every_field() {
+    assert_eq!(NwkHeader::read(&FULL_HEADER), Ok((full_header(), FULL_HEADER.len())));
     let mut out = [0; 118];
-    assert_eq!(expected.write(&mut out), Ok(bytes.len()));
-    assert_eq!(out[..bytes.len()], bytes);
+    assert_eq!(full_header().write(&mut out), Ok(FULL_HEADER.len()));
+    assert_eq!(out[..FULL_HEADER.len()], FULL_HEADER);
+}
+
+/// The security bit is off: opening gives the header and, behind it, a Leave command with request; the output is not needed.
+#[test]
+fn a_clear_frame_with_every_field() {
+    let frame = [&FULL_HEADER[..], &[0x04, 0x40]].concat();
+    let opened = open(&Key::new([0; 16]), &frame, &mut []).expect("a clear frame");
+    let clear = opened.clear().expect("the security bit is off");
+    assert_eq!(clear.header, full_header());
+    assert_eq!(clear.payload.as_ptr_range(), frame[FULL_HEADER.len()..].as_ptr_range());
+    let leave = NwkCommand::Leave { rejoin: false, request: true, remove_children: false };
+    assert_eq!(NwkCommand::read(clear.payload), Ok(leave));
 }
 
 /// Each bit of frame control that no field depends on, alone.

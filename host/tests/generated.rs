@@ -5,8 +5,10 @@ mod support;
 
 use support::burst_tally::BurstTally;
 use support::calls::Call;
+use support::clear_tally::ClearTally;
 use support::compare::compare;
 use support::generate;
+use support::header_comments;
 use support::operations::{Extent, Operation, OPERATIONS};
 use support::random::Random;
 use support::tally::{all_kinds, Tally};
@@ -20,24 +22,30 @@ const AT_LEAST: usize = 10;
 #[test]
 fn every_operation_answers_as_the_model() {
     let mut random = Random::new(SEED);
-    let (mut tally, mut bursts) = (Tally::new(), BurstTally::default());
+    let (mut tally, mut bursts, mut clear) = (Tally::new(), BurstTally::default(), ClearTally::default());
     for number in 0..CALLS_EACH {
         for operation in OPERATIONS {
             let generated = generate::call(operation, number, &mut random);
             let outcome = compare(&generated.call, random.byte(), random.byte());
             tally.count(&generated.call, &outcome, &generated.exact);
+            clear.count(&generated.call, &outcome);
             if operation == Operation::OpenBurst {
                 bursts.count(&generated.call, &outcome);
             }
         }
     }
-    println!("{} calls\n{}\n{}", tally.all_calls(), tally.report(), bursts.report());
+    println!("{} calls\n{}\n{}\n{}", tally.all_calls(), tally.report(), bursts.report(), clear.report());
     assert!(tally.all_calls() >= CALLS_IN_ALL);
     OPERATIONS.into_iter().for_each(|operation| check_tally(&tally, operation));
     bursts.check(AT_LEAST);
+    clear.check(AT_LEAST);
+    // "Opening no longer gives 14, sealing still does"; of a burst's frames its own tally says so.
+    assert_eq!(tally.answers(Operation::Open, 14), 0);
+    assert!(tally.answers(Operation::Seal, 14) >= AT_LEAST);
 }
 
-/// Acceptance, each refusal, each kind of content, each length of the bytes read and each room around the exact one were met.
+/// Acceptance, each refusal, each kind of content, each length of the bytes read and each room around the exact one were met,
+/// and no other refusal.
 fn check_tally(tally: &Tally, operation: Operation) {
     let shape = operation.shape();
     assert_eq!(tally.calls(operation), CALLS_EACH, "{}", shape.name);
@@ -46,6 +54,8 @@ fn check_tally(tally: &Tally, operation: Operation) {
         let met = tally.answers(operation, refusal);
         assert!(met >= AT_LEAST, "{} refused by {refusal} only {met} times", shape.name);
     }
+    let listed: usize = shape.refusals.iter().map(|&refusal| tally.answers(operation, refusal)).sum();
+    assert_eq!(tally.answers(operation, 0) + listed, CALLS_EACH, "{} refused by another number", shape.name);
     let (kinds, rarest) = tally.kinds(operation);
     assert_eq!(kinds, all_kinds(operation), "{}: kinds of content accepted", shape.name);
     assert!(rarest >= AT_LEAST, "{}: a kind of content was accepted only {rarest} times", shape.name);
@@ -56,6 +66,15 @@ fn check_tally(tally: &Tally, operation: Operation) {
     for (i, _) in shape.outputs.iter().enumerate().filter(|(_, extent)| !matches!(extent, Extent::Array(_))) {
         let rarest = tally.rarest_room(operation, i);
         assert!(rarest >= AT_LEAST, "{}: a room of output {i} was met only {rarest} times", shape.name);
+    }
+}
+
+/// What the calls are checked against is what the header's comments promise.
+#[test]
+fn the_refusals_are_those_of_the_header() {
+    for operation in OPERATIONS {
+        let shape = operation.shape();
+        assert_eq!(header_comments::refusals(shape.name), shape.refusals, "{}", shape.name);
     }
 }
 

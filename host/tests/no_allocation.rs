@@ -46,13 +46,15 @@ fn everything() -> Result<(), Refusal> {
     let relays = [Nwk(4); 20][..].try_into().unwrap_or_default();
     let length = NwkCommand::RouteRecord { relays }.write(&mut record)?;
     let n = seal(&key, &header, Some(&NwkAuxHeader::new(1, probe)), &record[..length], &mut frame)?;
-    let opened = open(&key, &frame[..n], &mut out)?;
+    let opened = open(&key, &frame[..n], &mut out)?.sealed().ok_or(Refusal::INTERNAL)?;
     opened.header.frame_control.frame_type.payload()?;
     NwkCommand::read(opened.payload)?;
     read(&frame[..n])?;
     burst(&key, &frame[..n])?;
     header.frame_control.security = false;
     let n = write(&header, &record[..length], &mut frame)?;
+    let clear = open(&key, &frame[..n], &mut [])?.clear().ok_or(Refusal::INTERNAL)?;
+    NwkCommand::read(clear.payload)?;
     NwkHeader::read(&frame[..n])?.0.write(&mut frame)?;
     NwkAuxHeader::read(&[0x28; 14])?.0.write(&mut frame)?;
     let (n, mic) = encrypt_ccm(&key, &[0; 13], b"auth", b"payload", &mut out)?;
@@ -75,7 +77,7 @@ fn burst(key: &Key, frame: &[u8]) -> Result<(), Refusal> {
     let opened = open_burst(key, &frames[..end], &lengths, &mut answers, &mut out)?;
     assert_eq!(opened.len(), MAX_BURST);
     for answer in opened {
-        NwkCommand::read(answer?.payload)?;
+        NwkCommand::read(answer?.sealed().ok_or(Refusal::INTERNAL)?.payload)?;
     }
     Ok(())
 }

@@ -5,7 +5,7 @@ mod support;
 
 use store_reader::{
     decrypt_ccm, encrypt_block, encrypt_ccm, open, open_burst, read, seal, split_mic, timeout_seconds, write, Burst,
-    Key, NwkAuxHeader, NwkCommand, NwkFrameType, NwkHeader, NwkPayload, OpenedRecord, Refusal,
+    Eui64, Key, Nwk, NwkAuxHeader, NwkCommand, NwkFrameType, NwkHeader, NwkPayload, Opened, OpenedRecord, Refusal,
 };
 use support::calls::{lengths_of, perform, Call, Outcome};
 use support::generate;
@@ -121,18 +121,21 @@ fn frames_read_and_written() {
     assert!(count > ROUNDS / 4, "{count}");
 }
 
+/// A sealed frame's payload is the front of the output, and sealing it writes what the C function writes of its records.
 #[test]
-fn frames_opened_and_sealed() {
+fn sealed_frames_opened() {
     let count = accepted(Operation::Open, |call| {
-        let rooms = [OPENED_RECORD, MAX_PAYLOAD];
-        let outcome = raw(Operation::Open, call.key, &[&call.inputs[0]], &rooms);
+        let outcome = raw(Operation::Open, call.key, &[&call.inputs[0]], &[OPENED_RECORD, MAX_PAYLOAD]);
         let key = Key::new(call.key);
         let mut out = [FILL; MAX_PAYLOAD];
+        let place = out.as_ptr();
         let safe = open(&key, &call.inputs[0], &mut out);
-        let accepted = agree(&safe, &outcome, call);
-        if let Ok(frame) = safe {
+        let is_sealed = agree(&safe, &outcome, call) && !outcome.clear();
+        let sealed = safe.ok().and_then(Opened::sealed);
+        assert_eq!(sealed.is_some(), is_sealed, "{}", call.line());
+        if let Some(frame) = sealed {
             let (header, auxiliary) = outcome.outputs[0][OPENED_HEADER..].split_at(HEADER_RECORD);
-            assert_eq!(frame.payload, &outcome.outputs[1][..outcome.length()]);
+            assert_eq!((frame.payload, frame.payload.as_ptr()), (&outcome.outputs[1][..outcome.length()], place));
             same_written(
                 |out| seal(&key, &frame.header, Some(&frame.auxiliary), frame.payload, out),
                 Operation::Seal,
@@ -142,12 +145,43 @@ fn frames_opened_and_sealed() {
             );
         }
         assert_eq!(out[..], outcome.outputs[1]);
-        accepted
+        is_sealed
     });
     assert!(count > ROUNDS / 5, "{count}");
 }
 
-/// A burst is refused as over C, and each of its frames is what `open` gives for it alone, the payload in its own part.
+/// A clear frame's payload is the end of the frame itself, whatever the output, and writing it gives the frame's bytes again.
+#[test]
+fn clear_frames_opened() {
+    let count = accepted(Operation::Open, |call| {
+        let (bytes, key) = (&call.inputs[0][..], Key::new(call.key));
+        [0, MAX_PAYLOAD].map(|room| opened_clear(&key, bytes, room, call)) == [true; 2]
+    });
+    assert!(count > ROUNDS / 12, "{count}");
+}
+
+/// Whether a frame opens as clear with this room; the C function says the same.
+fn opened_clear(key: &Key, bytes: &[u8], room: usize, call: &Call) -> bool {
+    let outcome = raw(Operation::Open, call.key, &[bytes], &[OPENED_RECORD, room]);
+    let mut out = vec![FILL; room];
+    let safe = open(key, bytes, &mut out);
+    agree(&safe, &outcome, call);
+    let Some(frame) = safe.ok().and_then(Opened::clear) else {
+        assert!(!outcome.clear(), "{}", call.line());
+        return false;
+    };
+    assert!(outcome.clear(), "{}", call.line());
+    assert_eq!(frame.payload.as_ptr_range().end, bytes.as_ptr_range().end, "{}", call.line());
+    assert_eq!(frame.payload.len(), outcome.length(), "{}", call.line());
+    let mut written = [FILL; MAX_FRAME];
+    let n = write(&frame.header, frame.payload, &mut written).expect("what was read can be written");
+    assert_eq!(&written[..n], bytes, "{}", call.line());
+    assert!(out.iter().all(|byte| *byte == FILL), "{}", call.line());
+    true
+}
+
+/// A burst is refused as over C, and each of its frames is what `open` gives for it alone, the payload in its own part if it
+/// was sealed, in its own bytes if it was clear.
 #[test]
 fn bursts_opened() {
     let count = accepted(Operation::OpenBurst, |call| {
@@ -170,7 +204,7 @@ fn bursts_opened() {
     assert!(count > ROUNDS / 4, "{count}");
 }
 
-/// Each frame of a burst beside `open` of its bytes alone; its payload starts at its part.
+/// Each frame of a burst beside `open` of its bytes alone. A sealed payload starts at its part, a clear one ends with its frame.
 fn same_as_alone(key: &Key, mut frames: Burst<'_>, mut rest: &[u8], lengths: &[usize], parts: *const u8) {
     for (k, &length) in lengths.iter().enumerate() {
         let (bytes, behind) = rest.split_at(length);
@@ -178,12 +212,95 @@ fn same_as_alone(key: &Key, mut frames: Burst<'_>, mut rest: &[u8], lengths: &[u
         let mut part = [FILL; MAX_PAYLOAD];
         let (from_burst, alone) = (frames.next().expect("a frame for each length"), open(key, bytes, &mut part));
         assert_eq!(from_burst, alone, "frame {k}: {bytes:02X?}");
-        if let Ok(frame) = from_burst {
-            assert_eq!(frame.payload.as_ptr(), parts.wrapping_add(MAX_PAYLOAD * k), "frame {k}");
+        match from_burst {
+            Ok(Opened::Sealed(frame)) => {
+                assert_eq!(frame.payload.as_ptr(), parts.wrapping_add(MAX_PAYLOAD * k), "frame {k}");
+            }
+            Ok(Opened::Clear(frame)) => {
+                assert_eq!(frame.payload.as_ptr_range().end, bytes.as_ptr_range().end, "frame {k}");
+            }
+            Err(_) => {}
         }
         assert_eq!(frames.len(), lengths.len() - 1 - k);
     }
     assert_eq!((frames.next(), frames.next()), (None, None));
+}
+
+/// A frame of 8 bytes of header with the security bit off, and so many bytes of payload.
+fn clear_bytes(payload: usize) -> Vec<u8> {
+    let mut frame = vec![0x08, 0x00, 0x00, 0x00, 0x34, 0x12, 0x1E, 0x07];
+    frame.resize(8 + payload, 0xAA);
+    frame
+}
+
+/// A sealed frame around a payload, under this key.
+fn sealed_bytes(key: &Key, counter: u32, payload: &[u8]) -> Vec<u8> {
+    let mut header = NwkHeader::new(NwkFrameType::Data, Nwk(0x1234), Nwk(0));
+    header.frame_control.security = true;
+    let mut frame = vec![0; MAX_FRAME];
+    let auxiliary = NwkAuxHeader::new(counter, Eui64([1, 2, 3, 4, 5, 6, 7, 8]));
+    let n = seal(key, &header, Some(&auxiliary), payload, &mut frame).expect("a frame");
+    frame.truncate(n);
+    frame
+}
+
+/// By document 02 a clear frame does not touch the output, which may be shorter than the payload or empty.
+#[test]
+fn a_clear_frame_needs_no_output() {
+    let key = Key::new([7; 16]);
+    for (payload, room) in [(0, 0), (0, 1), (1, 0), (108, 0), (108, 107), (108, 109)] {
+        let bytes = clear_bytes(payload);
+        let mut out = vec![FILL; room];
+        let opened = open(&key, &bytes, &mut out).expect("a clear frame");
+        assert_eq!((opened.header().source, opened.header().sequence_number), (Nwk(0x1234), 7));
+        assert_eq!(opened.clone().sealed(), None);
+        let frame = opened.clear().expect("a clear frame");
+        assert_eq!(frame.payload.as_ptr_range(), bytes[8..].as_ptr_range(), "{payload} bytes");
+        assert!(out.iter().all(|byte| *byte == FILL), "{payload} bytes");
+    }
+    let sealed = sealed_bytes(&key, 1, b"grain");
+    assert_eq!(open(&key, &sealed, &mut [0; 4]), Err(Refusal::NO_ROOM));
+    let mut out = [FILL; 5];
+    let opened = open(&key, &sealed, &mut out).expect("a sealed frame");
+    assert_eq!((opened.clone().clear(), opened.header().source), (None, Nwk(0x1234)));
+    assert_eq!(opened.sealed().map(|frame| frame.payload), Some(&b"grain"[..]));
+}
+
+/// Clear and sealed frames, a damaged and an empty one: the clear ones' parts stay, and theirs are bytes of the burst.
+#[test]
+fn a_burst_of_clear_and_sealed_frames() {
+    let key = Key::new([7; 16]);
+    let mut damaged = sealed_bytes(&key, 1, b"21.5 C");
+    *damaged.last_mut().expect("a byte") ^= 1;
+    let sealed = [sealed_bytes(&key, 2, b"21.7 C"), sealed_bytes(&key, 3, b"")];
+    let all = [&clear_bytes(0), &sealed[0], &clear_bytes(108), &damaged, &vec![], &clear_bytes(3), &sealed[1]]
+        .map(Vec::clone);
+    let frames = all.concat();
+    let lengths: Vec<u16> = all.iter().map(|frame| frame.len() as u16).collect();
+    let ends: Vec<usize> = (1..=all.len()).map(|n| all[..n].concat().len()).collect();
+    let (mut answers, mut out) = ([OpenedRecord::new(); 7], [FILL; 7 * MAX_PAYLOAD]);
+    let burst = open_burst(&key, &frames, &lengths, &mut answers, &mut out).expect("a burst");
+    let places: Vec<_> = burst
+        .map(|answer| match answer {
+            Ok(Opened::Sealed(frame)) => Ok((frame.payload.to_vec(), None)),
+            Ok(Opened::Clear(frame)) => Ok((frame.payload.to_vec(), Some(frame.payload.as_ptr_range()))),
+            Err(refusal) => Err(refusal),
+        })
+        .collect();
+    let clear = |k: usize, n: usize| Ok((vec![0xAA; n], Some(frames[ends[k] - n..ends[k]].as_ptr_range())));
+    let expected = [
+        clear(0, 0),
+        Ok((b"21.7 C".to_vec(), None)),
+        clear(2, 108),
+        Err(Refusal::WRONG_MIC),
+        Err(Refusal::SHORT_HEADER),
+        clear(5, 3),
+        Ok((Vec::new(), None)),
+    ];
+    assert_eq!(places, expected);
+    let mut parts = [FILL; 7 * MAX_PAYLOAD];
+    parts[MAX_PAYLOAD..][..6].copy_from_slice(b"21.7 C");
+    assert_eq!(out, parts);
 }
 
 /// What is still to come can be counted, copied and printed.

@@ -1,13 +1,14 @@
-//! The sealing law of document 01, both halves, on generated data through the C boundary.
+//! The sealing law of document 01, both halves, on generated data through the C boundary. It speaks of sealed frames only
+//! (document 02, request 3).
 #[allow(dead_code)]
 mod support;
 
 use support::calls::{check_boundary, perform, Call, Outcome};
 use support::generate::headers::{auxiliary, header, scatter_header};
-use support::generate::sealed::secured_frame;
+use support::generate::sealed::{clear_frame, secured_frame};
 use support::model::auxiliary::record as auxiliary_record;
 use support::model::{frame, MAX_FRAME, MAX_PAYLOAD};
-use support::operations::{Operation, HEADER_RECORD, OPENED_HEADER, OPENED_RECORD};
+use support::operations::{Operation, HEADER_RECORD, MARK_CLEAR, MARK_SEALED, OPENED_HEADER, OPENED_MARK};
 use support::random::Random;
 
 const SEED: u64 = 0x5EA1_1A17;
@@ -15,6 +16,8 @@ const ROUNDS: usize = 20_000;
 const FILL: u8 = 0xA5;
 /// The control's level and bit 7, which sealing sends as 0.
 const UNAUTHENTICATED: u8 = 0x87;
+/// The bit of a frame that is bit 9 of frame control.
+const SECURITY: usize = 9;
 
 fn made(call: &Call) -> Outcome {
     let outcome = perform(call, FILL, 0x3C);
@@ -28,8 +31,12 @@ fn seal(key: [u8; 16], header: &[u8], auxiliary: &[u8], payload: &[u8]) -> Outco
 }
 
 fn open(key: [u8; 16], bytes: &[u8], room: usize) -> Outcome {
-    let rooms = vec![OPENED_RECORD, room];
-    made(&Call { operation: Operation::Open, key, inputs: vec![bytes.to_vec()], rooms })
+    made(&Call::open(key, bytes, room))
+}
+
+/// The mark of an opened record; none beside a refusal.
+fn mark(opened: &Outcome) -> Option<u8> {
+    (opened.refusal() == 0).then(|| opened.outputs[0][OPENED_MARK])
 }
 
 /// The header record and the auxiliary record in an opened record.
@@ -37,7 +44,7 @@ fn records(opened: &Outcome) -> (&[u8], &[u8]) {
     opened.outputs[0][OPENED_HEADER..].split_at(HEADER_RECORD)
 }
 
-/// The first half: opening what sealing wrote gives the same headers, the level now 0, and the same payload.
+/// The first half: opening what sealing wrote gives the same headers, the level now 0, and the same payload, marked sealed.
 #[test]
 fn sealed_frames_open_to_what_was_sealed() {
     let mut random = Random::new(SEED);
@@ -56,7 +63,7 @@ fn sealed_frames_open_to_what_was_sealed() {
             continue;
         }
         let opened = open(key, &sealed.outputs[0][..sealed.length()], n + random.below(3));
-        assert_eq!((opened.refusal(), opened.length()), (0, n));
+        assert_eq!((mark(&opened), opened.clear(), opened.length()), (Some(MARK_SEALED), false, n));
         let (header_record, auxiliary_given) = records(&opened);
         assert_eq!(header_record, header.record());
         assert_eq!(auxiliary_given, auxiliary_record(&Some(auxiliary.at_level(0))));
@@ -67,8 +74,8 @@ fn sealed_frames_open_to_what_was_sealed() {
     assert!(accepted >= ROUNDS / 2);
 }
 
-/// The second half: sealing afresh what opening returned writes exactly the frame's bytes, if its control arrived with level
-/// and bit 7 zero; else the frame with these bits 0.
+/// The second half, of frames that were sealed: sealing afresh what opening returned writes exactly the frame's bytes, if its
+/// control arrived with level and bit 7 zero; else the frame with these bits 0.
 #[test]
 fn opened_frames_seal_to_their_bytes() {
     let mut random = Random::new(SEED + 1);
@@ -81,6 +88,7 @@ fn opened_frames_seal_to_their_bytes() {
         if opened.refusal() != 0 {
             continue;
         }
+        assert_eq!(mark(&opened), Some(MARK_SEALED));
         let (header, auxiliary) = records(&opened);
         let sealed = seal(key, header, auxiliary, &opened.outputs[1][..opened.length()]);
         assert_eq!((sealed.refusal(), sealed.length()), (0, bytes.len()));
@@ -96,6 +104,28 @@ fn opened_frames_seal_to_their_bytes() {
     assert!(plain >= ROUNDS / 4 && other >= ROUNDS / 20);
 }
 
+/// "The sealing law speaks of sealed frames only": opening a clear frame returns no auxiliary header, and sealing that is 14.
+#[test]
+fn opened_clear_frames_are_not_sealed_again() {
+    let mut random = Random::new(SEED + 3);
+    let mut clear = 0;
+    for _ in 0..ROUNDS / 10 {
+        let key = random.array();
+        let call = Call::open(key, &clear_frame(false, &mut random), MAX_PAYLOAD);
+        let opened = made(&call);
+        if opened.refusal() != 0 {
+            assert!([1, 12].contains(&opened.refusal()));
+            continue;
+        }
+        assert_eq!(mark(&opened), Some(MARK_CLEAR));
+        let (header, auxiliary) = records(&opened);
+        assert_eq!(seal(key, header, auxiliary, opened.payload(&call)).answer, 14 << 32);
+        clear += 1;
+    }
+    println!("{clear} clear frames opened");
+    assert!(clear >= ROUNDS / 20);
+}
+
 /// Where the security control byte stands.
 fn control_place(bytes: &[u8]) -> usize {
     let frame = frame::read(bytes).expect("a frame that was opened");
@@ -108,7 +138,8 @@ fn with_plain_control(bytes: &[u8]) -> Vec<u8> {
     plain
 }
 
-/// Only the four bits that are not authenticated may be flipped; under another key nothing opens.
+/// Only the four bits that are not authenticated may be flipped; under another key nothing opens. Without its security bit the
+/// frame is another one, and clear: all that is behind its header is its payload.
 #[test]
 fn no_other_bit_may_be_flipped() {
     let mut random = Random::new(SEED + 2);
@@ -126,7 +157,11 @@ fn no_other_bit_may_be_flipped() {
             let mut flipped = bytes.clone();
             flipped[bit / 8] ^= 1 << (bit % 8);
             let free = bit / 8 == control && UNAUTHENTICATED >> (bit % 8) & 1 == 1;
-            assert_eq!(open(key, &flipped, MAX_PAYLOAD).refusal() == 0, free, "bit {bit} of {bytes:02X?}");
+            let call = Call::open(key, &flipped, MAX_PAYLOAD);
+            let opened = made(&call);
+            assert_eq!(mark(&opened) == Some(MARK_SEALED), free, "bit {bit} of {bytes:02X?}");
+            assert_eq!(mark(&opened) == Some(MARK_CLEAR), bit == SECURITY, "bit {bit} of {bytes:02X?}");
+            assert!(bit != SECURITY || opened.payload(&call) == &bytes[control..], "{bytes:02X?}");
         }
     }
 }

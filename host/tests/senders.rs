@@ -5,20 +5,21 @@ mod support;
 use support::command::{run, KEY};
 
 /// The router passed on 6998 and 6999 and sent 7001 and 7002: 7000 was never seen. The probe sent 74565 to 74571: 74566
-/// arrived damaged, 74568 was cut before its counter could be read, and 74569 and 74570 did not arrive.
+/// arrived damaged, 74568 was cut before its counter could be read, and 74569 and 74570 did not arrive. The neighbour sealed
+/// one frame and left one clear.
 #[test]
 fn the_samples_senders() {
     let ran =
         run(&["open", "--key-file", "samples/store.keys", "--by-sender", "--summary-only", "samples/store.pcap"], b"");
     let expected = "\
-sender                   short   opened  refused                    first                        last                         counters        never seen
-00:12:4B:00:1C:A1:00:01  0x0000       2        0                    2026-11-18T11:06:41.000000Z  2026-11-18T11:06:46.000000Z  90210 to 90211           0
-00:12:4B:00:1C:A1:00:02  0x3F21       2        0                    2026-11-18T11:06:52.000000Z  2026-11-18T11:06:53.000000Z  6998 to 7002             1
-00:12:4B:00:1C:A1:B2:C3  0x7A10       3        2  1 by 10, 1 by 19  2026-11-18T11:06:42.000000Z  2026-11-18T11:06:55.000000Z  74565 to 74571           3
-00:12:4B:00:1C:A1:B2:C9  0xD105       2        0                    2026-11-18T11:06:44.000000Z  2026-11-18T11:06:45.000000Z
-00:12:4B:00:AA:AA:00:44  0x9C44       1        1  1 by 14           2026-11-18T11:06:48.000000Z  2026-11-18T11:06:49.000000Z  3 to 3                   0
-header not read                       0        1  1 by 3            2026-11-18T11:06:54.000000Z  2026-11-18T11:06:54.000000Z
-14 frames: 10 opened, 4 refused
+sender                   short   opened  clear  refused                    first                        last                         counters        never seen
+00:12:4B:00:1C:A1:00:01  0x0000       2      0        0                    2026-11-18T11:06:41.000000Z  2026-11-18T11:06:46.000000Z  90210 to 90211           0
+00:12:4B:00:1C:A1:00:02  0x3F21       2      0        0                    2026-11-18T11:06:52.000000Z  2026-11-18T11:06:53.000000Z  6998 to 7002             1
+00:12:4B:00:1C:A1:B2:C3  0x7A10       3      0        2  1 by 10, 1 by 19  2026-11-18T11:06:42.000000Z  2026-11-18T11:06:55.000000Z  74565 to 74571           3
+00:12:4B:00:1C:A1:B2:C9  0xD105       2      0        0                    2026-11-18T11:06:44.000000Z  2026-11-18T11:06:45.000000Z
+00:12:4B:00:AA:AA:00:44  0x9C44       1      1        0                    2026-11-18T11:06:48.000000Z  2026-11-18T11:06:49.000000Z  3 to 3                   0
+header not read                       0      0        1  1 by 3            2026-11-18T11:06:54.000000Z  2026-11-18T11:06:54.000000Z
+14 frames: 10 opened, 1 clear, 3 refused
 ";
     assert!(ran.out.starts_with(expected), "{}", ran.out);
     assert_eq!((ran.err.as_str(), ran.status), ("", 0));
@@ -29,7 +30,8 @@ fn the_same_as_comma_separated_values() {
     let ran = run(&["open", "--key-file", "samples/store.keys", "--by-sender", "--csv", "samples/store.pcap"], b"");
     let mut lines = ran.out.lines();
     let heads: Vec<&str> = lines.next().expect("heads").split(',').collect();
-    assert_eq!(heads.len(), 4 + 19 + 5);
+    assert_eq!(heads[..5], ["ieee", "short", "opened", "clear", "refused"]);
+    assert_eq!(heads.len(), 5 + 19 + 5);
     let cell = |line: &str, head: &str| {
         let at = heads.iter().position(|found| *found == head).unwrap_or_else(|| panic!("no column {head}"));
         line.split(',').nth(at).expect("a cell").to_string()
@@ -37,6 +39,7 @@ fn the_same_as_comma_separated_values() {
     let probe = lines.clone().find(|line| line.starts_with("00:12:4B:00:1C:A1:B2:C3,0x7A10,")).expect("the probe");
     for (head, expected) in [
         ("opened", "3"),
+        ("clear", "0"),
         ("refused", "2"),
         ("refused_by_10", "1"),
         ("refused_by_14", "0"),
@@ -49,12 +52,8 @@ fn the_same_as_comma_separated_values() {
     ] {
         assert_eq!(cell(probe, head), expected, "{head}");
     }
-    let (mut opened, mut refused) = (0, 0);
-    for line in lines {
-        opened += cell(line, "opened").parse::<u64>().expect("a number");
-        refused += cell(line, "refused").parse::<u64>().expect("a number");
-    }
-    assert_eq!((opened, refused), (10, 4));
+    let sum = |head: &str| lines.clone().map(|line| cell(line, head).parse::<u64>().expect("a number")).sum::<u64>();
+    assert_eq!(["opened", "clear", "refused"].map(sum), [10, 1, 3]);
 }
 
 #[test]
@@ -62,13 +61,13 @@ fn the_same_as_json() {
     let arguments = ["open", "--key", KEY, "--by-sender", "--summary-only", "--json", "samples/store.pcap"];
     let out = run(&arguments, b"").out;
     let probe = concat!(
-        r#"{"sender":{"ieee":"00:12:4B:00:1C:A1:B2:C3","short":["0x7A10"],"accepted":3,"refused":2,"#,
+        r#"{"sender":{"ieee":"00:12:4B:00:1C:A1:B2:C3","short":["0x7A10"],"opened":3,"clear":0,"refused":2,"#,
         r#""refusals":[{"refusal":10,"count":1},{"refusal":19,"count":1}],"first_time":"2026-11-18T11:06:42.000000Z","#,
         r#""last_time":"2026-11-18T11:06:55.000000Z","first_counter":74565,"last_counter":74571,"counters_never_seen":3}}"#
     );
     assert!(out.lines().any(|line| line == probe), "{out}");
-    // The neighbour's frames are refused under the store's key, so its long address is only claimed.
-    let neighbour = r#"{"sender":{"short":["0x9C44"],"accepted":0,"refused":2,"#;
+    // Under the store's key the neighbour's sealed frame is refused and the other is clear, so its long address is only claimed.
+    let neighbour = r#"{"sender":{"short":["0x9C44"],"opened":0,"clear":1,"refused":1,"#;
     assert!(out.lines().any(|line| line.starts_with(neighbour)), "{out}");
     assert!(out.lines().last().expect("a line").starts_with(r#"{"summary":"#), "{out}");
 }
@@ -86,4 +85,36 @@ fn senders_of_lines() {
     let row = out.lines().nth(1).expect("a row");
     let cells: Vec<&str> = row.split("  ").map(str::trim).filter(|cell| !cell.is_empty()).collect();
     assert_eq!(cells, ["08:07:06:05:04:03:02:01", "0x1234", "6", "0", "10 to 2", "8"], "{out}");
+    assert!(!out.contains("clear"), "{out}");
+    // A table for a program has the same columns whatever was heard.
+    let csv = run(&["open", "--key", KEY, "--by-sender", "--csv"], frames.as_bytes()).out;
+    assert!(csv.starts_with("ieee,short,opened,clear,refused,refused_by_1,"), "{csv}");
+    assert!(csv.contains("\n08:07:06:05:04:03:02:01,0x1234,6,0,0,0,"), "{csv}");
+}
+
+/// A clear frame that claims the sender's short address under another long one: it is counted apart, has no counter, and the
+/// sender keeps its long address.
+#[test]
+fn a_clear_frame_shows_no_long_address() {
+    let sealing = ["seal", "--key", KEY, "--counter", "1", "--ieee", "0807060504030201"];
+    let sealed = run(&sealing, b"0800000034121E07AA\n0800000034121E08BB\n").out;
+    let claimed = "0810000034121E09 1111111111111111 CC\n";
+    let out = run(&["open", "--key", KEY, "--by-sender", "--summary-only"], (sealed + claimed).as_bytes()).out;
+    let expected = "\
+sender                   short   opened  clear  refused    first  last  counters  never seen
+08:07:06:05:04:03:02:01  0x1234       2      0        0                 1 to 2             0
+11:11:11:11:11:11:11:11  0x1234       0      1        0
+3 frames: 2 opened, 1 clear, 0 refused
+";
+    assert_eq!(out, expected);
+}
+
+/// Reading marks nothing: its table has the columns and the names that it had.
+#[test]
+fn senders_of_read_frames() {
+    let csv = run(&["read", "--by-sender", "--csv", "samples/store.pcap"], b"").out;
+    let heads = csv.lines().next().expect("heads");
+    assert!(heads.starts_with("ieee,short,read,refused,refused_by_1,") && heads.split(',').count() == 4 + 19 + 5);
+    let json = run(&["read", "--by-sender", "--summary-only", "--json", "samples/store.pcap"], b"").out;
+    assert!(json.lines().all(|line| line.contains(r#","accepted":"#) && !line.contains("clear")), "{json}");
 }

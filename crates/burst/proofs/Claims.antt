@@ -15,7 +15,10 @@ use Rattle.octets.specs.Strings.{tab}
 use Rattle.octets.specs.Refusals.{on, firstOf}
 use Rattle.octets.proofs.Strings.{length-tab, getD-tab}
 use Rattle.octets.proofs.Conditions.{accepted, refused, none-refuse}
-use Rattle.frame.specs.Opening.{openFrame}
+use Rattle.frame.specs.declared.FrameOpened.{FrameOpened}
+use Rattle.frame.specs.Opening as opening
+use Rattle.frame.specs.Opening.{openFrame, payloadIn}
+use Rattle.frame.proofs.Marks.{clear-accepted, payload-of-clear}
 use Rattle.frame.proofs.Opened.{open-behind, open-refused, open-roomy, open-empty, open-long}
 use Rattle.records.specs.OpenedRecord.{openedRecord, openedOf}
 use Rattle.records.proofs.Zeros.{refused-record}
@@ -71,6 +74,20 @@ pub parts-suffice : claims.PartsSuffice
 parts-suffice key fs ns o o′ list u ok room k h =
     let size = length-part o k (omega (arith, ready _ _ _ _ ok .fits)) in
     open-roomy key (frameAt fs ns k) (partAt o k) o′ (frame-below fs ns k u) (omega arith) room
+
+pub payloads-as-alone : claims.PayloadsAsAlone
+payloads-as-alone key fs ns o list u ok k h =
+    λ i. payloadIn (each-said key fs ns o list u ok k h i) (frameAt fs ns k) (as-alone key fs ns o list ok k h .part i)
+
+pub clear-writes-nothing : claims.ClearWritesNothing
+clear-writes-nothing key fs ns o list u ok k h clear =
+    let c = clear-accepted key (frameAt fs ns k) (partAt o k) clear in
+    let marked = ap (λ (r : opening.Run). r .answer .mark) (c .run) in
+    record {
+      marked = ap (λ (r : FrameOpened). r .mark) (each-said key fs ns o list u ok k h) ∙ marked;
+      part = as-alone key fs ns o list ok k h .part ∙ c .untouched;
+      payload = payloads-as-alone key fs ns o list u ok k h ∙ payload-of-clear key (frameAt fs ns k) (partAt o k) marked;
+    }
 
 pub each-its-own-number : claims.EachItsOwnNumber
 each-its-own-number key fs ns o list ok k h =

@@ -1,4 +1,5 @@
--- Document 02, 1, sentence by sentence: each is one claim over all keys, bytes, lengths, outputs and lists for the answers.
+-- Document 02, 1, and what 3 says of bursts, sentence by sentence: each is one claim over all keys, bytes, lengths, outputs and
+-- lists for the answers.
 -- Assumes nothing.
 use Prim.Native.Nat.{ℕ, _*_, _≤_, _<_}
 use mathlib.Core.Path.{_≡_}
@@ -6,7 +7,10 @@ use mathlib.Core.Logic.{_⊎_}
 use mathlib.Core.List.{List, [], _∷_}
 use lib.ListN.{length, getD, drop}
 use Rattle.octets.specs.Strings.{tab, Below}
-use Rattle.frame.specs.Opening.{openFrame}
+use Rattle.frame.specs.declared.Mark.{Mark}
+use Rattle.frame.specs.Reading.{readFrame}
+use Rattle.frame.specs.Opening.{openFrame, payloadIn}
+use Rattle.frame.specs.Marks.{handedBack, IsClear}
 use Rattle.records.specs.OpenedRecord.{openedRecord, openedOf}
 use Rattle.burst.specs.declared.BurstOpened.{BurstOpened}
 use Rattle.burst.specs.Burst.{mostFrames, partSize, total, frameAt, partAt, burstRefusal, joined, burstNothing, openBurst}
@@ -47,6 +51,13 @@ PartsSuffice =
     (key fs ns o o′ : List ℕ) (list : List (List ℕ)) → Below 256 fs → Accepted fs ns o list → partSize ≤ length o′ → (k : ℕ) → k < length ns
     → openFrame key (frameAt fs ns k) (partAt o k) .answer ≡ openFrame key (frameAt fs ns k) o′ .answer
 
+-- each record, with its frame and its part, hands back the payload that opening the frame alone hands back
+abbrev pub PayloadsAsAlone : Type 0
+PayloadsAsAlone =
+    (key fs ns o : List ℕ) (list : List (List ℕ)) → Below 256 fs → Accepted fs ns o list → (k : ℕ) → k < length ns
+    → payloadIn (openedOf (getD (openBurst key fs ns o list .answers) k [])) (frameAt fs ns k) (partAt (openBurst key fs ns o list .out) k)
+    ≡ handedBack key (frameAt fs ns k) (partAt o k)
+
 -- the answer of a frame of no bytes is 2, and that of one over 118 is 1; beside a refused frame's number its record is zeros
 pub record OwnNumber (key fs ns o : List ℕ) (list : List (List ℕ)) (k : ℕ) : Type 0 where
   pub empty : getD ns k 0 ≡ 0 → openFrame key (frameAt fs ns k) (partAt o k) .answer .refusal ≡ 2
@@ -56,6 +67,19 @@ pub record OwnNumber (key fs ns o : List ℕ) (list : List (List ℕ)) (k : ℕ)
 
 abbrev pub EachItsOwnNumber : Type 0
 EachItsOwnNumber = (key fs ns o : List ℕ) (list : List (List ℕ)) → Accepted fs ns o list → (k : ℕ) → k < length ns → OwnNumber key fs ns o list k
+
+-- ---- "in a burst a clear frame writes nothing to its part, and its payload is the frame's last bytes" (document 02, 3)
+
+pub record ClearInBurst (key fs ns o : List ℕ) (list : List (List ℕ)) (k : ℕ) : Type 0 where
+  pub marked : openedOf (getD (openBurst key fs ns o list .answers) k []) .mark ≡ Mark.Clear
+  pub part : partAt (openBurst key fs ns o list .out) k ≡ partAt o k
+  pub payload : payloadIn (openedOf (getD (openBurst key fs ns o list .answers) k [])) (frameAt fs ns k) (partAt (openBurst key fs ns o list .out) k)
+      ≡ drop (readFrame (frameAt fs ns k) .length) (frameAt fs ns k)
+
+abbrev pub ClearWritesNothing : Type 0
+ClearWritesNothing =
+    (key fs ns o : List ℕ) (list : List (List ℕ)) → Below 256 fs → Accepted fs ns o list → (k : ℕ) → k < length ns
+    → IsClear (frameAt fs ns k) → ClearInBurst key fs ns o list k
 
 -- ---- what stays
 
@@ -67,7 +91,8 @@ pub record RestStays (key fs ns o : List ℕ) (list : List (List ℕ)) : Type 0 
 abbrev pub TheRestStays : Type 0
 TheRestStays = (key fs ns o : List ℕ) (list : List (List ℕ)) → Accepted fs ns o list → RestStays key fs ns o list
 
--- the bytes of a part behind its plaintext stay: all of them where the frame is refused, since the length is then 0
+-- the bytes of a part behind its plaintext stay: all of them where the frame is refused, since the length is then 0, and
+-- where it is clear (ClearWritesNothing)
 abbrev pub BehindStays : Type 0
 BehindStays =
     (key fs ns o : List ℕ) (list : List (List ℕ)) → Accepted fs ns o list → (k : ℕ) → k < length ns

@@ -1,22 +1,24 @@
 -- What it means that sealing, reading or opening a frame is accepted: no condition of its list holds.
 -- Assumes nothing.
-use mathlib.Core.Path.{_≡_, refl, ap}
-use mathlib.Core.Bool.{true, false, not}
+use mathlib.Core.Path.{_≡_, refl, sym, ap, _∙_}
+use mathlib.Core.Bool.{Bool, true, false, true≢false, cond, not, _&&_}
 use mathlib.Core.List.{List}
 use Prim.Native.Nat.{ℕ, _-_, _≤_}
+use native.Mathlib.Omega.{arith}
 use lib.ListN.{length}
 use lib.Dec.{ltb}
 use borrow.Author.Tests.{ltb-false, le-ltb, not-false}
 use Rattle.octets.specs.Refusals.{firstOf, unless}
-use Rattle.octets.proofs.Conditions.{answer-number, none, none-refuse, or-false}
+use Rattle.octets.proofs.Conditions.{accepted, refused, answer-number, unless-either, none, none-refuse, or-false}
 use Rattle.header.specs.declared.{auxiliary.NwkSecurityLevel.NwkSecurityLevel, auxiliary.AuxRead.AuxRead, nwk.HeaderRead.HeaderRead, nwk.NwkHeader.NwkHeader}
 use Rattle.header.specs.Writing.{badHeader, fieldRefusal}
-use Rattle.frame.specs.declared.{OptionAuxHeader.OptionAuxHeader, FrameRead.FrameRead}
+use Rattle.ccm.specs.Verification.{Verified}
+use Rattle.frame.specs.declared.{OptionAuxHeader.OptionAuxHeader, FrameRead.FrameRead, Mark.Mark}
 use Rattle.frame.specs.Reading.{frameRefused, frameGiven, frameNumber, frameBy}
 use Rattle.frame.specs.Security.{isAbsent, orBlank, noIeee}
 use Rattle.frame.specs.Writing.{frameBytes, frameWriteRefusal}
 use Rattle.frame.specs.Sealing.{sealedLength, lengthRefusals, sealRefusal}
-use Rattle.frame.specs.Opening.{behind, verified, openRefusals, openRefusal, openRefused, Run, openGiven, openNothing, openBy}
+use Rattle.frame.specs.Opening.{isSealed, behind, verified, openRefusals, openRefusal, openRefused, Run, sealedGiven, clearGiven, openGiven, openNothing, openBy}
 
 -- ---- sealing
 
@@ -82,40 +84,124 @@ frame-refusal f h a = answer-number (λ (r : FrameRead). r .refusal) (frameNumbe
 
 -- ---- opening
 
+-- what holds of both cases holds of the case that a bit decides
+pub cond-either : {A : Type 0} (P : A → Type 0) (b : Bool) (x y : A) → (b ≡ true → P x) → (b ≡ false → P y) → P (cond b x y)
+cond-either P true x y p q = p refl
+cond-either P false x y p q = q refl
+
+-- a condition that counts only where a bit is set
+pub counts : (b x : Bool) → b ≡ true → (b && x) ≡ x
+counts true x e = refl
+counts false x e = absurd (true≢false (sym e))
+
+pub counts-not : (b x : Bool) → b ≡ false → (b && x) ≡ false
+counts-not true x e = absurd (true≢false e)
+counts-not false x e = refl
+
+-- a frame that is not refused, sealed or clear
+pub given-either : (P : Run → Type 0) (f : List ℕ) (r : FrameRead) (v : Verified) (o : List ℕ)
+    → (isSealed (r .header) ≡ true → P (sealedGiven r v o)) → (isSealed (r .header) ≡ false → P (clearGiven f r o)) → P (openGiven f r v o)
+given-either P f r v o p q = cond-either P (isSealed (r .header)) (sealedGiven r v o) (clearGiven f r o) p q
+
 pub open-number : (l : NwkSecurityLevel) (t : ℕ) (key f : List ℕ) (r : FrameRead) (o : List ℕ)
     → openBy l t key f r o .answer .refusal ≡ openRefusal l t key f r (length o)
 unfolding openBy openRefused
 open-number l t key f r o =
-    answer-number (λ (x : Run). x .answer .refusal) (openRefusal l t key f r (length o)) (openGiven r (verified l t key f r) o) (λ (n : ℕ). openNothing n o) refl refl
+    answer-number (λ (x : Run). x .answer .refusal) (openRefusal l t key f r (length o)) (openGiven f r (verified l t key f r) o) (λ (n : ℕ). openNothing n o)
+    (given-either (λ (x : Run). x .answer .refusal ≡ 0) f r (verified l t key f r) o (λ s. refl) (λ s. refl)) refl
 
+-- no condition of a sealed frame holds
 pub record Openable (l : NwkSecurityLevel) (t : ℕ) (key f : List ℕ) (r : FrameRead) (room : ℕ) : Type 0 where
   pub read : r .refusal ≡ 0
-  pub present : isAbsent (r .aux) ≡ false
+  pub sealed : isSealed (r .header) ≡ true
   pub ieee : noIeee (r .header) (orBlank (r .aux)) ≡ false
   pub tagged : t ≤ length (behind f r)
   pub fits : length (behind f r) - t ≤ room
   pub valid : verified l t key f r .valid ≡ true
 
 pub openable : (l : NwkSecurityLevel) (t : ℕ) (key f : List ℕ) (r : FrameRead) (room : ℕ) → openRefusal l t key f r room ≡ 0
-    → Openable l t key f r room
+    → isSealed (r .header) ≡ true → Openable l t key f r room
 unfolding openRefusal openRefusals
-openable l t key f r room e =
+openable l t key f r room e s =
     let all = none _ e in
     let n = none _ (all .0) in
     record {
       read = n .0;
-      present = n .1 .0;
-      ieee = n .1 .1 .0;
-      tagged = ltb-false (length (behind f r)) t (n .1 .1 .1 .0);
-      fits = ltb-false room (length (behind f r) - t) (n .1 .1 .1 .1 .0);
-      valid = not-false _ (all .1 .0);
+      sealed = s;
+      ieee = sym (counts (isSealed (r .header)) _ s) ∙ n .1 .0;
+      tagged = ltb-false (length (behind f r)) t (sym (counts (isSealed (r .header)) _ s) ∙ n .1 .1 .0);
+      fits = ltb-false room (length (behind f r) - t) (sym (counts (isSealed (r .header)) _ s) ∙ n .1 .1 .1 .0);
+      valid = not-false _ (sym (counts (isSealed (r .header)) _ s) ∙ all .1 .0);
     }
 
-pub open-accepts : (l : NwkSecurityLevel) (t : ℕ) (key f : List ℕ) (r : FrameRead) (room : ℕ) → Openable l t key f r room
-    → openRefusal l t key f r room ≡ 0
-unfolding openRefusal openRefusals
-open-accepts l t key f r room s =
-    let keyless =
-    none-refuse (openRefusals t (r .refusal) (r .header) (r .aux) (length (behind f r)) room)
-    (s .read, (s .present, (s .ieee, (le-ltb (length (behind f r)) t (s .tagged), (le-ltb room (length (behind f r) - t) (s .fits), tt))))) in
-    none-refuse _ (keyless, (ap not (s .valid), tt))
+module _ (l : NwkSecurityLevel) (t : ℕ) (key f : List ℕ) (r : FrameRead) where
+  open-accepts : (room : ℕ) → Openable l t key f r room → openRefusal l t key f r room ≡ 0
+  unfolding openRefusal openRefusals
+  open-accepts room s =
+      let off : (x : Bool) → x ≡ false → (isSealed (r .header) && x) ≡ false = λ x e. counts (isSealed (r .header)) x (s .sealed) ∙ e in
+      let keyless =
+      none-refuse (openRefusals t (r .refusal) (r .header) (r .aux) (length (behind f r)) room)
+      (s .read, (off _ (s .ieee), (off _ (le-ltb (length (behind f r)) t (s .tagged)), (off _ (le-ltb room (length (behind f r) - t) (s .fits)), tt)))) in
+      none-refuse _ (keyless, (off _ (ap not (s .valid)), tt))
+
+  pub clear-accepts : (room : ℕ) → r .refusal ≡ 0 → isSealed (r .header) ≡ false → openRefusal l t key f r room ≡ 0
+  unfolding openRefusal openRefusals
+  clear-accepts room e off =
+      let not-so : (x : Bool) → (isSealed (r .header) && x) ≡ false = λ x. counts-not (isSealed (r .header)) x off in
+      let keyless =
+      none-refuse (openRefusals t (r .refusal) (r .header) (r .aux) (length (behind f r)) room) (e, (not-so _, (not-so _, (not-so _, tt)))) in
+      none-refuse _ (keyless, (not-so _, tt))
+
+  -- what opening leaves of a frame that it accepts, sealed or clear
+  pub sealed-run : (o : List ℕ) → Openable l t key f r (length o) → openBy l t key f r o ≡ sealedGiven r (verified l t key f r) o
+  unfolding openBy
+  sealed-run o s =
+      accepted (openRefusal l t key f r (length o)) _ _ (open-accepts (length o) s)
+      ∙ ap (λ (b : Bool). cond b (sealedGiven r (verified l t key f r) o) (clearGiven f r o)) (s .sealed)
+
+  pub clear-run : (o : List ℕ) → r .refusal ≡ 0 → isSealed (r .header) ≡ false → openBy l t key f r o ≡ clearGiven f r o
+  unfolding openBy
+  clear-run o e off =
+      accepted (openRefusal l t key f r (length o)) _ _ (clear-accepts (length o) e off)
+      ∙ ap (λ (b : Bool). cond b (sealedGiven r (verified l t key f r) o) (clearGiven f r o)) off
+
+-- ---- the marks
+
+-- a place for each mark, so that no two are the same
+abbrev place : Mark → ℕ
+place Mark.Unmarked = 0
+place Mark.Clear = 1
+place Mark.Sealed = 2
+
+apart : (m n : Mark) → (place m ≡ place n → ⊥) → m ≡ n → ⊥
+apart m n h e = h (ap place e)
+
+module _ (l : NwkSecurityLevel) (t : ℕ) (key f : List ℕ) (r : FrameRead) (o : List ℕ) where
+  -- what each mark says of the frame
+  pub marked-sealed : openBy l t key f r o .answer .mark ≡ Mark.Sealed → Openable l t key f r (length o)
+  unfolding openBy openRefused
+  marked-sealed =
+      unless-either (λ (x : Run). x .answer .mark ≡ Mark.Sealed → Openable l t key f r (length o)) (openRefusal l t key f r (length o)) _ _
+      (λ e. given-either (λ (x : Run). x .answer .mark ≡ Mark.Sealed → Openable l t key f r (length o)) f r (verified l t key f r) o
+      (λ s m. openable l t key f r (length o) e s) (λ s m. absurd (apart Mark.Clear Mark.Sealed (λ z. omega arith) m)))
+      (λ m. absurd (apart Mark.Unmarked Mark.Sealed (λ z. omega arith) m))
+
+  pub marked-clear : openBy l t key f r o .answer .mark ≡ Mark.Clear → (r .refusal ≡ 0) × (isSealed (r .header) ≡ false)
+  unfolding openBy openRefused openRefusal openRefusals
+  marked-clear =
+      unless-either (λ (x : Run). x .answer .mark ≡ Mark.Clear → (r .refusal ≡ 0) × (isSealed (r .header) ≡ false)) (openRefusal l t key f r (length o)) _ _
+      (λ e. given-either (λ (x : Run). x .answer .mark ≡ Mark.Clear → (r .refusal ≡ 0) × (isSealed (r .header) ≡ false)) f r (verified l t key f r) o
+      (λ s m. absurd (apart Mark.Sealed Mark.Clear (λ z. omega arith) m)) (λ s m. (none _ (none _ e .0) .0, s)))
+      (λ m. absurd (apart Mark.Unmarked Mark.Clear (λ z. omega arith) m))
+
+  -- there is one exactly where nothing is refused
+  pub marked : openRefusal l t key f r (length o) ≡ 0 → openBy l t key f r o .answer .mark ≡ Mark.Unmarked → ⊥
+  unfolding openBy
+  marked e =
+      rw (accepted (openRefusal l t key f r (length o)) (openGiven f r (verified l t key f r) o) (openNothing (openRefusal l t key f r (length o)) o) e)
+      (given-either (λ (x : Run). x .answer .mark ≡ Mark.Unmarked → ⊥) f r (verified l t key f r) o
+      (λ s. apart Mark.Sealed Mark.Unmarked (λ z. omega arith)) (λ s. apart Mark.Clear Mark.Unmarked (λ z. omega arith)))
+
+  pub unmarked : (openRefusal l t key f r (length o) ≡ 0 → ⊥) → openBy l t key f r o .answer .mark ≡ Mark.Unmarked
+  unfolding openBy openRefused
+  unmarked h = ap (λ (x : Run). x .answer .mark) (refused (openRefusal l t key f r (length o)) (openGiven f r (verified l t key f r) o) _ h)

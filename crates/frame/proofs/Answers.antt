@@ -1,8 +1,8 @@
 -- What the functions return, over plain values: each lemma turns what the calls promised into the answer of one `return`.
 -- Assumes nothing.
 use mathlib.Core.Path.{_≡_, refl, sym, ap, _∙_}
-use mathlib.Core.Bool.{Bool, true, false, not, _||_}
-use mathlib.Core.List.{List, _++_}
+use mathlib.Core.Bool.{Bool, true, false, not, _&&_, _||_}
+use mathlib.Core.List.{List, _∷_, _++_}
 use Prim.Native.Nat.{ℕ, _+_, _-_, _≤_, _<_}
 use lib.ListN.{length, drop, take, length-append, length-drop}
 use lib.Seq.{length-take-le}
@@ -12,8 +12,8 @@ use native.Mathlib.Omega.{arith}
 use borrow.Author.Tests.{lt-ltb, le-ltb, ltb-false}
 use Rattle.octets.specs.Strings.{over, Below}
 use Rattle.octets.proofs.Strings.{over-then, drop-below}
-use Rattle.octets.specs.Refusals.{firstOf, unless}
-use Rattle.octets.proofs.Conditions.{accepted-by, refused-by, unless-number, none, stop, skip, stop-by, skip-by, empty}
+use Rattle.octets.specs.Refusals.{Condition, on, firstOf, unless}
+use Rattle.octets.proofs.Conditions.{refused-by, unless-number, none, stop, skip, stop-by, skip-by, empty}
 use Rattle.header.specs.declared.{auxiliary.AuxRead.AuxRead, nwk.HeaderRead.HeaderRead, auxiliary.NwkSecurityLevel.NwkSecurityLevel, auxiliary.NwkAuxHeader.NwkAuxHeader, nwk.NwkHeader.NwkHeader}
 use Rattle.header.specs.Reading.{readHeader}
 use Rattle.header.specs.Writing.{headerBytes, badHeader}
@@ -22,10 +22,11 @@ use Rattle.header.proofs.ReadFacts.{header-facts, aux-facts}
 use Rattle.ccm.specs.declared.Split.{Split}
 use Rattle.ccm.specs.Verification.{Verified}
 use Rattle.ccm.specs.Operations.{micLength, sealedBy, openedBy, Under, splitMic, givenIf}
-use Rattle.frame.specs.declared.{OptionAuxHeader.OptionAuxHeader, FrameRead.FrameRead}
-use Rattle.frame.specs.Security.{networkLevel, sentLevel, atLevel, isAbsent, orBlank, nonce, authenticated}
+use Rattle.frame.specs.declared.{OptionAuxHeader.OptionAuxHeader, FrameRead.FrameRead, Mark.Mark}
+use Rattle.frame.specs.Security.{networkLevel, sentLevel, atLevel, orBlank, nonce, authenticated}
 use Rattle.frame.specs.Sealing.{generated, sealedBytes}
-use Rattle.frame.specs.Opening.{behind, ciphertextOf, micOf, verified, openRefusals, openRefusal, Run, openGiven, openNothing, openBy, openFrame}
+use Rattle.frame.specs.Opening.{isSealed, behind, ciphertextOf, micOf, verified, openRefusals, openRefusal, Run, sealedGiven, clearGiven, openNothing, openBy, openFrame}
+use Rattle.frame.proofs.Accepted.{counts, counts-not, openable, sealed-run, clear-run}
 use Rattle.frame.proofs.Levels.{level-length}
 use Rattle.frame.proofs.SecondHalf.{secured-facts, payload-length}
 use Rattle.frame.specs.Reading.{secured, auxBehind, frameRefusal, frameNumber, frameBy, readFrame}
@@ -87,27 +88,37 @@ pub mic-split : (s : List ℕ) (r : Split) → r ≡ splitMic s → 4 ≤ length
 unfolding splitMic micOf
 mic-split s r e h = ap (λ (k : Split). k .mic) e ∙ rw (le-ltb (length s) 4 h) refl
 
--- no refusal that needs no key
-pub record Ready (number : ℕ) (h : NwkHeader) (a : OptionAuxHeader) (part room : ℕ) : Type 0 where
+-- a condition of a sealed frame, which holds or does not; and none of a clear one
+module _ (h : NwkHeader) (n : ℕ) (x : Bool) (cs : List Condition) where
+  pub stop-sealed : isSealed h ≡ true → x ≡ true → firstOf (on n (isSealed h && x) ∷ cs) ≡ n
+  stop-sealed s e = stop n _ cs (counts (isSealed h) x s ∙ e)
+
+  pub skip-sealed : isSealed h ≡ true → x ≡ false → firstOf (on n (isSealed h && x) ∷ cs) ≡ firstOf cs
+  skip-sealed s e = skip n _ cs (counts (isSealed h) x s ∙ e)
+
+  pub skip-clear : isSealed h ≡ false → firstOf (on n (isSealed h && x) ∷ cs) ≡ firstOf cs
+  skip-clear off = skip n _ cs (counts-not (isSealed h) x off)
+
+-- no refusal of a sealed frame that needs no key
+pub record Ready (number : ℕ) (part room : ℕ) : Type 0 where
   pub read : number ≡ 0
-  pub present : isAbsent a ≡ false
   pub tagged : 4 ≤ part
   pub fits : part - 4 ≤ room
 
 pub ready : (number : ℕ) (h : NwkHeader) (a : OptionAuxHeader) (part room : ℕ) → firstOf (openRefusals 4 number h a part room) ≡ 0
-    → Ready number h a part room
+    → isSealed h ≡ true → Ready number part room
 unfolding openRefusals
-ready number h a part room e =
+ready number h a part room e s =
     let n = none _ e in
-    record { read = n .0; present = n .1 .0; tagged = ltb-false part 4 (n .1 .1 .1 .0); fits = ltb-false room (part - 4) (n .1 .1 .1 .1 .0) }
+    record { read = n .0; tagged = ltb-false part 4 (sym (counts (isSealed h) _ s) ∙ n .1 .1 .0); fits = ltb-false room (part - 4) (sym (counts (isSealed h) _ s) ∙ n .1 .1 .1 .0) }
 
--- what opening needs of a frame that was read and has an auxiliary header
-pub open-facts : (f : List ℕ) → Below 256 f → readFrame f .refusal ≡ 0 → isAbsent (readFrame f .aux) ≡ false
+-- what opening needs of a frame that was read and is sealed
+pub open-facts : (f : List ℕ) → Below 256 f → readFrame f .refusal ≡ 0 → isSealed (readFrame f .header) ≡ true
     → (badHeader (readFrame f .header) ≡ false)
     × (length (headerBytes (readFrame f .header)) + length (auxBytes (orBlank (readFrame f .aux))) ≤ 118)
     × (length (drop (readFrame f .length) f) ≤ 127)
-open-facts f u e present =
-    let s = secured-facts f e present in
+open-facts f u e sealed =
+    let s = secured-facts f e sealed in
     let hf = header-facts f u (s .header) in
     let af = aux-facts (drop (readHeader f .length) f) (drop-below f (readHeader f .length) 256 u) (s .aux) in
     let short = hf .short in
@@ -134,16 +145,23 @@ module _ (key f part o : List ℕ) (r : FrameRead) (n : ℕ) (read : r ≡ readF
   unfolding openBy openRefusal
   open-stopped h = refused-by _ n _ (λ (m : ℕ). openNothing m o) (keyless ∙ sym (stop-by _ _ (λ z. h (keyless ∙ z)))) h ∙ run
 
-  open-invalid : n ≡ 0 → verified networkLevel micLength key f r .valid ≡ false → openNothing 19 o ≡ openFrame key f o
-  unfolding openBy openRefusal
-  open-invalid e bad =
-      refused-by _ 19 _ (λ (m : ℕ). openNothing m o) (sym (skip-by _ _ (sym keyless ∙ e) ∙ stop 19 _ _ (ap not bad))) (λ z. omega arith) ∙ run
+  -- a clear frame
+  pub open-clear : n ≡ 0 → isSealed (r .header) ≡ false → clearGiven f r o ≡ openFrame key f o
+  unfolding openRefusals
+  open-clear e off = sym (clear-run networkLevel micLength key f r o (none _ (sym keyless ∙ e) .0) off) ∙ run
 
-  open-valid : n ≡ 0 → verified networkLevel micLength key f r .valid ≡ true
-      → openGiven r (verified networkLevel micLength key f r) o ≡ openFrame key f o
+  -- a sealed one whose MIC is another, or the one computed
+  open-invalid : n ≡ 0 → isSealed (r .header) ≡ true → verified networkLevel micLength key f r .valid ≡ false → openNothing 19 o ≡ openFrame key f o
   unfolding openBy openRefusal
-  open-valid e good =
-      accepted-by _ 0 _ _ (sym (skip-by _ _ (sym keyless ∙ e) ∙ skip 19 _ _ (ap not good) ∙ empty)) refl ∙ run
+  open-invalid e s bad =
+      refused-by _ 19 _ (λ (m : ℕ). openNothing m o) (sym (skip-by _ _ (sym keyless ∙ e) ∙ stop 19 _ _ (counts (isSealed (r .header)) _ s ∙ ap not bad))) (λ z. omega arith) ∙ run
+
+  open-valid : n ≡ 0 → isSealed (r .header) ≡ true → verified networkLevel micLength key f r .valid ≡ true
+      → sealedGiven r (verified networkLevel micLength key f r) o ≡ openFrame key f o
+  unfolding openRefusal
+  open-valid e s good =
+      let number-0 : openRefusal networkLevel micLength key f r (length o) ≡ 0 = skip-by _ _ (sym keyless ∙ e) ∙ skip 19 _ _ (counts (isSealed (r .header)) _ s ∙ ap not good) ∙ empty in
+      sym (sealed-run networkLevel micLength key f r o (openable networkLevel micLength key f r (length o) number-0 s)) ∙ run
 
 -- ---- sealing
 
@@ -172,36 +190,47 @@ verified-is : (key f part : List ℕ) (r : FrameRead) (x : NwkAuxHeader) → x �
 unfolding verified behind
 verified-is key f part r x ex ep = λ i. made key (r .header) (ex i) (ep i)
 
-pub ready-facts : (f : List ℕ) (r : FrameRead) → Below 256 f → r ≡ readFrame f → r .refusal ≡ 0 → isAbsent (r .aux) ≡ false
+pub ready-facts : (f : List ℕ) (r : FrameRead) → Below 256 f → r ≡ readFrame f → r .refusal ≡ 0 → isSealed (r .header) ≡ true
     → (badHeader (r .header) ≡ false)
     × (length (headerBytes (r .header)) + length (auxBytes (orBlank (r .aux))) ≤ 118)
     × (length (drop (r .length) f) ≤ 127)
-ready-facts f r u e read present = rw e (open-facts f u (rw e at read) (rw e at present))
+ready-facts f r u e read sealed = rw e (open-facts f u (rw e at read) (rw e at sealed))
 
 payload-size : (key f part : List ℕ) (r : FrameRead) → part ≡ drop (r .length) f → length part - 4 ≡ length (verified networkLevel 4 key f r .payload)
 unfolding behind
 payload-size key f part r e = ap (λ (l : List ℕ). length l - 4) e ∙ sym (payload-length networkLevel 4 key f r)
 
--- under the round keys w no other refusal holds, and CCM found the MIC valid or not (b), and left o′ for o
+-- under the round keys w no other refusal of a sealed frame holds, and CCM found the MIC valid or not (b), and left o′ for o
 module _ (w : List (List (List ℕ))) (f part o o′ : List ℕ) (r : FrameRead) (x : NwkAuxHeader) (n : ℕ) (b : Bool)
     (read : r ≡ readFrame f) (rest : part ≡ drop (r .length) f) (present : x ≡ orBlank (r .aux))
     (number : n ≡ firstOf (openRefusals micLength (r .refusal) (r .header) (r .aux) (length part) (length o))) (passed : n ≡ 0)
+    (sealed : isSealed (r .header) ≡ true)
     (valid : Under w (λ (key : List ℕ). b ≡ made key (r .header) x part .valid))
     (given : Under w (λ (key : List ℕ). o′ ≡ givenIf b (made key (r .header) x part) o)) where
   pub opened-valid : b ≡ true → Under w (λ (key : List ℕ).
-      _≡_ {A = Run} (record { answer = record { refusal = 0; length = length part - 4; header = r .header; aux = r .aux }; out = o′ }) (openFrame key f o))
+      _≡_ {A = Run} (record { answer = record { refusal = 0; mark = Mark.Sealed; length = length part - 4; header = r .header; aux = r .aux }; out = o′ }) (openFrame key f o))
   unfolding givenIf
   opened-valid t key e =
       let v = verified-is key f part r x present rest in
       (λ i. record {
-        answer = record { refusal = 0; length = payload-size key f part r rest i; header = r .header; aux = r .aux };
+        answer = record { refusal = 0; mark = Mark.Sealed; length = payload-size key f part r rest i; header = r .header; aux = r .aux };
         out = (rw (t, v) at (given key e)) i;
       })
-      ∙ open-valid key f part o r n read rest number passed (sym (valid key e ∙ ap (λ (y : Verified). y .valid) v) ∙ t)
+      ∙ open-valid key f part o r n read rest number passed sealed (sym (valid key e ∙ ap (λ (y : Verified). y .valid) v) ∙ t)
 
   pub opened-invalid : b ≡ false → Under w (λ (key : List ℕ). openNothing 19 o′ ≡ openFrame key f o)
   unfolding givenIf
   opened-invalid t key e =
       let v = verified-is key f part r x present rest in
       ap (openNothing 19) (rw t at (given key e))
-      ∙ open-invalid key f part o r n read rest number passed (sym (valid key e ∙ ap (λ (y : Verified). y .valid) v) ∙ t)
+      ∙ open-invalid key f part o r n read rest number passed sealed (sym (valid key e ∙ ap (λ (y : Verified). y .valid) v) ∙ t)
+
+-- the answer of a clear frame, its length that of the part behind the headers
+pub opened-clear : (f part o : List ℕ) (r : FrameRead) (n : ℕ) → r ≡ readFrame f → part ≡ drop (r .length) f
+    → n ≡ firstOf (openRefusals micLength (r .refusal) (r .header) (r .aux) (length part) (length o)) → n ≡ 0 → isSealed (r .header) ≡ false
+    → (key : List ℕ)
+    → _≡_ {A = Run} (record { answer = record { refusal = 0; mark = Mark.Clear; length = length part; header = r .header; aux = r .aux }; out = o }) (openFrame key f o)
+unfolding behind
+opened-clear f part o r n read rest number passed off key =
+    (λ i. record { answer = record { refusal = 0; mark = Mark.Clear; length = length (rest i); header = r .header; aux = r .aux }; out = o })
+    ∙ open-clear key f part o r n read rest number passed off

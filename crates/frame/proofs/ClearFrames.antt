@@ -1,5 +1,5 @@
--- A clear frame: reading what was written without a key gives header and payload back, where the security bit is off and
--- the presence bits agree with their fields.
+-- A clear frame: what reading one gives; and reading what was written without a key gives header and payload back, where the
+-- security bit is off and the presence bits agree with their fields.
 -- Assumes nothing.
 use mathlib.Core.Path.{_≡_, refl, sym, ap, _∙_}
 use mathlib.Core.Bool.{Bool, false, cond, not, _&&_}
@@ -10,8 +10,8 @@ use native.Mathlib.Omega.{arith}
 use lib.ListN.{length, drop, length-append}
 use lib.Seq.{drop-at}
 use lib.Dec.{ltb}
-use borrow.Author.Tests.{le-ltb}
-use Rattle.octets.proofs.Conditions.{accepted, none-refuse}
+use borrow.Author.Tests.{ltb-false, le-ltb}
+use Rattle.octets.proofs.Conditions.{accepted, none, none-refuse}
 use Rattle.octets.proofs.Strings.{take-over}
 use Rattle.octets.proofs.Writing.{write-accepted, written-number}
 use Rattle.header.specs.declared.{auxiliary.AuxRead.AuxRead, control.NwkFrameControl.NwkFrameControl, nwk.HeaderRead.HeaderRead, nwk.NwkHeader.NwkHeader}
@@ -20,10 +20,11 @@ use Rattle.header.specs.Same.{Agrees, SameHeader, cleared, HeaderFits}
 use Rattle.header.specs.Writing.{headerBytes}
 use Rattle.header.proofs.ReadBack.{read-back, same-cleared}
 use Rattle.frame.specs.declared.{OptionAuxHeader.OptionAuxHeader, FrameRead.FrameRead}
-use Rattle.frame.specs.Reading.{secured, auxIf, auxBehind, frameRefusal, frameGiven, frameNumber, frameBy, readFrame}
+use Rattle.frame.specs.Reading.{secured, auxIf, auxBehind, frameRefusal, frameRefused, frameGiven, frameNumber, frameBy, readFrame}
 use Rattle.frame.specs.Writing.{frameBytes, frameWriteRefusal, writeFrame}
+use Rattle.frame.specs.Opening.{isSealed}
 use Rattle.frame.specs.SealingLaw.{bytesWritten}
-use Rattle.frame.proofs.Accepted.{ClearWritable, clear-writable}
+use Rattle.frame.proofs.Accepted.{ClearWritable, clear-writable, frame-refusal, counts}
 
 -- the frame whose header has been read, the security bit being off
 clear-frame : (f : List ℕ) (h : HeaderRead) (a : AuxRead) → secured h ≡ false → h .refusal ≡ 0 → length f - h .length ≤ 108
@@ -35,6 +36,21 @@ clear-frame f h a s e short =
     accepted (frameNumber f h a) (frameGiven h a) _ none
     ∙ (λ i. record { refusal = 0; length = h .length + cond (s i) (a .length) 0; header = h .header; aux = auxIf (s i) (a .aux) })
     ∙ (λ i. record { refusal = 0; length = add-zero (h .length) i; header = h .header; aux = OptionAuxHeader.Absent })
+
+-- what reading a clear frame gives, by its parts
+pub record ClearFacts (f : List ℕ) : Type 0 where
+  pub header : readHeader f .refusal ≡ 0
+  pub read : readFrame f ≡ record { refusal = 0; length = readHeader f .length; header = readHeader f .header; aux = OptionAuxHeader.Absent }
+
+pub clear-facts : (f : List ℕ) → readFrame f .refusal ≡ 0 → isSealed (readFrame f .header) ≡ false → ClearFacts f
+unfolding readFrame frameBy frameNumber frameRefusal
+clear-facts f e off =
+    let h = readHeader f in
+    let a = auxBehind f h in
+    let z : frameNumber f h a ≡ 0 = sym (frame-refusal f h a) ∙ e in
+    let s : secured h ≡ false = rw (accepted (frameNumber f h a) (frameGiven h a) (frameRefused (frameNumber f h a)) z) at off in
+    let n = none _ z in
+    record { header = n .0; read = clear-frame f h a s (n .0) (ltb-false 108 (length f - h .length) (sym (counts (not (secured h)) _ (ap not s)) ∙ n .1 .1 .0)) }
 
 -- what reading a clear frame gives of a header h and a payload p
 pub record ReadBack (h : NwkHeader) (p f : List ℕ) (r : FrameRead) : Type 0 where

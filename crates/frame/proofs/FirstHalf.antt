@@ -21,13 +21,13 @@ use Rattle.header.proofs.AuxiliaryLaws.{aux-read-back}
 use Rattle.ccm.specs.Verification.{Verified}
 use Rattle.ccm.specs.Operations.{openedBy}
 use Rattle.ccm.proofs.Opening.{length-ciphertext, length-tag, opened-sealed}
-use Rattle.frame.specs.declared.{OptionAuxHeader.OptionAuxHeader, FrameRead.FrameRead}
+use Rattle.frame.specs.declared.{OptionAuxHeader.OptionAuxHeader, FrameRead.FrameRead, Mark.Mark}
 use Rattle.frame.specs.Reading.{secured, auxIf, auxBehind, frameRefusal, frameGiven, frameNumber, frameBy, readFrame}
 use Rattle.frame.specs.Security.{sentLevel, atLevel, orBlank, noIeee, nonce, authenticated}
 use Rattle.frame.specs.Sealing.{generated, sealedBytes, sealedLength}
-use Rattle.frame.specs.Opening.{behind, ciphertextOf, micOf, verified, openRefusal, openGiven, openBy}
+use Rattle.frame.specs.Opening.{isSealed, behind, ciphertextOf, micOf, verified, openBy}
 use Rattle.frame.proofs.Levels.{level-agrees, level-fits, level-length, level-nonce, level-authenticated, level-ieee}
-use Rattle.frame.proofs.Accepted.{Openable, open-accepts}
+use Rattle.frame.proofs.Accepted.{Openable, sealed-run}
 
 -- ---- reading a secured frame from its parts
 
@@ -113,6 +113,11 @@ module _ (l : NwkSecurityLevel) (t : ℕ) (key : List ℕ) (h : NwkHeader) (x : 
         (λ i. frameBy (sealedBytes l t key h x p) (header-part i) (aux-part i))
         ∙ secured-frame (sealedBytes l t key h x p) _ _ (ap (λ (k : NwkFrameControl). k .security) (sym (same-cleared h good .control)) ∙ sec) refl refl
 
+    -- the security bit came back with the header
+    back-sealed : isSealed (readBack .header) ≡ true
+    unfolding readBack
+    back-sealed = ap (λ (k : NwkFrameControl). k .security) (sym (same-cleared h good .control)) ∙ sec
+
     -- ---- opening them
 
     same-nonce : nonce l (readBack .header) (orBlank (readBack .aux)) ≡ nonce l h x
@@ -160,7 +165,7 @@ module _ (l : NwkSecurityLevel) (t : ℕ) (key : List ℕ) (h : NwkHeader) (x : 
         let size : length (behind (sealedBytes l t key h x p) readBack) ≡ length p + t = ap length behind-headers ∙ part-length in
         record {
           read = refl;
-          present = refl;
+          sealed = back-sealed;
           ieee = level-ieee l sentLevel x h (cleared h) (same-cleared h good) ∙ ieee;
           tagged = omega (arith, size);
           fits = omega (arith, size);
@@ -171,15 +176,14 @@ module _ (l : NwkSecurityLevel) (t : ℕ) (key : List ℕ) (h : NwkHeader) (x : 
     pub reopened : (out : List ℕ) → noIeee h x ≡ false → length p ≤ length out
         → openBy l t key (sealedBytes l t key h x p) (readFrame (sealedBytes l t key h x p)) out
         ≡ record {
-          answer = record { refusal = 0; length = length p; header = cleared h; aux = OptionAuxHeader.Present (atLevel sentLevel x) };
+          answer = record { refusal = 0; mark = Mark.Sealed; length = length p; header = cleared h; aux = OptionAuxHeader.Present (atLevel sentLevel x) };
           out = over out 0 p;
         }
-    unfolding openBy readBack
+    unfolding readBack
     reopened out ieee room =
         ap (λ (r : FrameRead). openBy l t key (sealedBytes l t key h x p) r out) frame-read
-        ∙ accepted (openRefusal l t key (sealedBytes l t key h x p) readBack (length out)) (openGiven readBack (verified l t key (sealedBytes l t key h x p) readBack) out) _
-        (open-accepts l t key (sealedBytes l t key h x p) readBack (length out) (openable-back (length out) ieee room))
+        ∙ sealed-run l t key (sealedBytes l t key h x p) readBack out (openable-back (length out) ieee room)
         ∙ (λ i. record {
-          answer = record { refusal = 0; length = length (made .1 i); header = cleared h; aux = OptionAuxHeader.Present (atLevel sentLevel x) };
+          answer = record { refusal = 0; mark = Mark.Sealed; length = length (made .1 i); header = cleared h; aux = OptionAuxHeader.Present (atLevel sentLevel x) };
           out = over out 0 (made .1 i);
         })

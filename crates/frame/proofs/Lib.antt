@@ -7,3 +7,4 @@ pub mod SealingLaw
 pub mod Answers
 pub mod Opened
 pub mod ClearFrames
+pub mod Marks

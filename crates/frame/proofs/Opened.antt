@@ -2,7 +2,7 @@
 -- alone, and the header's number goes before every other.
 -- Assumes nothing.
 use mathlib.Core.Path.{_≡_, refl, sym, ap, _∙_}
-use mathlib.Core.Bool.{cond, not}
+use mathlib.Core.Bool.{Bool, true, false, cond, not, _&&_}
 use mathlib.Core.List.{List, [], _∷_}
 use Prim.Native.Nat.{ℕ, zero, suc, _+_, _-_, _≤_, _<_}
 use native.Mathlib.Nat.{zero-add}
@@ -22,8 +22,8 @@ use Rattle.ccm.specs.Operations.{micLength}
 use Rattle.frame.specs.declared.{OptionAuxHeader.OptionAuxHeader, FrameRead.FrameRead}
 use Rattle.frame.specs.Reading.{secured, auxBehind, frameRefusal, frameGiven, frameNumber, frameBy, readFrame}
 use Rattle.frame.specs.Security.{networkLevel}
-use Rattle.frame.specs.Opening.{behind, verified, openRefusals, openRefusal, openRefused, Run, openGiven, openNothing, openBy, openFrame}
-use Rattle.frame.proofs.Accepted.{frame-refusal, open-number, openable}
+use Rattle.frame.specs.Opening.{isSealed, behind, verified, openRefusals, openRefusal, openRefused, Run, sealedGiven, clearGiven, openGiven, openNothing, openBy, openFrame}
+use Rattle.frame.proofs.Accepted.{frame-refusal, given-either, open-number, openable}
 use Rattle.frame.proofs.SecondHalf.{payload-length}
 
 -- a number given before, if it is not 0
@@ -43,14 +43,18 @@ module _ (key f o : List ℕ) where
   unfolding openFrame openBy
   open-length =
       unless-either (λ (r : Run). length (r .out) ≡ length o) number _ _
-      (λ e. length-over o 0 _ (rw (zero-add, payload-length networkLevel micLength key f (readFrame f)) (openable networkLevel micLength key f (readFrame f) (length o) e .fits)))
+      (λ e. given-either (λ (r : Run). length (r .out) ≡ length o) f (readFrame f) (verified networkLevel micLength key f (readFrame f)) o
+      (λ s. length-over o 0 _ (rw (zero-add, payload-length networkLevel micLength key f (readFrame f)) (openable networkLevel micLength key f (readFrame f) (length o) e s .fits)))
+      (λ s. refl))
       refl
 
   pub open-behind : drop (openFrame key f o .answer .length) (openFrame key f o .out) ≡ drop (openFrame key f o .answer .length) o
   unfolding openFrame openBy openRefused
   open-behind =
       unless-either (λ (r : Run). drop (r .answer .length) (r .out) ≡ drop (r .answer .length) o) number _ _
-      (λ e. rw over-front (drop-append-seam (verified networkLevel micLength key f (readFrame f) .payload) _)) refl
+      (λ e. given-either (λ (r : Run). drop (r .answer .length) (r .out) ≡ drop (r .answer .length) o) f (readFrame f) (verified networkLevel micLength key f (readFrame f)) o
+      (λ s. rw over-front (drop-append-seam (verified networkLevel micLength key f (readFrame f) .payload) _)) (λ s. refl))
+      refl
 
   pub open-refused : (n : ℕ) → openFrame key f o .answer .refusal ≡ n → (n ≡ 0 → ⊥) → openFrame key f o .answer ≡ openRefused n
   unfolding openFrame openBy
@@ -95,12 +99,17 @@ same-number zero h a part room room′ s r r′ =
     rw (le-ltb room (part - 4) (omega arith), le-ltb room′ (part - 4) (omega arith)) refl
 same-number (suc m) h a part room room′ s r r′ = refl
 
--- the answer goes by the number, and not by what the output holds
-same-answer : (n : ℕ) (r : FrameRead) (v : Verified) (o o′ : List ℕ)
-    → unless n (openGiven r v o) (openNothing n o) .answer ≡ unless n (openGiven r v o′) (openNothing n o′) .answer
+-- the answer goes by the number and the security bit, and not by what the output holds
+same-given : (b : Bool) (f : List ℕ) (r : FrameRead) (v : Verified) (o o′ : List ℕ)
+    → cond b (sealedGiven r v o) (clearGiven f r o) .answer ≡ cond b (sealedGiven r v o′) (clearGiven f r o′) .answer
+same-given true f r v o o′ = refl
+same-given false f r v o o′ = refl
+
+same-answer : (n : ℕ) (f : List ℕ) (r : FrameRead) (v : Verified) (o o′ : List ℕ)
+    → unless n (openGiven f r v o) (openNothing n o) .answer ≡ unless n (openGiven f r v o′) (openNothing n o′) .answer
 unfolding unless
-same-answer zero r v o o′ = refl
-same-answer (suc n) r v o o′ = refl
+same-answer zero f r v o o′ = same-given (isSealed (r .header)) f r v o o′
+same-answer (suc n) f r v o o′ = refl
 
 -- 108 bytes have room for every payload: the answer is that of every longer output
 pub open-roomy : (key f o o′ : List ℕ) → Below 256 f → 108 ≤ length o → 108 ≤ length o′ → openFrame key f o .answer ≡ openFrame key f o′ .answer
@@ -109,5 +118,6 @@ open-roomy key f o o′ u r r′ =
     let x = readFrame f in
     let v = verified networkLevel micLength key f x in
     let same = same-number (x .refusal) (x .header) (x .aux) (length (behind f x)) (length o) (length o′) (behind-short f u) r r′ in
-    ap (λ (m : ℕ). unless (firstOf (by m ∷ on 19 (not (v .valid)) ∷ [])) (openGiven x v o) (openNothing (firstOf (by m ∷ on 19 (not (v .valid)) ∷ [])) o) .answer) same
-    ∙ same-answer _ x v o o′
+    let wrong = isSealed (x .header) && not (v .valid) in
+    ap (λ (m : ℕ). unless (firstOf (by m ∷ on 19 wrong ∷ [])) (openGiven f x v o) (openNothing (firstOf (by m ∷ on 19 wrong ∷ [])) o) .answer) same
+    ∙ same-answer _ f x v o o′

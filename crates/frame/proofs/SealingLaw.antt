@@ -1,30 +1,34 @@
 -- The sealing law: a value of each of the two statements in specs/SealingLaw.antt.
 -- Assumes nothing.
 use mathlib.Core.Path.{_≡_, refl, sym, ap, _∙_}
-use mathlib.Core.List.{List}
-use Prim.Native.Nat.{ℕ, _≤_, _<_}
+use mathlib.Core.Bool.{true}
+use mathlib.Core.List.{List, _∷_}
+use Prim.Native.Nat.{ℕ, zero, suc, _≤_, _<_}
 use native.Mathlib.Omega.{arith}
 use lib.ListN.{length, getD, take}
 use Rattle.octets.proofs.Strings.{take-over}
 use Rattle.header.specs.declared.nwk.NwkHeader.{NwkHeader}
 use Rattle.octets.specs.declared.Written.{Written}
 use Rattle.header.specs.Reading.{readHeader}
+use Rattle.header.specs.Writing.{fieldRefusal}
 use Rattle.octets.specs.Writing as writing
-use Rattle.octets.specs.Writing.{wrote}
-use Rattle.octets.proofs.Conditions.{accepted, unless-either}
+use Rattle.octets.specs.Writing.{wrote, written}
+use Rattle.octets.specs.Refusals.{unless, Condition, on, by, firstOf}
+use Rattle.octets.proofs.Conditions.{unless-either, none}
 use Rattle.octets.proofs.Writing.{write-accepted, written-number, written-within}
 use Rattle.header.proofs.ReadBack.{same-cleared}
 use Rattle.ccm.specs.Operations.{micLength}
-use Rattle.frame.specs.declared.{OptionAuxHeader.OptionAuxHeader, FrameRead.FrameRead, FrameOpened.FrameOpened}
+use Rattle.frame.specs.declared.{OptionAuxHeader.OptionAuxHeader, FrameRead.FrameRead, Mark.Mark, FrameOpened.FrameOpened}
 use Rattle.frame.specs.Reading.{readFrame}
 use Rattle.frame.specs.Security.{networkLevel, orBlank}
 use Rattle.frame.specs.Sealing.{sealRefusal, sealedBytes, sealFrame}
 use Rattle.frame.specs.Opening as opening
-use Rattle.frame.specs.Opening.{verified, openRefusal, openRefused, openGiven, openBy, openFrame}
+use Rattle.frame.specs.Opening.{verified, openRefusals, openRefusal, openRefused, sealedGiven, openBy, openFrame, payloadIn}
 use Rattle.frame.specs.SealingLaw.{FirstHalf, SecondHalf, sealThenOpen, openThenSeal, Resealed, bytesWritten, payloadGiven}
-use Rattle.frame.proofs.Accepted.{Sealable, sealable, seal-accepts, Openable, openable, open-accepts, open-number}
+use Rattle.frame.proofs.Accepted.{Sealable, sealable, seal-accepts, given-either, Openable, sealed-run, marked-sealed}
+use Rattle.frame.proofs.ClearFrames.{clear-facts}
 use Rattle.frame.proofs.FirstHalf.{sealed-length, reopened}
-use Rattle.frame.proofs.SecondHalf.{payload-length, SecuredFacts, secured-facts, wholeRead, sealable-again, frame-again}
+use Rattle.frame.proofs.SecondHalf.{SecuredFacts, secured-facts, wholeRead, sealable-again, frame-again}
 
 seal-number : (key : List ℕ) (h : NwkHeader) (a : OptionAuxHeader) (p o : List ℕ)
     → sealFrame key h a p o .answer .refusal ≡ sealRefusal micLength h a p (length o)
@@ -59,23 +63,24 @@ first-half key h (OptionAuxHeader.Present x) p out out₂ fits afits accepted se
     ∙ reopened networkLevel micLength key h x p fits afits (s .good) sec agrees aagrees (s .whole) out₂ (s .ieee) room in
     record {
       accepted = ap (λ (r : opening.Run). r .answer .refusal) run;
+      marked = ap (λ (r : opening.Run). r .answer .mark) run;
       header = rw run (same-cleared h (s .good));
       auxiliary = ap (λ (r : opening.Run). r .answer .aux) run;
       length = ap (λ (r : opening.Run). r .answer .length) run;
       payload = ap payloadGiven run ∙ take-over out₂ p;
     }
 
-opened-accepted : (key f o : List ℕ) → openFrame key f o .answer .refusal ≡ 0 → Openable networkLevel micLength key f (readFrame f) (length o)
+opened-sealed : (key f o : List ℕ) → openFrame key f o .answer .mark ≡ Mark.Sealed → Openable networkLevel micLength key f (readFrame f) (length o)
 unfolding openFrame
-opened-accepted key f o e = openable networkLevel micLength key f (readFrame f) (length o) (sym (open-number networkLevel micLength key f (readFrame f) o) ∙ e)
+opened-sealed key f o m = marked-sealed networkLevel micLength key f (readFrame f) o m
 
--- what an accepted opening gives, by the parts of the frame
+-- what opening gives of a sealed frame, by the parts of the frame
 opened-run : (key f o : List ℕ) → Openable networkLevel micLength key f (readFrame f) (length o) → SecuredFacts f
-    → openFrame key f o ≡ openGiven (wholeRead f) (verified networkLevel micLength key f (wholeRead f)) o
-unfolding openFrame openBy
+    → openFrame key f o ≡ sealedGiven (wholeRead f) (verified networkLevel micLength key f (wholeRead f)) o
+unfolding openFrame
 opened-run key f o w s =
-    accepted (openRefusal networkLevel micLength key f (readFrame f) (length o)) _ _ (open-accepts networkLevel micLength key f (readFrame f) (length o) w)
-    ∙ ap (λ (r : FrameRead). openGiven r (verified networkLevel micLength key f r) o) (s .read)
+    sealed-run networkLevel micLength key f (readFrame f) o w
+    ∙ ap (λ (r : FrameRead). sealedGiven r (verified networkLevel micLength key f r) o) (s .read)
 
 -- sealing afresh what an accepted opening gave
 resealed : (key f out₂ : List ℕ) (h : NwkHeader) (a : OptionAuxHeader) (p : List ℕ) → length out₂ ≡ 118 → Sealable micLength h a p 118
@@ -89,9 +94,9 @@ resealed key f out₂ h a p size able same =
     }
 
 pub second-half : SecondHalf
-second-half key f out out₂ bytes accepted control size =
-    let w = opened-accepted key f out accepted in
-    let s = secured-facts f (w .read) (w .present) in
+second-half key f out out₂ bytes accepted marked control size =
+    let w = opened-sealed key f out marked in
+    let s = secured-facts f (w .read) (w .sealed) in
     let run = opened-run key f out w s in
     let v = verified networkLevel micLength key f (wholeRead f) in
     let o : Openable networkLevel micLength key f (wholeRead f) (length out) = rw (s .read) at w in
@@ -109,16 +114,40 @@ pub seal-then-open-run : (key : List ℕ) (h : NwkHeader) (a : OptionAuxHeader) 
 seal-then-open-run key h a p out out₂ w frame r o ew ef er eo =
     (λ i. record { answer = er i; out = eo i }) ∙ (λ i. openFrame key (take (ew i .length) (ef i)) out₂)
 
-pub open-then-seal-run : (key f out out₂ : List ℕ) (d : FrameOpened) (o : List ℕ) (w : Written) (b : List ℕ)
-    → d ≡ openFrame key f out .answer → o ≡ openFrame key f out .out
-    → w ≡ sealFrame key (d .header) (d .aux) (take (d .length) o) out₂ .answer → b ≡ sealFrame key (d .header) (d .aux) (take (d .length) o) out₂ .out
-    → _≡_ {A = writing.Run} (record { answer = w; out = b }) (openThenSeal key f out out₂)
-open-then-seal-run key f out out₂ d o w b ed eo ew eb =
-    (λ i. record { answer = ew i; out = eb i }) ∙ (λ i. sealFrame key (ed i .header) (ed i .aux) (take (ed i .length) (eo i)) out₂)
+-- reading's number goes before every other of opening's
+read-first : (key f o : List ℕ) → openRefusal networkLevel micLength key f (readFrame f) (length o) ≡ 0 → readFrame f .refusal ≡ 0
+unfolding openRefusal openRefusals
+read-first key f o e = none _ (none _ e .0) .0
 
--- the length that opening gives is within the output
-pub open-within : (key f o : List ℕ) → openFrame key f o .answer .length ≤ length o
+-- without an auxiliary header sealing is refused, whatever the payload
+refused-alike : (n : ℕ) (cs ds : List Condition) (bs bs′ o : List ℕ)
+    → written (firstOf (by n ∷ on 14 true ∷ cs)) bs o ≡ written (firstOf (by n ∷ on 14 true ∷ ds)) bs′ o
+unfolding written firstOf unless
+refused-alike zero cs ds bs bs′ o = refl
+refused-alike (suc n) cs ds bs bs′ o = refl
+
+unsealable : (key : List ℕ) (h : NwkHeader) (p p′ o : List ℕ) → sealFrame key h OptionAuxHeader.Absent p o ≡ sealFrame key h OptionAuxHeader.Absent p′ o
+unfolding sealFrame sealRefusal
+unsealable key h p p′ o = refused-alike (fieldRefusal h) _ _ _ _ o
+
+-- so sealing the payload of an answer is sealing the front of the output: of a clear frame both are refused alike
+pub sealed-alike : (key f out out₂ : List ℕ)
+    → sealFrame key (openFrame key f out .answer .header) (openFrame key f out .answer .aux) (payloadIn (openFrame key f out .answer) f (openFrame key f out .out)) out₂
+    ≡ openThenSeal key f out out₂
 unfolding openFrame openBy openRefused
-open-within key f o =
-    unless-either (λ (r : opening.Run). r .answer .length ≤ length o) (openRefusal networkLevel micLength key f (readFrame f) (length o)) _ _
-    (λ e. rw (payload-length networkLevel micLength key f (readFrame f)) (openable networkLevel micLength key f (readFrame f) (length o) e .fits)) (omega arith)
+sealed-alike key f out out₂ =
+    let again : opening.Run → List ℕ → writing.Run = λ r p. sealFrame key (r .answer .header) (r .answer .aux) p out₂ in
+    unless-either (λ (r : opening.Run). again r (payloadIn (r .answer) f (r .out)) ≡ again r (payloadGiven r)) (openRefusal networkLevel micLength key f (readFrame f) (length out)) _ _
+    (λ e. given-either (λ (r : opening.Run). again r (payloadIn (r .answer) f (r .out)) ≡ again r (payloadGiven r)) f (readFrame f) (verified networkLevel micLength key f (readFrame f)) out (λ s. refl)
+    (λ off.
+    let absent = ap (λ (r : FrameRead). r .aux) (clear-facts f (read-first key f out e) off .read) in
+    rw absent (unsealable key (readFrame f .header) _ _ out₂)))
+    refl
+
+pub open-then-seal-run : (key f out out₂ : List ℕ) (d : FrameOpened) (o p : List ℕ) (w : Written) (b : List ℕ)
+    → d ≡ openFrame key f out .answer → o ≡ openFrame key f out .out → p ≡ payloadIn d f o
+    → w ≡ sealFrame key (d .header) (d .aux) p out₂ .answer → b ≡ sealFrame key (d .header) (d .aux) p out₂ .out
+    → _≡_ {A = writing.Run} (record { answer = w; out = b }) (openThenSeal key f out out₂)
+open-then-seal-run key f out out₂ d o p w b ed eo ep ew eb =
+    (λ i. record { answer = ew i; out = eb i }) ∙ ap (λ (q : List ℕ). sealFrame key (d .header) (d .aux) q out₂) ep
+    ∙ (λ i. sealFrame key (ed i .header) (ed i .aux) (payloadIn (ed i) f (eo i)) out₂) ∙ sealed-alike key f out out₂

@@ -2,7 +2,7 @@
 -- it opened to the ciphertext and MIC that follow them, and the two parts are the whole frame. For every level and tag length.
 -- Assumes nothing.
 use mathlib.Core.Path.{_≡_, refl, sym, ap, _∙_}
-use mathlib.Core.Bool.{Bool, true, false, cond}
+use mathlib.Core.Bool.{Bool, true, cond}
 use mathlib.Core.List.{List, _++_}
 use Prim.Native.Nat.{ℕ, _+_, _-_, _%_, _≤_, _<_}
 use native.Mathlib.Nat.{add-zero}
@@ -21,10 +21,10 @@ use Rattle.header.proofs.ReadFacts.{HeaderFacts, header-facts, AuxFacts, aux-fa
 use Rattle.header.proofs.AuxiliaryLaws.{aux-length}
 use Rattle.ccm.proofs.Opening.{length-payload, sealed-opened}
 use Rattle.frame.specs.declared.{OptionAuxHeader.OptionAuxHeader, FrameRead.FrameRead}
-use Rattle.frame.specs.Reading.{secured, auxIf, auxBehind, frameRefusal, frameRefused, frameGiven, frameNumber, frameBy, readFrame}
-use Rattle.frame.specs.Security.{sentLevel, atLevel, isAbsent, orBlank, nonce, authenticated}
+use Rattle.frame.specs.Reading.{secured, auxBehind, frameRefusal, frameRefused, frameGiven, frameNumber, frameBy, readFrame}
+use Rattle.frame.specs.Security.{sentLevel, atLevel, orBlank, nonce, authenticated}
 use Rattle.frame.specs.Sealing.{generated, sealedBytes, sealedLength}
-use Rattle.frame.specs.Opening.{behind, ciphertextOf, micOf, verified}
+use Rattle.frame.specs.Opening.{isSealed, behind, ciphertextOf, micOf, verified}
 use Rattle.frame.proofs.Accepted.{Sealable, Openable, frame-refusal}
 use Rattle.frame.proofs.FirstHalf.{secured-frame}
 
@@ -45,26 +45,21 @@ pub record SecuredFacts (f : List ℕ) : Type 0 where
   pub aux : auxBehind f (readHeader f) .refusal ≡ 0
   pub read : readFrame f ≡ wholeRead f
 
-is-secured : (b : Bool) (a : NwkAuxHeader) → isAbsent (auxIf b a) ≡ false → b ≡ true
-is-secured true a e = refl
-is-secured false a e = absurd (mathlib.Core.Bool.true≢false e)
-
-accepted-parts : (f : List ℕ) (h : HeaderRead) (a : AuxRead) → frameNumber f h a ≡ 0 → isAbsent (frameGiven h a .aux) ≡ false
-    → (h .refusal ≡ 0) × (secured h ≡ true) × (a .refusal ≡ 0)
+accepted-parts : (f : List ℕ) (h : HeaderRead) (a : AuxRead) → frameNumber f h a ≡ 0 → secured h ≡ true → (h .refusal ≡ 0) × (a .refusal ≡ 0)
 unfolding frameNumber frameRefusal
-accepted-parts f h a e present =
+accepted-parts f h a e s =
     let n = none _ e in
-    let s = is-secured (secured h) (a .aux) present in
-    (n .0, s, sym (ap (λ (b : Bool). cond b (a .refusal) 0) s) ∙ n .1 .0)
+    (n .0, sym (ap (λ (b : Bool). cond b (a .refusal) 0) s) ∙ n .1 .0)
 
-pub secured-facts : (f : List ℕ) → readFrame f .refusal ≡ 0 → isAbsent (readFrame f .aux) ≡ false → SecuredFacts f
+pub secured-facts : (f : List ℕ) → readFrame f .refusal ≡ 0 → isSealed (readFrame f .header) ≡ true → SecuredFacts f
 unfolding readFrame frameBy
-secured-facts f e present =
+secured-facts f e sealed =
     let h = readHeader f in
     let a = auxBehind f h in
     let z : frameNumber f h a ≡ 0 = sym (frame-refusal f h a) ∙ e in
-    let parts = accepted-parts f h a z (rw (accepted (frameNumber f h a) (frameGiven h a) (frameRefused (frameNumber f h a)) z) at present) in
-    record { header = parts .0; aux = parts .2; read = secured-frame f h a (parts .1) (parts .0) (parts .2) }
+    let s : secured h ≡ true = rw (accepted (frameNumber f h a) (frameGiven h a) (frameRefused (frameNumber f h a)) z) at sealed in
+    let parts = accepted-parts f h a z s in
+    record { header = parts .0; aux = parts .1; read = secured-frame f h a s (parts .0) (parts .1) }
 
 -- ---- sealing again
 

@@ -1,8 +1,9 @@
 -- Opening a frame (Zigbee Specification 4.3.1.2; `EncryptedNwkFrame::from_bytes` and `decrypt`). It goes by what reading the
--- frame answers.
+-- frame answers. A frame whose security bit is off is clear: its payload is a part of the frame, and the output stays
+-- (document 02, 3).
 -- Assumes nothing.
 use Prim.Native.Nat.{ℕ, _-_}
-use mathlib.Core.Bool.{not}
+use mathlib.Core.Bool.{Bool, cond, not, _&&_}
 use mathlib.Core.List.{List, [], _∷_}
 use lib.ListN.{length, take, drop}
 use lib.Dec.{ltb}
@@ -12,11 +13,19 @@ use Rattle.header.specs.declared.{auxiliary.NwkSecurityLevel.NwkSecurityLevel, 
 use Rattle.header.specs.Reading.{blankHeader}
 use Rattle.ccm.specs.Verification.{Verified}
 use Rattle.ccm.specs.Operations.{micLength, openedBy}
-use Rattle.frame.specs.declared.{OptionAuxHeader.OptionAuxHeader, FrameRead.FrameRead, FrameOpened.FrameOpened}
+use Rattle.frame.specs.declared.{OptionAuxHeader.OptionAuxHeader, FrameRead.FrameRead, Mark.Mark, FrameOpened.FrameOpened}
 use Rattle.frame.specs.Reading.{readFrame}
-use Rattle.frame.specs.Security.{networkLevel, isAbsent, orBlank, noIeee, nonce, authenticated}
+use Rattle.frame.specs.Security.{networkLevel, orBlank, noIeee, nonce, authenticated}
 
--- what is behind the two headers: the ciphertext, and its last t bytes, the MIC
+-- the security bit: set in the header of a sealed frame, off in that of a clear one
+abbrev pub isSealed : NwkHeader → Bool
+isSealed h = h .«frame_control» .security
+
+-- the last n bytes, or all if there are fewer
+abbrev pub lastOf : ℕ → List ℕ → List ℕ
+lastOf n s = drop (length s - n) s
+
+-- what is behind the two headers: a clear frame's payload, or the ciphertext and its last t bytes, the MIC
 unfoldable pub behind : List ℕ → FrameRead → List ℕ
 behind f r = drop (r .length) f
 
@@ -24,7 +33,7 @@ unfoldable pub ciphertextOf : ℕ → List ℕ → List ℕ
 ciphertextOf t s = take (length s - t) s
 
 unfoldable pub micOf : ℕ → List ℕ → List ℕ
-micOf t s = drop (length s - t) s
+micOf t s = lastOf t s
 
 -- what CCM makes of them
 unfoldable pub verified : NwkSecurityLevel → ℕ → List ℕ → List ℕ → FrameRead → Verified
@@ -32,39 +41,50 @@ verified l t key f r =
     openedBy t key (nonce l (r .header) (orBlank (r .aux))) (authenticated l (r .header) (orBlank (r .aux)))
     (ciphertextOf t (behind f r)) (micOf t (behind f r))
 
--- document 01's numbers 1 to 12 as reading gives them, then 14, 15, 16 and 18, for the bytes behind the headers
+-- document 01's numbers 1 to 12 as reading gives them; then, if the frame is sealed, 15, 16 and 18, for the bytes behind
+-- the headers
 unfoldable pub openRefusals : ℕ → ℕ → NwkHeader → OptionAuxHeader → ℕ → ℕ → List Condition
 openRefusals t number h a part room =
     by number
-    ∷ on 14 (isAbsent a)
-    ∷ on 15 (noIeee h (orBlank a))
-    ∷ on 16 (ltb part t)
-    ∷ on 18 (ltb room (part - t))
+    ∷ on 15 (isSealed h && noIeee h (orBlank a))
+    ∷ on 16 (isSealed h && ltb part t)
+    ∷ on 18 (isSealed h && ltb room (part - t))
     ∷ []
 
--- those, then 19
+-- those, then 19, if the frame is sealed
 unfoldable pub openRefusal : NwkSecurityLevel → ℕ → List ℕ → List ℕ → FrameRead → ℕ → ℕ
 openRefusal l t key f r room =
     firstOf (by (firstOf (openRefusals t (r .refusal) (r .header) (r .aux) (length (behind f r)) room))
-    ∷ on 19 (not (verified l t key f r .valid))
+    ∷ on 19 (isSealed (r .header) && not (verified l t key f r .valid))
     ∷ [])
 
--- the number alone
+-- the number alone: no mark stands beside a refusal
 unfoldable pub openRefused : ℕ → FrameOpened
-openRefused n = record { refusal = n; length = 0; header = blankHeader; aux = OptionAuxHeader.Absent }
+openRefused n = record { refusal = n; mark = Mark.Unmarked; length = 0; header = blankHeader; aux = OptionAuxHeader.Absent }
 
 -- what opening leaves: its answer, and the whole of the lent output
 pub record Run : Type 0 where
   pub answer : FrameOpened
   pub out : List ℕ
 
--- the two headers as read, and the payload at the front of the output
-abbrev pub openGiven : FrameRead → Verified → List ℕ → Run
-openGiven r v o =
+-- sealed: the two headers as read, and the payload at the front of the output
+abbrev pub sealedGiven : FrameRead → Verified → List ℕ → Run
+sealedGiven r v o =
     record {
-      answer = record { refusal = 0; length = length (v .payload); header = r .header; aux = r .aux };
+      answer = record { refusal = 0; mark = Mark.Sealed; length = length (v .payload); header = r .header; aux = r .aux };
       out = over o 0 (v .payload);
     }
+
+-- clear: the two headers as read, the length of the payload, which stays in the frame, and the output as it was
+abbrev pub clearGiven : List ℕ → FrameRead → List ℕ → Run
+clearGiven f r o =
+    record {
+      answer = record { refusal = 0; mark = Mark.Clear; length = length (behind f r); header = r .header; aux = r .aux };
+      out = o;
+    }
+
+abbrev pub openGiven : List ℕ → FrameRead → Verified → List ℕ → Run
+openGiven f r v o = cond (isSealed (r .header)) (sealedGiven r v o) (clearGiven f r o)
 
 -- refused by a number, nothing changed
 abbrev pub openNothing : ℕ → List ℕ → Run
@@ -72,7 +92,19 @@ openNothing n o = record { answer = openRefused n; out = o }
 
 unfoldable pub openBy : NwkSecurityLevel → ℕ → List ℕ → List ℕ → FrameRead → List ℕ → Run
 openBy l t key f r o =
-    unless (openRefusal l t key f r (length o)) (openGiven r (verified l t key f r) o) (openNothing (openRefusal l t key f r (length o)) o)
+    unless (openRefusal l t key f r (length o)) (openGiven f r (verified l t key f r) o) (openNothing (openRefusal l t key f r (length o)) o)
 
 unfoldable pub openFrame : List ℕ → List ℕ → List ℕ → Run
 openFrame key f o = openBy networkLevel micLength key f (readFrame f) o
+
+-- ---- the payload
+
+-- the payload that an answer speaks of: the last bytes of the frame f if clear, the first of the opened bytes o if sealed, as
+-- many as the length says; none beside a refusal
+abbrev pub payloadBy : Mark → ℕ → List ℕ → List ℕ → List ℕ
+payloadBy Mark.Unmarked n f o = []
+payloadBy Mark.Clear n f o = lastOf n f
+payloadBy Mark.Sealed n f o = take n o
+
+abbrev pub payloadIn : FrameOpened → List ℕ → List ℕ → List ℕ
+payloadIn a f o = payloadBy (a .mark) (a .length) f o

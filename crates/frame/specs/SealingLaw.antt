@@ -1,12 +1,12 @@
 -- The sealing law (document 01, demand 3 and e), as two statements.
 --
 -- First half. Whatever sealing accepts, if the security bit is set and each presence bit agrees with its field, opening
--- exactly the bytes written, under the same key, into any output at least as long as the payload, is accepted and gives the
--- same two headers, only the level now 0, and the same payload bytes, no more and no fewer.
+-- exactly the bytes written, under the same key, into any output at least as long as the payload, is accepted and marked
+-- sealed, and gives the same two headers, only the level now 0, and the same payload bytes, no more and no fewer.
 --
--- Second half. Whatever frame opening accepts, if its security control byte arrived with level and bit 7 zero, sealing
--- afresh the two headers and payload bytes it returned, under that key into 118 bytes, is accepted and writes exactly that
--- frame's bytes, no more and no fewer.
+-- Second half. Whatever frame opening accepts and marks sealed, if its security control byte arrived with level and bit 7 zero,
+-- sealing afresh the two headers and payload bytes it returned, under that key into 118 bytes, is accepted and writes exactly
+-- that frame's bytes, no more and no fewer.
 --
 -- `FirstHalf` and `SecondHalf` say this below; proofs/SealingLaw.antt has a value of each. The premises `HeaderFits`,
 -- `AuxFits` and `Below 256` only say what every value of a type has, that each number is within its type's range; the
@@ -22,13 +22,13 @@ use Rattle.header.specs.declared.nwk.NwkHeader.{NwkHeader}
 use Rattle.header.specs.Reading.{readHeader}
 use Rattle.header.specs.Same.{Agrees, AuxAgrees, SameHeader, HeaderFits, AuxFits}
 use Rattle.octets.specs.Writing as writing
-use Rattle.frame.specs.declared.OptionAuxHeader.{OptionAuxHeader}
+use Rattle.frame.specs.declared.{OptionAuxHeader.OptionAuxHeader, Mark.Mark}
 use Rattle.frame.specs.Security.{sentLevel, atLevel}
 use Rattle.frame.specs.Sealing.{sealFrame}
 use Rattle.frame.specs.Opening as opening
 use Rattle.frame.specs.Opening.{openFrame}
 
--- the bytes written, and the payload given: the output's first n bytes, n being the length given
+-- the bytes written, and the payload that opening a sealed frame gave: the output's first n bytes, n being the length given
 abbrev pub bytesWritten : writing.Run → List ℕ
 bytesWritten r = take (r .answer .length) (r .out)
 
@@ -58,6 +58,7 @@ sealThenOpen key h a p out out₂ = openFrame key (bytesWritten (sealFrame key h
 -- what opening r gives, of a frame sealed from the headers h and a and the payload p
 pub record Reopened (h : NwkHeader) (a : OptionAuxHeader) (p : List ℕ) (r : opening.Run) : Type 0 where
   pub accepted : r .answer .refusal ≡ 0
+  pub marked : r .answer .mark ≡ Mark.Sealed
   pub header : SameHeader h (r .answer .header)
   pub auxiliary : r .answer .aux ≡ levelZero a
   pub length : r .answer .length ≡ length p
@@ -96,6 +97,7 @@ SecondHalf =
     (key f out out₂ : List ℕ)
     → Below 256 f
     → openFrame key f out .answer .refusal ≡ 0
+    → openFrame key f out .answer .mark ≡ Mark.Sealed
     → PlainControl f
     → length out₂ ≡ 118
     → Resealed f (openThenSeal key f out out₂)

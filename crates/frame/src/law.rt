@@ -13,6 +13,7 @@ ghost use mathlib.Core.Bool.{true};
 ghost use Prim.Native.Nat.{_≤_};
 ghost use lib.ListN.{length};
 ghost use Rattle.header.specs.Same.{Agrees};
+ghost use Rattle.frame.specs.declared.Mark.{Mark};
 ghost use Rattle.frame.specs.Sealing.{sealFrame};
 ghost use Rattle.frame.specs.Opening.{openFrame};
 ghost use Rattle.frame.specs.SealingLaw.{AuxOptionAgrees, sealThenOpen, Reopened, PlainControl, openThenSeal, Resealed};
@@ -39,18 +40,18 @@ pub fn seal_then_open(
     opening::open(key, &frame[..n], out)
 }
 
-// Open a frame and seal afresh what it gave. Where opening accepts a frame whose security control byte has level and bit 7
-// zero, and 118 bytes are lent, exactly the frame's bytes are written again.
+// Open a frame and seal afresh what it gave. Where opening accepts a sealed frame whose security control byte has level and
+// bit 7 zero, and 118 bytes are lent, exactly the frame's bytes are written again; of a clear frame sealing is refused by 14.
 pub fn open_then_seal(key: Key, frame: &[u8], out: &mut [u8], again: &mut [u8]) -> Written
     ensures answer { λ r. ⌜ r ≡ openThenSeal (key .0) (now (frame .entry)) (now (out .entry)) (now (again .entry)) .answer ⌝ }
     ensures out { λ _. ⌜ now (out .exit) ≡ openFrame (key .0) (now (frame .entry)) (now (out .entry)) .out ⌝ }
     ensures again { λ _. ⌜ now (again .exit) ≡ openThenSeal (key .0) (now (frame .entry)) (now (out .entry)) (now (again .entry)) .out ⌝ }
-    ensures law { λ r. ⌜ (openFrame (key .0) (now (frame .entry)) (now (out .entry)) .answer .refusal ≡ 0 → PlainControl (now (frame .entry)) → length (now (again .entry)) ≡ 118 → Resealed (now (frame .entry)) (record { answer = r; out = now (again .exit) })) ⌝ }
+    ensures law { λ r. ⌜ (openFrame (key .0) (now (frame .entry)) (now (out .entry)) .answer .refusal ≡ 0 → openFrame (key .0) (now (frame .entry)) (now (out .entry)) .answer .mark ≡ Mark.Sealed → PlainControl (now (frame .entry)) → length (now (again .entry)) ≡ 118 → Resealed (now (frame .entry)) (record { answer = r; out = now (again .exit) })) ⌝ }
 {
     ranges::bytes_fit(frame);
     let opened = opening::open(key, frame, out);
     let header = opened.header;
     let aux = opened.aux;
-    let n = opened.length;
-    sealing::seal(key, header, aux, &out[..n], again)
+    let payload = opening::payload(opened, frame, out);
+    sealing::seal(key, header, aux, payload, again)
 }

@@ -42,10 +42,19 @@ pub struct FrameRead {
     pub aux: OptionAuxHeader,
 }
 
-// What opening a frame answers: a refusal's number with length 0 and blank headers, or 0, the two headers as read and how
-// many bytes of the output are the payload.
+// What opening says of a payload: nothing beside a refusal; that the frame was clear, so that nobody vouches for its payload;
+// or that it was sealed, so that CCM does.
+pub enum Mark {
+    Unmarked,
+    Clear,
+    Sealed,
+}
+
+// What opening a frame answers: a refusal's number with no mark, length 0 and blank headers, or 0, the mark, the payload's
+// length and the two headers as read. `opening::payload` gives the payload.
 pub struct FrameOpened {
     pub refusal: u8,
+    pub mark: Mark,
     pub length: usize,
     pub header: NwkHeader,
     pub aux: OptionAuxHeader,

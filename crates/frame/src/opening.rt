@@ -1,5 +1,6 @@
 // Opening a frame (Zigbee Specification 4.3.1.2).
 use crate::FrameOpened;
+use crate::Mark;
 use crate::OptionAuxHeader;
 use crate::behind;
 use crate::read_frame;
@@ -13,13 +14,13 @@ ghost use mathlib.Core.Path.{_≡_};
 ghost use mathlib.Core.Bool.{false};
 ghost use mathlib.Core.List.{List};
 ghost use Prim.Native.Nat.{ℕ, _+_, _-_, _≤_, _<_};
-ghost use lib.ListN.{length};
+ghost use lib.ListN.{length, take};
 ghost use Rattle.octets.specs.Refusals.{firstOf};
 ghost use Rattle.header.specs.Auxiliary.{auxBytes};
 ghost use Rattle.header.specs.Writing.{badHeader, headerBytes};
 ghost use Rattle.ccm.specs.Operations.{micLength, openedBy, Under, givenIf};
 ghost use Rattle.frame.specs.Security.{networkLevel, nonce, authenticated};
-ghost use Rattle.frame.specs.Opening.{ciphertextOf, micOf, openRefusals, openRefused, openFrame};
+ghost use Rattle.frame.specs.Opening.{ciphertextOf, micOf, lastOf, openRefusals, openRefused, openFrame, payloadIn};
 
 impl FrameOpened {
     // The answer of a refusal: its number alone.
@@ -28,6 +29,7 @@ impl FrameOpened {
     {
         FrameOpened {
             refusal,
+            mark: Mark::Unmarked,
             length: 0,
             header: NwkHeader::blank(),
             aux: OptionAuxHeader::Absent,
@@ -35,16 +37,16 @@ impl FrameOpened {
     }
 }
 
-// The first of the refusals that need no key and hold, or 0: reading's number, then 14, 15, 16 and 18, for the bytes
-// behind the headers and the output's room.
+// The first of the refusals that need no key and hold, or 0: reading's number; then, if the security bit is set, 15, 16 and
+// 18, for the bytes behind the headers and the output's room.
 pub fn open_refusal(number: u8, h: NwkHeader, aux: OptionAuxHeader, part: usize, room: usize) -> u8
     ensures { λ r. ⌜ r ≡ firstOf (openRefusals micLength number h aux part room) ⌝ }
 {
     if number != 0 {
         return number;
     }
-    if aux.is_absent() {
-        return refusals::NO_AUXILIARY;
+    if !h.frame_control.security {
+        return 0;
     }
     let present = aux.or_blank();
     if security::no_ieee(h, present) {
@@ -108,10 +110,20 @@ pub fn open_under(keys: &[[[u8; 4]; 4]; 11], frame: &[u8], out: &mut [u8]) -> Fr
     if refusal != 0 {
         return FrameOpened::refused(refusal);
     }
+    if !header.frame_control.security {
+        return FrameOpened {
+            refusal: 0,
+            mark: Mark::Clear,
+            length: part.len(),
+            header,
+            aux,
+        };
+    }
     let present = aux.or_blank();
     if open_frame(keys, header, present, part, out) {
         return FrameOpened {
             refusal: 0,
+            mark: Mark::Sealed,
             length: part.len() - ccm::MIC_LENGTH,
             header,
             aux,
@@ -120,8 +132,8 @@ pub fn open_under(keys: &[[[u8; 4]; 4]; 11], frame: &[u8], out: &mut [u8]) -> Fr
     FrameOpened::refused(refusals::WRONG_MIC)
 }
 
-// Open a frame (`EncryptedNwkFrame::from_bytes` and `decrypt`); refusals 1 to 12, 14, 15, 16, 18 and 19, which change
-// nothing: no plaintext is left after 19.
+// Open a frame (`EncryptedNwkFrame::from_bytes` and `decrypt`). One whose security bit is off is clear, and the output is not
+// touched. Refusals 1 to 12, and of a sealed frame 15, 16, 18 and 19, which change nothing: no plaintext is left after 19.
 pub fn open(key: Key, frame: &[u8], out: &mut [u8]) -> FrameOpened
     ensures answer { λ r. ⌜ r ≡ openFrame (key .0) (now (frame .entry)) (now (out .entry)) .answer ⌝ }
     ensures buffer { λ _. ⌜ now (out .exit) ≡ openFrame (key .0) (now (frame .entry)) (now (out .entry)) .out ⌝ }
@@ -129,4 +141,42 @@ pub fn open(key: Key, frame: &[u8], out: &mut [u8]) -> FrameOpened
     let bytes = key.0;
     let keys = ccm::expand(bytes);
     open_under(&keys, frame, out)
+}
+
+// ---- the payload
+
+// The last n bytes, or all if there are fewer.
+fn last<'a>(bytes: &'a [u8], n: usize) -> &'a [u8]
+    ensures { λ r. ⌜ now r ≡ lastOf n (now (bytes .entry)) ⌝ }
+{
+    let end = bytes.len();
+    if n < end {
+        return &bytes[end - n..];
+    }
+    &bytes[..end]
+}
+
+// The first n bytes, or all if there are fewer.
+fn first<'a>(bytes: &'a [u8], n: usize) -> &'a [u8]
+    ensures { λ r. ⌜ now r ≡ take n (now (bytes .entry)) ⌝ }
+{
+    let end = bytes.len();
+    if n < end {
+        return &bytes[..n];
+    }
+    &bytes[..end]
+}
+
+// The payload that an answer of opening speaks of: the last bytes of the frame if it was clear, the first of the opened bytes if
+// it was sealed, as many as the length says; none beside a refusal.
+pub fn payload<'a>(answer: FrameOpened, frame: &'a [u8], opened: &'a [u8]) -> &'a [u8]
+    ensures { λ r. ⌜ now r ≡ payloadIn answer (now (frame .entry)) (now (opened .entry)) ⌝ }
+{
+    let mark = answer.mark;
+    let n = answer.length;
+    match mark {
+        Mark::Unmarked => first(opened, 0),
+        Mark::Clear => last(frame, n),
+        Mark::Sealed => first(opened, n),
+    }
 }

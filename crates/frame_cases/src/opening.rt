@@ -1,8 +1,10 @@
 // The cases of opening.
-//   open KEY FRAME ROOM REFUSAL PAYLOAD HEADERS
+//   open KEY FRAME ROOM REFUSAL MARK PAYLOAD HEADERS
 //   split BYTES REFUSAL LENGTH MIC
-// PAYLOAD is what the output's front must be; the rest, and after a refusal the whole, must stay. HEADERS is what the two
-// headers that come back are written as, the level as received. LENGTH is how many bytes stand before the MIC.
+// MARK is clear, sealed, or "-" beside a refusal. PAYLOAD is the payload handed back. Of a sealed frame it is what the output's
+// front must be, the rest must stay; of a clear frame, whose last bytes it is, and after a refusal, the whole output must stay.
+// HEADERS is what the headers that come back are written as, the level as received; of a clear frame the header alone. LENGTH
+// is how many bytes stand before the MIC.
 use casefile::fields::field;
 use casefile::fields::whole;
 use casefile::file;
@@ -11,21 +13,64 @@ use casefile::lines::shown;
 use casefile::outputs;
 use casefile::outputs::FILLER;
 use casefile::words;
-use header::auxiliary::NwkAuxHeader;
+use frame::FrameOpened;
+use frame::Mark;
+use frame::OptionAuxHeader;
 use header::nwk::NwkHeader;
 use types::Key;
 
-// Whether the two headers are written as expected.
-fn written_as(h: NwkHeader, aux: NwkAuxHeader, expected: &[u8], out: &mut [u8]) -> bool {
-    let first = h.serialize(out);
-    let k = file::within(first.length, out);
-    let second = aux.serialize(&mut out[k..]);
-    first.refusal == 0 && second.refusal == 0 && outputs::holds(out, expected)
+// Whether word k of a line says a mark.
+fn is_mark(line: &[u8], k: usize) -> bool {
+    words::is(line, k, b"-") || words::is(line, k, b"clear") || words::is(line, k, b"sealed")
 }
 
-// Whether opening to an output of the room given leaves the number, the payload and the headers; beside a refusal there are
-// none.
+// Whether word k of a line says this mark.
+fn says(line: &[u8], k: usize, mark: Mark) -> bool {
+    match mark {
+        Mark::Unmarked => words::is(line, k, b"-"),
+        Mark::Clear => words::is(line, k, b"clear"),
+        Mark::Sealed => words::is(line, k, b"sealed"),
+    }
+}
+
+// Whether the output holds what opening leaves there beside this mark: the payload of a sealed frame, else nothing.
+fn leaves(mark: Mark, payload: &[u8], out: &[u8]) -> bool {
+    match mark {
+        Mark::Unmarked => outputs::untouched(out),
+        Mark::Clear => outputs::untouched(out),
+        Mark::Sealed => outputs::holds(out, payload),
+    }
+}
+
+// Whether the header, and the auxiliary header if there is one, are written as expected.
+fn written_as(h: NwkHeader, aux: OptionAuxHeader, expected: &[u8], out: &mut [u8]) -> bool {
+    let first = h.serialize(out);
+    if first.refusal != 0 {
+        return false;
+    }
+    if aux.is_absent() {
+        return outputs::holds(out, expected);
+    }
+    let present = aux.or_blank();
+    let k = file::within(first.length, out);
+    let second = present.serialize(&mut out[k..]);
+    second.refusal == 0 && outputs::holds(out, expected)
+}
+
+// Whether the headers of an answer are written as expected; beside a refusal there are none.
+fn has_headers(o: FrameOpened, headers: &[u8]) -> bool {
+    if o.refusal != 0 {
+        return headers.len() == 0;
+    }
+    let header = o.header;
+    let aux = o.aux;
+    let mut written = [FILLER; 128];
+    written_as(header, aux, headers, &mut written)
+}
+
+// Whether opening to an output of the room given leaves the number, the mark that the line says, the payload and the headers.
 fn opens(
+    line: &[u8],
     key: [u8; 16],
     bytes: &[u8],
     room: usize,
@@ -42,16 +87,17 @@ fn opens(
     if o.length != payload.len() {
         return false;
     }
-    if !outputs::holds(out, payload) {
+    let mark = o.mark;
+    if !says(line, 5, mark) {
         return false;
     }
-    if refusal != 0 {
-        return headers.len() == 0;
+    if !leaves(mark, payload, out) {
+        return false;
     }
-    let h = o.header;
-    let aux = o.aux;
-    let mut written = [FILLER; 128];
-    written_as(h, aux.or_blank(), headers, &mut written)
+    if !check::same(frame::opening::payload(o, bytes, out), payload) {
+        return false;
+    }
+    has_headers(o, headers)
 }
 
 // A case of opening, its key and its frame given.
@@ -61,14 +107,20 @@ fn check_opened(line: &[u8], key: [u8; 16], bytes: &[u8]) -> Line {
     let mut out = [FILLER; 128];
     let room = words::number(line, 3);
     let refusal = words::number(line, 4);
-    let p = field(line, 5, &mut payload);
-    let h = field(line, 6, &mut headers);
+    let p = field(line, 6, &mut payload);
+    let h = field(line, 7, &mut headers);
     let n = p.n;
     let m = h.n;
-    let good = words::is_last(line, 6) && room <= 128 && refusal < 1000 && p.good && h.good;
+    let good = words::is_last(line, 7)
+        && room <= 128
+        && refusal < 1000
+        && is_mark(line, 5)
+        && p.good
+        && h.good;
     shown(
         good,
         opens(
+            line,
             key,
             bytes,
             room,

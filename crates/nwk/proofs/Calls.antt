@@ -11,7 +11,8 @@ use Rattle.octets.specs.Strings.{over}
 use Rattle.octets.specs.Refusals.{unless}
 use Rattle.octets.specs.Writing.{written}
 use Rattle.octets.proofs.Conditions as conditions
-use Rattle.nwk.specs.Answer.{answer, answerBy, given}
+use Rattle.frame.specs.declared.Mark.{Mark}
+use Rattle.nwk.specs.Answer.{answer, clearBit, openedAnswer, answerBy, given}
 
 -- ---- reading the answer
 
@@ -27,20 +28,34 @@ pub answer-bits : (refusal n : ℕ) → refusal < 2 ^ 8 → answer refusal n < 2
 unfolding answer
 answer-bits refusal n h = omega arith
 
+-- of an opened frame: the length, no refusal, and bit 40, set exactly if it was clear
+pub opened-length : (m : Mark) (n : ℕ) → n < 2 ^ 32 → openedAnswer m n % 2 ^ 32 ≡ n
+unfolding openedAnswer
+opened-length m n h = omega arith
+
+pub opened-refusal : (m : Mark) (n : ℕ) → openedAnswer m n / 2 ^ 32 % 2 ^ 8 ≡ 0
+unfolding openedAnswer
+opened-refusal m n = omega arith
+
+pub opened-clear-bit : (m : Mark) (n : ℕ) → openedAnswer m n / 2 ^ 40 ≡ clearBit m
+unfolding openedAnswer
+opened-clear-bit m n = omega arith
+
 -- ---- refused by the number k: the answer, and each buffer as it was
 
-pub refused-answer : (n k len r : ℕ) → k ≡ n → (k ≡ 0 → ⊥) → r ≡ answer k 0 → r ≡ answerBy n len
-refused-answer n k len r e h p = p ∙ conditions.refused-by n k (answer 0 len) (λ (m : ℕ). answer m 0) e h
+-- whatever number a is answered where nothing is refused
+pub refused-answer : (n k a r : ℕ) → k ≡ n → (k ≡ 0 → ⊥) → r ≡ answer k 0 → r ≡ unless n a (answer n 0)
+refused-answer n k a r e h p = p ∙ conditions.refused-by n k a (λ (m : ℕ). answer m 0) e h
 
 pub refused-buffer : (n k : ℕ) (bs o : List ℕ) → k ≡ n → (k ≡ 0 → ⊥) → o ≡ given n bs o
 refused-buffer n k bs o e h = conditions.refused-by n k (over o 0 bs) (λ (m : ℕ). o) e h
 
 pub refused-by : (n k len r : ℕ) (bs o : List ℕ) → k ≡ n → (k ≡ 0 → ⊥) → r ≡ answer k 0 → (r ≡ answerBy n len) × (o ≡ given n bs o)
-refused-by n k len r bs o e h p = (refused-answer n k len r e h p, refused-buffer n k bs o e h)
+refused-by n k len r bs o e h p = (refused-answer n k (answer 0 len) r e h p, refused-buffer n k bs o e h)
 
 pub refused-both : (n k len r : ℕ) (bs bs′ o o′ : List ℕ) → k ≡ n → (k ≡ 0 → ⊥) → r ≡ answer k 0
     → (r ≡ answerBy n len) × ((o ≡ given n bs o) × (o′ ≡ given n bs′ o′))
-refused-both n k len r bs bs′ o o′ e h p = (refused-answer n k len r e h p, (refused-buffer n k bs o e h, refused-buffer n k bs′ o′ e h))
+refused-both n k len r bs bs′ o o′ e h p = (refused-answer n k (answer 0 len) r e h p, (refused-buffer n k bs o e h, refused-buffer n k bs′ o′ e h))
 
 -- ---- passed: the length, and the bytes at the front
 

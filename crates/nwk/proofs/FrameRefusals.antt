@@ -9,14 +9,14 @@ use borrow.Author.Tests.{lt-ltb, le-ltb}
 use lib.Dec.{ltb}
 use lib.ListN.{length}
 use Rattle.octets.specs.Refusals.{by, firstOf}
-use Rattle.octets.proofs.Conditions.{accepted, refused, stop, skip, stop-by, skip-by, empty}
+use Rattle.octets.proofs.Conditions.{refused, stop, skip, stop-by, skip-by, empty}
 use Rattle.ccm.specs.Operations.{micLength}
 use Rattle.frame.specs.declared.FrameOpened.{FrameOpened}
 use Rattle.frame.specs.Reading.{readFrame}
 use Rattle.frame.specs.Security.{networkLevel}
-use Rattle.frame.specs.Opening.{Run, openRefusal, openGiven, openBy, openFrame}
+use Rattle.frame.specs.Opening.{Run, openRefusal, openBy, openFrame}
 use Rattle.frame.proofs.Accepted as frames
-use Rattle.nwk.specs.Frames.{readFrameRefusal, openNumber, verifiedFrame, openRecordRefusal}
+use Rattle.nwk.specs.Frames.{readFrameRefusal, openNumber, wrongMic, openRecordRefusal}
 
 -- ---- reading
 
@@ -53,7 +53,7 @@ module _ (key f : List ℕ) (x room : ℕ) where
 
 -- with room for the record the number is opening's own
 pub open-number : (key f o : List ℕ) (x : ℕ) → 182 ≤ x → openRecordRefusal key f x (length o) ≡ openRefusal networkLevel micLength key f (readFrame f) (length o)
-unfolding openRecordRefusal openRefusal openNumber verifiedFrame
+unfolding openRecordRefusal openRefusal openNumber wrongMic
 open-number key f o x l =
     elim (ℕ-discrete (openNumber f (length o)) 0) [
       | yes z ↦ skip-by (openNumber f (length o)) _ z ∙ skip 18 (ltb x 182) _ (le-ltb x 182 l) ∙ sym (skip-by (openNumber f (length o)) _ z)
@@ -65,12 +65,7 @@ pub opened-number : (key f o : List ℕ) (r : FrameOpened) → r ≡ openFrame k
 unfolding openFrame
 opened-number key f o r e = (λ i. e i .refusal) ∙ frames.open-number networkLevel micLength key f (readFrame f) o
 
--- what opening gives past its refusals, and that a refusal leaves the output
-pub open-gives : (key f o : List ℕ) → openRefusal networkLevel micLength key f (readFrame f) (length o) ≡ 0
-    → openFrame key f o ≡ openGiven (readFrame f) (verifiedFrame key f) o
-unfolding openFrame openBy verifiedFrame
-open-gives key f o e = accepted (openRefusal networkLevel micLength key f (readFrame f) (length o)) _ _ e
-
+-- a refusal leaves the output
 pub open-leaves : (key f o : List ℕ) → (openRefusal networkLevel micLength key f (readFrame f) (length o) ≡ 0 → ⊥) → openFrame key f o .out ≡ o
 unfolding openFrame openBy
 open-leaves key f o h = ap (λ (r : Run). r .out) (refused (openRefusal networkLevel micLength key f (readFrame f) (length o)) _ _ h)

@@ -5,10 +5,20 @@ use Prim.Native.Nat.{ℕ, _+_, _*_, _%_, _^_}
 use mathlib.Core.List.{List}
 use Rattle.octets.specs.Strings.{over}
 use Rattle.octets.specs.Refusals.{unless}
+use Rattle.frame.specs.declared.Mark.{Mark}
 
 -- the length in bits 0 to 31, the refusal number in bits 32 to 39, the other bits 0
 unfoldable pub answer : ℕ → ℕ → ℕ
 answer refusal length = length % 2 ^ 32 + refusal * 2 ^ 32
+
+-- the answer of an opened frame, whose payload has n bytes: bit 40 is set if the frame was clear
+abbrev pub clearBit : Mark → ℕ
+clearBit Mark.Unmarked = 0
+clearBit Mark.Clear = 1
+clearBit Mark.Sealed = 0
+
+unfoldable pub openedAnswer : Mark → ℕ → ℕ
+openedAnswer mark n = n % 2 ^ 32 + clearBit mark * 2 ^ 40
 
 -- the answer by the refusal number, where n bytes are given
 abbrev pub answerBy : ℕ → ℕ → ℕ

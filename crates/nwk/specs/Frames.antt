@@ -3,24 +3,23 @@
 -- definition over the inputs and what the buffers held before.
 -- Assumes nothing.
 use Prim.Native.Nat.{ℕ}
-use mathlib.Core.Bool.{not}
+use mathlib.Core.Bool.{Bool, not, _&&_}
 use mathlib.Core.List.{List, [], _∷_}
 use lib.ListN.{length}
 use lib.Dec.{eqb, ltb}
-use Rattle.octets.specs.Refusals.{on, by, firstOf}
+use Rattle.octets.specs.Refusals.{unless, on, by, firstOf}
 use Rattle.ccm.specs.Operations.{micLength}
-use Rattle.ccm.specs.Verification.{Verified}
 use Rattle.header.specs.Control.{typeCode, typeOf}
 use Rattle.frame.specs.declared.NwkPayload.{NwkPayload}
 use Rattle.frame.specs.Reading.{readFrame, payloadOf}
 use Rattle.frame.specs.Writing.{frameWriteRefusal, frameBytes}
 use Rattle.frame.specs.Security as security
 use Rattle.frame.specs.Sealing.{sealRefusal, sealedBytes}
-use Rattle.frame.specs.Opening.{behind, verified, openRefusals, openFrame}
+use Rattle.frame.specs.Opening.{isSealed, behind, verified, openRefusals, openFrame}
 use Rattle.records.specs.HeaderRecord.{headerRecordSize, headerRecord, headerOf, badHeaderRecord}
 use Rattle.records.specs.AuxiliaryRecord.{auxRecordSize, badAuxRecord}
 use Rattle.records.specs.OpenedRecord.{optionRecord, optionOf, openedRecordSize, openedRecord}
-use Rattle.nwk.specs.Answer.{answerBy, given}
+use Rattle.nwk.specs.Answer.{answer, openedAnswer, answerBy, given}
 
 -- ---- reading: 1 to 12, then 18 for the header record or the auxiliary record
 
@@ -69,29 +68,30 @@ sealOutput key r x p o = given (sealRecordsRefusal r x p (length o)) (sealedReco
 
 -- ---- opening
 
--- those that need no key: reading's number, then 14, 15, 16 and 18
+-- those that need no key: reading's number; then, of a sealed frame, 15, 16 and 18
 unfoldable pub openNumber : List ℕ → ℕ → ℕ
 openNumber f room =
     firstOf (openRefusals micLength (readFrame f .refusal) (readFrame f .header) (readFrame f .aux) (length (behind f (readFrame f))) room)
 
--- what CCM makes of the frame
-unfoldable pub verifiedFrame : List ℕ → List ℕ → Verified
-verifiedFrame key f = verified security.networkLevel micLength key f (readFrame f)
+-- a sealed frame whose MIC is not the one computed
+unfoldable pub wrongMic : List ℕ → List ℕ → Bool
+wrongMic key f = isSealed (readFrame f .header) && not (verified security.networkLevel micLength key f (readFrame f) .valid)
 
 unfoldable pub openRecordRefusal : List ℕ → List ℕ → ℕ → ℕ → ℕ
 openRecordRefusal key f recordRoom room =
-    firstOf (by (openNumber f room) ∷ on 18 (ltb recordRoom openedRecordSize) ∷ on 19 (not (verifiedFrame key f .valid)) ∷ [])
+    firstOf (by (openNumber f room) ∷ on 18 (ltb recordRoom openedRecordSize) ∷ on 19 (wrongMic key f) ∷ [])
 
--- of the frame f, with x in the record and o in the output before
+-- of the frame f, with x in the record and o in the output before: what opening alone gives
 abbrev pub openAnswer : List ℕ → List ℕ → List ℕ → List ℕ → ℕ
-openAnswer key f x o = answerBy (openRecordRefusal key f (length x) (length o)) (length (verifiedFrame key f .payload))
+openAnswer key f x o =
+    unless (openRecordRefusal key f (length x) (length o)) (openedAnswer (openFrame key f o .answer .mark) (openFrame key f o .answer .length))
+    (answer (openRecordRefusal key f (length x) (length o)) 0)
 
--- the record of what opening alone answers
 abbrev pub openRecord : List ℕ → List ℕ → List ℕ → List ℕ → List ℕ
 openRecord key f x o = given (openRecordRefusal key f (length x) (length o)) (openedRecord (openFrame key f o .answer)) x
 
 abbrev pub openOutput : List ℕ → List ℕ → List ℕ → List ℕ → List ℕ
-openOutput key f x o = given (openRecordRefusal key f (length x) (length o)) (verifiedFrame key f .payload) o
+openOutput key f x o = unless (openRecordRefusal key f (length x) (length o)) (openFrame key f o .out) o
 
 -- ---- what a payload is, by the frame type's code: 13 for a code that no type has, 2 or above 3
 

@@ -1,5 +1,6 @@
 // Reading, writing, sealing and opening frames, one or a burst of them, and what a payload is.
 use crate::answer::answer;
+use crate::answer::opened_answer;
 use frame::NwkPayload;
 use header::control::NwkFrameType;
 use octets::refusals;
@@ -96,8 +97,9 @@ fn short_refusal(bytes: &[u8], room: usize) -> u8
     refusals::NO_ROOM
 }
 
-// Open a frame: the payload goes to the front of the output, the answer with both headers to the opened record; refusals 1
-// to 12, 14, 15, 16, 18 and 19.
+// Open a frame: the answer with both headers goes to the opened record. A sealed frame's payload goes to the front of the
+// output; a clear one's stays in the frame, and the output is not touched. Refusals 1 to 12, 18 for the record, and of a sealed
+// frame 15, 16, 18 and 19.
 #[no_mangle]
 pub extern "C" fn nwk_open(
     key_first: u64,
@@ -118,7 +120,8 @@ pub extern "C" fn nwk_open(
         return answer(run.refusal, 0);
     }
     opened_record::put_opened(opened, run);
-    answer(0, run.length)
+    let mark = run.mark;
+    opened_answer(mark, run.length)
 }
 
 // Open a burst: frames end to end, as long as the lengths say, under one key. Frame k goes to the 108 bytes of the output from

@@ -39,7 +39,7 @@ pub const PAYLOAD: u8 = 12;
 // 13: a field to write exceeds its bits or has an undeclared code, or a list exceeds its places
 pub const FIELD: u8 = 13;
 
-// 14: sealing or opening has no auxiliary header
+// 14: sealing has no auxiliary header
 pub const NO_AUXILIARY: u8 = 14;
 
 // 15: sealing or opening has neither an auxiliary nor a header source IEEE

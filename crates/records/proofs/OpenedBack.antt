@@ -6,29 +6,30 @@ use mathlib.Core.Bool.{Bool, true, false}
 use mathlib.Core.List.{List, [], _++_, append-assoc}
 use Prim.Native.Nat.{ℕ, _^_, _<_}
 use native.Mathlib.Omega.{arith}
-use lib.ListN.{length, take, drop, length-append}
+use lib.ListN.{length, take, drop, length-append, length-drop}
 use lib.Seq.{take-at, drop-at}
 use Rattle.octets.specs.Strings.{tab, Below}
 use Rattle.octets.specs.Numbers.{le, leAt}
 use Rattle.octets.proofs.Strings.{length-tab, drop-below}
 use Rattle.octets.proofs.Numbers.{leAt-le}
-use Rattle.octets.proofs.Conditions.{unless-either}
+use Rattle.octets.proofs.Conditions.{unless-either, none}
 use Rattle.header.specs.Control.{controlOf}
 use Rattle.header.specs.Reading.{relaysOf, headerBy, blankHeader, readHeader}
 use Rattle.header.specs.Auxiliary.{blankAux}
 use Rattle.header.specs.Same.{HeaderFits}
 use Rattle.header.proofs.ReadFits.{read-fits}
 use Rattle.header.proofs.ReadFacts.{header-facts, aux-facts}
-use Rattle.frame.specs.declared.{OptionAuxHeader.OptionAuxHeader, FrameOpened.FrameOpened}
+use Rattle.frame.specs.declared.{OptionAuxHeader.OptionAuxHeader, Mark.Mark, FrameOpened.FrameOpened}
 use Rattle.frame.specs.Reading.{auxIf, readFrame}
 use Rattle.frame.specs.Security.{networkLevel}
-use Rattle.frame.specs.Opening.{openRefusal, openRefused, Run, openBy, openFrame}
+use Rattle.frame.specs.Opening.{isSealed, behind, verified, openRefusals, openRefusal, openRefused, Run, sealedGiven, clearGiven, openBy, openFrame}
 use Rattle.frame.specs.SealingLaw.{AuxOptionFits}
-use Rattle.frame.proofs.Accepted.{openable}
+use Rattle.frame.proofs.Accepted.{given-either, Openable, openable}
+use Rattle.frame.proofs.ClearFrames.{clear-facts}
 use Rattle.frame.proofs.SecondHalf.{secured-facts, payload-length}
 use Rattle.records.specs.HeaderRecord.{headerRecord, headerOf}
 use Rattle.records.specs.AuxiliaryRecord.{auxRecord, auxOf}
-use Rattle.records.specs.OpenedRecord.{optionRecord, optionOf, openedFront, openedRecord, openedOf}
+use Rattle.records.specs.OpenedRecord.{optionRecord, optionOf, markCode, markOf, openedFront, openedRecord, openedOf}
 use Rattle.records.proofs.Sizes.{length-header, length-front}
 use Rattle.records.proofs.RoundTrip.{header-back, aux-back, present-back}
 
@@ -36,6 +37,13 @@ pub option-back : (o : OptionAuxHeader) → AuxOptionFits o → optionOf (option
 unfolding optionOf optionRecord
 option-back OptionAuxHeader.Absent f = ap (λ (b : Bool). auxIf b (auxOf (auxRecord false blankAux))) (present-back false blankAux)
 option-back (OptionAuxHeader.Present a) f = λ i. auxIf (present-back true a i) (aux-back true a f i)
+
+-- the mark that its number says
+mark-back : (m : Mark) → markOf (markCode m) ≡ m
+unfolding markOf
+mark-back Mark.Unmarked = refl
+mark-back Mark.Clear = refl
+mark-back Mark.Sealed = refl
 
 -- what every answer has: its header's relays have their 54 places, and each number is within its type's range
 pub record AnswerFits (o : FrameOpened) : Type 0 where
@@ -54,30 +62,46 @@ aux-part front header aux f h =
 pub opened-back : (o : FrameOpened) → AnswerFits o → openedOf (openedRecord o) ≡ o
 unfolding openedOf openedRecord openedFront le leAt
 opened-back o f =
-    let front = openedFront (o .refusal) (o .length) in
+    let front = openedFront (o .refusal) (markCode (o .mark)) (o .length) in
+    let size = length-front (o .refusal) (markCode (o .mark)) (o .length) in
     let header = headerRecord (o .header) in
     let aux = optionRecord (o .aux) in
     λ i. record {
       refusal = o .refusal;
+      mark = mark-back (o .mark) i;
       length = leAt-le 2 (o .length) (tab (λ (i : ℕ). 0) 12 ++ (header ++ aux)) (f .short) i;
-      header = (ap headerOf (header-part front header aux (length-front (o .refusal) (o .length)) (length-header (o .header))) ∙ header-back (o .header) (f .header) (f .relays)) i;
-      aux = (ap optionOf (aux-part front header aux (length-front (o .refusal) (o .length)) (length-header (o .header))) ∙ option-back (o .aux) (f .aux)) i;
+      header = (ap headerOf (header-part front header aux size (length-header (o .header))) ∙ header-back (o .header) (f .header) (f .relays)) i;
+      aux = (ap optionOf (aux-part front header aux size (length-header (o .header))) ∙ option-back (o .aux) (f .aux)) i;
     }
 
 -- ---- what opening answers
 
--- it has all that, for every frame of bytes
-pub answer-fits : (key f o : List ℕ) → Below 256 f → length o < 2 ^ 16 → AnswerFits (openFrame key f o .answer)
-unfolding openFrame openBy openRefused blankHeader headerBy relaysOf
-answer-fits key f o u s =
-    unless-either (λ (r : Run). AnswerFits (r .answer)) (openRefusal networkLevel 4 key f (readFrame f) (length o)) _ _
-    (λ e.
-    let p = openable networkLevel 4 key f (readFrame f) (length o) e in
-    let facts = secured-facts f (p .read) (p .present) in
+-- it has all that, for every frame of bytes: where the frame is sealed, and where it is clear
+sealed-fits : (key f o : List ℕ) → Below 256 f → length o < 2 ^ 16 → Openable networkLevel 4 key f (readFrame f) (length o)
+    → AnswerFits (sealedGiven (readFrame f) (verified networkLevel 4 key f (readFrame f)) o .answer)
+sealed-fits key f o u s p =
+    let facts = secured-facts f (p .read) (p .sealed) in
     let hf = header-facts f u (facts .header) in
     let af = aux-facts (drop (readHeader f .length) f) (drop-below f (readHeader f .length) 256 u) (facts .aux) in
     let size = payload-length networkLevel 4 key f (readFrame f) in
-    record { short = omega (arith, size, p .fits); header = rw (facts .read) (hf .fits); relays = rw (facts .read) (hf .places); aux = rw (facts .read) (af .fits) })
+    record { short = omega (arith, size, p .fits); header = rw (facts .read) (hf .fits); relays = rw (facts .read) (hf .places); aux = rw (facts .read) (af .fits) }
+
+clear-fits : (f o : List ℕ) → Below 256 f → readFrame f .refusal ≡ 0 → isSealed (readFrame f .header) ≡ false
+    → AnswerFits (clearGiven f (readFrame f) o .answer)
+unfolding behind
+clear-fits f o u e off =
+    let facts = clear-facts f e off in
+    let hf = header-facts f u (facts .header) in
+    let size = length-drop (readFrame f .length) f in
+    record { short = omega (arith, size, hf .short); header = rw (facts .read) (hf .fits); relays = rw (facts .read) (hf .places); aux = rw (facts .read) tt }
+
+pub answer-fits : (key f o : List ℕ) → Below 256 f → length o < 2 ^ 16 → AnswerFits (openFrame key f o .answer)
+unfolding openFrame openBy openRefused openRefusal openRefusals blankHeader headerBy relaysOf
+answer-fits key f o u s =
+    unless-either (λ (r : Run). AnswerFits (r .answer)) (openRefusal networkLevel 4 key f (readFrame f) (length o)) _ _
+    (λ e. given-either (λ (r : Run). AnswerFits (r .answer)) f (readFrame f) (verified networkLevel 4 key f (readFrame f)) o
+    (λ bit. sealed-fits key f o u s (openable networkLevel 4 key f (readFrame f) (length o) e bit))
+    (clear-fits f o u (none _ (none _ e .0) .0)))
     (record { short = omega arith; header = read-fits [] (controlOf 0) (λ i. omega arith); relays = length-tab _ 54; aux = tt })
 
 -- so its record says it again

@@ -52,9 +52,9 @@ pub length-option : (o : OptionAuxHeader) → length (optionRecord o) ≡ 19
 unfolding optionRecord
 length-option o = length-aux (not (isAbsent o)) (orBlank o)
 
-pub length-front : (refusal n : ℕ) → length (openedFront refusal n) ≡ 16
+pub length-front : (refusal mark n : ℕ) → length (openedFront refusal mark n) ≡ 16
 unfolding openedFront
-length-front refusal n = simp (length-append, length-le, length-tab)
+length-front refusal mark n = simp (length-append, length-le, length-tab)
 
 pub length-opened : (o : FrameOpened) → length (openedRecord o) ≡ 182
 unfolding openedRecord

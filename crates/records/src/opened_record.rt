@@ -3,6 +3,7 @@
 use crate::auxiliary_record;
 use crate::header_record;
 use frame::FrameOpened;
+use frame::Mark;
 use frame::OptionAuxHeader;
 ghost use mathlib.Core.Path.{_≡_};
 ghost use mathlib.Core.Bool.{not};
@@ -10,7 +11,7 @@ ghost use Prim.Native.Nat.{_≤_};
 ghost use lib.ListN.{length};
 ghost use Rattle.octets.specs.Strings.{over};
 ghost use Rattle.frame.specs.Security.{isAbsent};
-ghost use Rattle.records.specs.OpenedRecord.{optionRecord, optionOf, openedFront, openedRecord};
+ghost use Rattle.records.specs.OpenedRecord.{optionRecord, optionOf, markCode, openedFront, openedRecord};
 
 pub const OPENED_RECORD_SIZE: usize = 182;
 
@@ -47,14 +48,25 @@ pub fn put_option(out: &mut [u8], aux: OptionAuxHeader)
     auxiliary_record::put_aux(out, present, a);
 }
 
-// Write the number and the length, and zeros up to the header record.
-fn put_front(out: &mut [u8], refusal: u8, n: usize)
+// The number of a mark.
+pub fn mark_code(mark: Mark) -> u8
+    ensures { λ r. ⌜ r ≡ markCode mark ⌝ }
+{
+    match mark {
+        Mark::Unmarked => 0,
+        Mark::Clear => 1,
+        Mark::Sealed => 2,
+    }
+}
+
+// Write the number, the mark and the length, and zeros up to the header record.
+fn put_front(out: &mut [u8], refusal: u8, mark: u8, n: usize)
     requires { ⌜ 16 ≤ length (now out) ⌝ }
-    ensures { λ _. ⌜ now (out .exit) ≡ over (now (out .entry)) 0 (openedFront refusal n) ⌝ }
+    ensures { λ _. ⌜ now (out .exit) ≡ over (now (out .entry)) 0 (openedFront refusal mark n) ⌝ }
 {
     let low = (n % 256) as u8;
     let high = (n / 256 % 256) as u8;
-    let values = [refusal, 0, low, high, 0, 0, 0, 0, 0, 0, 0, 0, 0, 0, 0, 0];
+    let values = [refusal, mark, low, high, 0, 0, 0, 0, 0, 0, 0, 0, 0, 0, 0, 0];
     octets::copy_at(out, 0, &values);
 }
 
@@ -65,7 +77,8 @@ pub fn put_opened(out: &mut [u8], opened: FrameOpened)
 {
     let header = opened.header;
     let aux = opened.aux;
-    put_front(out, opened.refusal, opened.length);
+    let mark = opened.mark;
+    put_front(out, opened.refusal, mark_code(mark), opened.length);
     header_record::put_header(&mut out[HEADER_AT..], header);
     put_option(&mut out[AUXILIARY_AT..], aux);
 }

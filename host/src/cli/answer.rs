@@ -1,17 +1,35 @@
 //! What is said of an input: the codec's answer, and the headers as far as they can be read.
 use super::describe;
-use super::keys::{open_with, NumberedKey};
+use super::keys::{open_with, Accepted, NumberedKey};
 use super::value::{digits, line, Fields, Value};
 use store_reader::{read, NwkAuxHeader, NwkCommand, NwkFrameType, NwkHeader, NwkPayload, Refusal, MAX_FRAME};
+
+/// What opening says of a frame that it accepts: whether it was sealed, and so authenticated.
+#[derive(Debug, Clone, Copy, PartialEq, Eq)]
+pub enum Mark {
+    Sealed,
+    Clear,
+}
+
+impl Mark {
+    fn name(self) -> &'static str {
+        match self {
+            Self::Sealed => "sealed",
+            Self::Clear => "clear",
+        }
+    }
+}
 
 /// What is said of an input.
 #[derive(Default)]
 pub struct Answer {
     /// None where the input was accepted.
     pub refusal: Option<Refusal>,
+    /// The mark of a frame that opening accepted; none beside a refusal, and none where nothing was opened.
+    pub mark: Option<Mark>,
     pub header: Option<NwkHeader>,
     pub auxiliary: Option<NwkAuxHeader>,
-    /// The place of the key that opened the frame.
+    /// The place of the key that opened the frame, where there are several.
     pub key: Option<usize>,
     /// What is behind the headers, in words and as fields.
     line: String,
@@ -47,6 +65,9 @@ impl Answer {
             }
         }
         parts.extend(self.key.map(|key| format!("key {key}")));
+        if self.mark == Some(Mark::Clear) {
+            parts.push("clear".to_string());
+        }
         if !self.line.is_empty() {
             parts.push(self.line.clone());
         }
@@ -55,13 +76,23 @@ impl Answer {
 
     /// Every field.
     pub fn fields(&self) -> Fields {
-        let mut fields = self.header.as_ref().map_or_else(Fields::new, describe::header);
+        let mut fields = Fields::new();
+        fields.extend(self.mark.map(|mark| ("mark", Value::text(mark.name()))));
+        fields.extend(self.header.as_ref().map_or_else(Fields::new, describe::header));
         if let Some(auxiliary) = &self.auxiliary {
             fields.push(("auxiliary", Value::Object(describe::auxiliary(auxiliary))));
         }
         fields.extend(self.key.map(|key| ("opened_with_key", Value::Number(key as u64))));
         fields.extend(self.fields.iter().cloned());
         fields
+    }
+
+    /// Adds what opening gave of a frame. The mark is left out if the payload turns out to be refused.
+    fn accepted(mut self, mark: Mark, header: NwkHeader, payload: &[u8]) -> Self {
+        self.add_payload(&header, payload);
+        self.mark = self.refusal.is_none().then_some(mark);
+        self.header = Some(header);
+        self
     }
 
     /// Adds a payload: a decoded command, or the bytes where it is opaque.
@@ -88,17 +119,16 @@ fn kind(header: &NwkHeader) -> &'static str {
     }
 }
 
-/// A frame opened with one of the keys.
+/// A frame opened with one of the keys, or a clear one.
 pub fn opened(keys: &[NumberedKey], bytes: &[u8]) -> Answer {
     match open_with(keys, bytes) {
         Err(refusal) => Answer::refused(bytes, refusal),
-        Ok(frame) => {
-            let key = (keys.len() > 1).then_some(frame.key);
-            let mut answer = Answer { auxiliary: Some(frame.auxiliary), key, ..Answer::default() };
-            answer.add_payload(&frame.header, &frame.payload);
-            answer.header = Some(frame.header);
-            answer
+        Ok(Accepted::Sealed { header, auxiliary, payload, key }) => {
+            let key = (keys.len() > 1).then_some(key);
+            let answer = Answer { auxiliary: Some(auxiliary), key, ..Answer::default() };
+            answer.accepted(Mark::Sealed, header, &payload)
         }
+        Ok(Accepted::Clear { header, payload }) => Answer::default().accepted(Mark::Clear, header, &payload),
     }
 }
 

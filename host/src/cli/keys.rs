@@ -1,5 +1,5 @@
 //! The network keys that frames are tried with.
-use store_reader::{open, read, Key, NwkAuxHeader, NwkHeader, Refusal, MAX_PAYLOAD};
+use store_reader::{open, read, Key, NwkAuxHeader, NwkHeader, Opened, Refusal, MAX_PAYLOAD};
 
 /// A key, and the key sequence number that it goes with if one was given.
 #[derive(Debug, Clone, PartialEq)]
@@ -42,34 +42,40 @@ pub fn of_file(path: &str) -> Result<Vec<NumberedKey>, String> {
     }
 }
 
-/// A frame as opened, and the place of the key that opened it, counted from 1.
-pub struct Opened {
-    pub header: NwkHeader,
-    pub auxiliary: NwkAuxHeader,
-    pub payload: Vec<u8>,
-    pub key: usize,
+/// A frame that was accepted.
+pub enum Accepted {
+    /// It was sealed, and this key opened it: its place among the keys, counted from 1.
+    Sealed { header: NwkHeader, auxiliary: NwkAuxHeader, payload: Vec<u8>, key: usize },
+    /// It was clear, and no key was used.
+    Clear { header: NwkHeader, payload: Vec<u8> },
+}
+
+impl Accepted {
+    /// What opening gave under the key at a place.
+    fn new(opened: Opened<'_>, place: usize) -> Self {
+        match opened {
+            Opened::Sealed(frame) => {
+                let payload = frame.payload.to_vec();
+                Self::Sealed { header: frame.header, auxiliary: frame.auxiliary, payload, key: place + 1 }
+            }
+            Opened::Clear(frame) => Self::Clear { header: frame.header, payload: frame.payload.to_vec() },
+        }
+    }
 }
 
 /// Opens a frame with the first key that does: those with the frame's key sequence number are tried first, then those
-/// without a number, then the others.
-pub fn open_with(keys: &[NumberedKey], frame: &[u8]) -> Result<Opened, Refusal> {
+/// without a number, then the others. A clear frame is accepted whatever the key.
+pub fn open_with(keys: &[NumberedKey], frame: &[u8]) -> Result<Accepted, Refusal> {
     let mut out = [0; MAX_PAYLOAD];
-    let mut refused = Refusal::WRONG_MIC;
     for place in in_order(keys, frame) {
         match open(&keys[place].key, frame, &mut out) {
-            Ok(opened) => {
-                let payload = opened.payload.to_vec();
-                return Ok(Opened { header: opened.header, auxiliary: opened.auxiliary, payload, key: place + 1 });
-            }
+            Ok(opened) => return Ok(Accepted::new(opened, place)),
             Err(Refusal::WRONG_MIC) => {}
-            Err(refusal) => {
-                // No other refusal depends on the key.
-                refused = refusal;
-                break;
-            }
+            // No other refusal depends on the key.
+            Err(refusal) => return Err(refusal),
         }
     }
-    Err(refused)
+    Err(Refusal::WRONG_MIC)
 }
 
 fn in_order(keys: &[NumberedKey], frame: &[u8]) -> Vec<usize> {

@@ -8,7 +8,7 @@ use super::seal::seal_each;
 use super::senders::{csv_table, table, Senders};
 use super::show::{complain, note_offset, Printer};
 use super::source::{Content, Entry, Source};
-use super::summary::Summary;
+use super::summary::{Names, Summary};
 use super::value::Value;
 use std::io::{self, Write};
 use store_reader::Refusal;
@@ -34,7 +34,7 @@ pub fn run(arguments: &Arguments, colour: bool, out: &mut impl Write) -> Result<
     match &arguments.task {
         Task::Refusals => refusals(arguments.show, printer.out),
         Task::Open(keys) => {
-            let run = Run::new(arguments, Summary::new("frame", "opened", "open"), true);
+            let run = Run::new(arguments, Summary::of_opening(), true);
             run.over(source(arguments)?, &mut printer, |bytes| opened(keys, bytes))
         }
         Task::Read => {
@@ -87,13 +87,13 @@ struct Run {
     /// The inputs are frames, of which inter-PAN frames are not handed over: their NWK header is short.
     of_frames: bool,
     lines_come: bool,
-    done: &'static str,
+    names: Names,
 }
 
 impl Run {
     fn new(arguments: &Arguments, summary: Summary, of_frames: bool) -> Self {
         Self {
-            done: summary.done(),
+            names: summary.names(),
             summary,
             senders: arguments.by_sender.then(Senders::default),
             of_frames,
@@ -162,17 +162,17 @@ impl Run {
         let rows = self.senders.map(Senders::rows);
         match (printer.show, &rows) {
             (Show::Csv, rows) => {
-                let table = rows.as_ref().map_or_else(|| self.summary.csv(), |rows| csv_table(rows, self.done));
+                let table = rows.as_ref().map_or_else(|| self.summary.csv(), |rows| csv_table(rows, self.names));
                 write!(out, "{table}")?;
                 self.summary.wrong_keys().iter().for_each(|why| complain(why));
             }
             (Show::Json, _) => {
                 for row in rows.iter().flatten() {
-                    writeln!(out, "{}", Value::Object(row.fields()).json())?;
+                    writeln!(out, "{}", Value::Object(row.fields(self.names)).json())?;
                 }
                 writeln!(out, "{}", Value::Object(self.summary.fields()).json())?;
             }
-            (_, Some(rows)) => write!(out, "{}{}", table(rows, self.done), self.summary)?,
+            (_, Some(rows)) => write!(out, "{}{}", table(rows, self.names), self.summary)?,
             (_, None) => write!(out, "{}", self.summary)?,
         }
         Ok(u8::from(self.summary.broken > 0))

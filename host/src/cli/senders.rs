@@ -2,9 +2,10 @@
 //!
 //! A frame is counted for its source, the device that made it. On each hop it is sealed anew, by the device that sends, under
 //! that device's counter; so counters are kept for the device whose long address the auxiliary header has.
-use super::answer::Answer;
+use super::answer::{Answer, Mark};
 use super::csv;
 use super::mac::{MacAddress, MacHeader};
+use super::summary::Names;
 use super::time::Time;
 use super::value::{Fields, Value};
 use std::collections::{BTreeMap, BTreeSet};
@@ -24,7 +25,9 @@ enum Sender {
 /// What was counted for a sender.
 #[derive(Default)]
 struct Counts {
+    /// Accepted frames, clear ones aside.
     accepted: u64,
+    clear: u64,
     refused: BTreeMap<Refusal, u64>,
     first: Option<Time>,
     last: Option<Time>,
@@ -51,10 +54,11 @@ pub struct Senders {
 }
 
 impl Counts {
-    fn note(&mut self, refusal: Option<Refusal>, time: Option<Time>) {
-        match refusal {
-            None => self.accepted += 1,
-            Some(refusal) => *self.refused.entry(refusal).or_default() += 1,
+    fn note(&mut self, answer: &Answer, time: Option<Time>) {
+        match (answer.refusal, answer.mark) {
+            (Some(refusal), _) => *self.refused.entry(refusal).or_default() += 1,
+            (None, Some(Mark::Clear)) => self.clear += 1,
+            (None, _) => self.accepted += 1,
         }
         self.span(time, time);
     }
@@ -66,6 +70,7 @@ impl Counts {
 
     fn add(&mut self, other: Counts) {
         self.accepted += other.accepted;
+        self.clear += other.clear;
         for (refusal, n) in other.refused {
             *self.refused.entry(refusal).or_default() += n;
         }
@@ -103,19 +108,20 @@ impl Senders {
     /// Counts a frame for its source, and its counter for the device that sealed it.
     pub fn note(&mut self, answer: &Answer, mac: Option<&MacHeader>, time: Option<Time>) {
         let Some(header) = &answer.header else {
-            return self.counts.entry(Sender::Unknown).or_default().note(answer.refusal, time);
+            return self.counts.entry(Sender::Unknown).or_default().note(answer, time);
         };
         let pan = mac.and_then(|mac| mac.pan);
         let short = (pan, header.source);
         let sender = header.source_ieee.map_or(Sender::Short(short), Sender::Long);
         let counts = self.counts.entry(sender).or_default();
-        counts.note(answer.refusal, time);
+        counts.note(answer, time);
         counts.shorts.insert(short);
         let sealed_by = answer.auxiliary.and_then(|auxiliary| auxiliary.extended_source).or(header.source_ieee);
         if let (Some(auxiliary), Some(device)) = (&answer.auxiliary, sealed_by) {
             self.counters.entry(device).or_default().note(auxiliary, answer.refusal.is_none());
         }
-        if answer.refusal.is_none() {
+        // Anyone may have sent a clear frame: it claims its addresses as a refused one does.
+        if answer.refusal.is_none() && answer.mark != Some(Mark::Clear) {
             self.learn(header, answer.auxiliary.as_ref(), mac, short);
         }
     }
@@ -182,7 +188,9 @@ impl Senders {
 pub struct Row {
     ieee: Option<Eui64>,
     shorts: Vec<Nwk>,
+    /// Accepted frames, clear ones aside.
     accepted: u64,
+    clear: u64,
     refused: BTreeMap<Refusal, u64>,
     first: Option<Time>,
     last: Option<Time>,
@@ -199,6 +207,7 @@ impl Row {
             },
             shorts: shorts.into_iter().collect(),
             accepted: counts.accepted,
+            clear: counts.clear,
             refused: counts.refused,
             first: counts.first,
             last: counts.last,
@@ -216,7 +225,7 @@ impl Row {
     }
 
     /// The cells of the text table.
-    fn cells(&self) -> [String; 9] {
+    fn cells(&self) -> [String; COLUMNS] {
         let refused: Vec<String> =
             self.refused.iter().map(|(refusal, n)| format!("{n} by {}", refusal.number())).collect();
         let sender = match (self.ieee, self.shorts.is_empty()) {
@@ -228,6 +237,7 @@ impl Row {
             sender,
             self.shorts(),
             self.accepted.to_string(),
+            self.clear.to_string(),
             self.refusals().to_string(),
             refused.join(", "),
             shown(self.first),
@@ -238,14 +248,17 @@ impl Row {
     }
 
     /// The row for `--json`.
-    pub fn fields(&self) -> Fields {
+    pub fn fields(&self, names: Names) -> Fields {
         let refused = self.refused.iter().map(|(refusal, n)| {
             Value::Object(vec![("refusal", refusal.number().into()), ("count", Value::Number(*n))])
         });
         let mut fields = Fields::new();
         fields.extend(self.ieee.map(|address| ("ieee", Value::text(address))));
         fields.push(("short", Value::list(&self.shorts, Value::text)));
-        fields.push(("accepted", Value::Number(self.accepted)));
+        fields.push((names.json(), Value::Number(self.accepted)));
+        if names.clear {
+            fields.push(("clear", Value::Number(self.clear)));
+        }
         fields.push(("refused", Value::Number(self.refusals())));
         fields.push(("refusals", Value::List(refused.collect())));
         fields.extend(self.first.map(|time| ("first_time", Value::text(time))));
@@ -263,18 +276,25 @@ fn shown(time: Option<Time>) -> String {
     time.map_or(String::new(), |time| time.to_string())
 }
 
-/// The table in text, its columns as wide as they need to be; numbers stand on the right.
-pub fn table(rows: &[Row], done: &str) -> String {
-    let heads = ["sender", "short", done, "refused", "", "first", "last", "counters", "never seen"];
+/// The columns of the text table: those of numbers, which stand on the right, and that of clear frames.
+const COLUMNS: usize = 10;
+const NUMBERS: [usize; 4] = [2, CLEAR, 4, 9];
+const CLEAR: usize = 3;
+
+/// The table in text, its columns as wide as they need to be. Clear frames have a column where there are any.
+pub fn table(rows: &[Row], names: Names) -> String {
+    let heads = ["sender", "short", names.done, "clear", "refused", "", "first", "last", "counters", "never seen"];
     let mut lines = vec![heads.map(str::to_string)];
     lines.extend(rows.iter().map(Row::cells));
-    let width = |i: usize| lines.iter().map(|cells| cells[i].len()).max().unwrap_or(0);
-    let widths: Vec<usize> = (0..heads.len()).map(width).collect();
+    let has_clear = rows.iter().any(|row| row.clear > 0);
+    let columns: Vec<usize> = (0..COLUMNS).filter(|i| *i != CLEAR || has_clear).collect();
+    let widths: Vec<usize> =
+        (0..COLUMNS).map(|i| lines.iter().map(|cells| cells[i].len()).max().unwrap_or(0)).collect();
     let mut text = String::new();
     for cells in &lines {
-        let padded = cells.iter().zip(&widths).enumerate().map(|(i, (cell, width))| match i {
-            2 | 3 | 8 => format!("{cell:>width$}"),
-            _ => format!("{cell:<width$}"),
+        let padded = columns.iter().map(|&i| match (&cells[i], widths[i]) {
+            (cell, width) if NUMBERS.contains(&i) => format!("{cell:>width$}"),
+            (cell, width) => format!("{cell:<width$}"),
         });
         let line = padded.collect::<Vec<_>>().join("  ");
         text += line.trim_end();
@@ -283,25 +303,26 @@ pub fn table(rows: &[Row], done: &str) -> String {
     text
 }
 
-/// The refusals that have a column: all but that of a burst, since the command opens each frame alone.
+/// The refusals that have a column: all but that of a burst, since the command opens each frame alone. Those that opening into
+/// room enough never answers stay 0.
 fn columns() -> impl Iterator<Item = Refusal> {
     Refusal::all().filter(|refusal| *refusal != Refusal::BURST)
 }
 
 /// The table as comma-separated values, a column for each refusal.
-pub fn csv_table(rows: &[Row], done: &str) -> String {
+pub fn csv_table(rows: &[Row], names: Names) -> String {
     let numbers: Vec<String> = columns().map(|refusal| format!("refused_by_{}", refusal.number())).collect();
-    let mut heads = vec!["ieee", "short", done, "refused"];
+    let mut heads = vec!["ieee", "short", names.done];
+    heads.extend(names.clear.then_some("clear"));
+    heads.push("refused");
     heads.extend(numbers.iter().map(String::as_str));
     heads.extend(["first_time", "last_time", "first_counter", "last_counter", "counters_never_seen"]);
     let mut text = csv::row(heads);
     for row in rows {
-        let mut cells = vec![
-            row.ieee.map_or(String::new(), |address| address.to_string()),
-            row.shorts(),
-            row.accepted.to_string(),
-            row.refusals().to_string(),
-        ];
+        let mut cells =
+            vec![row.ieee.map_or(String::new(), |address| address.to_string()), row.shorts(), row.accepted.to_string()];
+        cells.extend(names.clear.then(|| row.clear.to_string()));
+        cells.push(row.refusals().to_string());
         cells.extend(columns().map(|refusal| row.refused.get(&refusal).copied().unwrap_or(0).to_string()));
         cells.extend([shown(row.first), shown(row.last)]);
         cells.extend(match row.counters {

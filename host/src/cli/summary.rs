@@ -1,5 +1,5 @@
 //! What a run met, counted: frames by refusal number, and what was no frame.
-use super::answer::{condition, Answer};
+use super::answer::{condition, Answer, Mark};
 use super::csv;
 use super::source::Kind;
 use super::value::{Fields, Value};
@@ -7,9 +7,31 @@ use std::collections::BTreeMap;
 use std::fmt;
 use store_reader::Refusal;
 
+/// By what names accepted inputs are counted.
+#[derive(Debug, Clone, Copy)]
+pub struct Names {
+    /// What was done with them.
+    pub done: &'static str,
+    /// Whether clear frames are counted apart.
+    pub clear: bool,
+}
+
+impl Names {
+    /// The name for `--json`. `open` accepts clear frames too, which this count leaves out, so there it is not called accepted.
+    pub fn json(self) -> &'static str {
+        match self.clear {
+            true => self.done,
+            false => "accepted",
+        }
+    }
+}
+
 #[derive(Default)]
 pub struct Summary {
+    /// Accepted inputs, clear frames aside.
     accepted: u64,
+    /// Clear frames; none where inputs are not opened, so that nothing is marked.
+    clear: Option<u64>,
     refused: BTreeMap<Refusal, u64>,
     /// Accepted inputs by the key that opened them, where there are several.
     keys: BTreeMap<usize, u64>,
@@ -27,17 +49,22 @@ impl Summary {
         Self { noun, done, to_do, ..Self::default() }
     }
 
-    /// What was done with accepted inputs.
-    pub fn done(&self) -> &'static str {
-        self.done
+    /// The summary of `open`, which counts clear frames apart from those that a key opened.
+    pub fn of_opening() -> Self {
+        Self { clear: Some(0), ..Self::new("frame", "opened", "open") }
+    }
+
+    pub fn names(&self) -> Names {
+        Names { done: self.done, clear: self.clear.is_some() }
     }
 
     /// Counts a frame or command, and whether the frame check sequence around it is wrong.
     pub fn count(&mut self, answer: &Answer, wrong_fcs: bool) {
         self.wrong_fcs += u64::from(wrong_fcs);
-        match answer.refusal {
-            None => self.accepted += 1,
-            Some(refusal) => *self.refused.entry(refusal).or_default() += 1,
+        match (answer.refusal, answer.mark) {
+            (Some(refusal), _) => *self.refused.entry(refusal).or_default() += 1,
+            (None, Some(Mark::Clear)) => *self.clear.get_or_insert(0) += 1,
+            (None, _) => self.accepted += 1,
         }
         if let Some(key) = answer.key {
             *self.keys.entry(key).or_default() += 1;
@@ -50,14 +77,19 @@ impl Summary {
 
     /// All inputs so far.
     pub fn inputs(&self) -> u64 {
-        self.accepted + self.refusals() + self.others.values().sum::<u64>() + self.broken
+        self.all() + self.others.values().sum::<u64>() + self.broken
+    }
+
+    /// Everything that was accepted or refused.
+    fn all(&self) -> u64 {
+        self.accepted + self.clear.unwrap_or(0) + self.refusals()
     }
 
     fn refusals(&self) -> u64 {
         self.refused.values().sum()
     }
 
-    /// How many frames were sealed and not opened, where none was.
+    /// How many frames were sealed and not opened, where none was. Clear frames say nothing of the keys.
     fn keys_look_wrong(&self) -> Option<u64> {
         self.refused.get(&Refusal::WRONG_MIC).copied().filter(|_| self.accepted == 0)
     }
@@ -85,15 +117,16 @@ impl Summary {
             .keys
             .iter()
             .map(|(key, n)| Value::Object(vec![("key", Value::Number(*key as u64)), ("count", Value::Number(*n))]));
-        let mut counts: Fields = vec![
-            ("frames", Value::Number(self.accepted + self.refusals())),
-            ("accepted", Value::Number(self.accepted)),
+        let mut counts: Fields =
+            vec![("frames", Value::Number(self.all())), (self.names().json(), Value::Number(self.accepted))];
+        counts.extend(self.clear.map(|clear| ("clear", Value::Number(clear))));
+        counts.extend([
             ("refused", Value::Number(self.refusals())),
             ("refusals", Value::List(refused.collect())),
             ("skipped", Value::List(others.collect())),
             ("wrong_fcs", Value::Number(self.wrong_fcs)),
             ("broken", Value::Number(self.broken)),
-        ];
+        ]);
         if !self.keys.is_empty() {
             counts.push(("opened_with", Value::List(keys.collect())));
         }
@@ -107,6 +140,9 @@ impl Summary {
     pub fn csv(&self) -> String {
         let mut table = csv::row(["counted", "refusal", "count", "condition"]);
         table += &csv::row([self.done, "", &self.accepted.to_string(), ""]);
+        if let Some(clear) = self.clear {
+            table += &csv::row(["clear", "", &clear.to_string(), ""]);
+        }
         for (refusal, n) in &self.refused {
             table += &csv::row(["refused", &refusal.number().to_string(), &n.to_string(), condition(*refusal)]);
         }
@@ -120,9 +156,11 @@ impl Summary {
 
 impl fmt::Display for Summary {
     fn fmt(&self, f: &mut fmt::Formatter<'_>) -> fmt::Result {
-        let refused = self.refusals();
-        let all = self.accepted + refused;
-        writeln!(f, "{}: {} {}, {refused} refused", counted(all, self.noun), self.accepted, self.done)?;
+        write!(f, "{}: {} {}, ", counted(self.all(), self.noun), self.accepted, self.done)?;
+        if let Some(clear) = self.clear.filter(|clear| *clear > 0) {
+            write!(f, "{clear} clear, ")?;
+        }
+        writeln!(f, "{} refused", self.refusals())?;
         for (key, n) in &self.keys {
             writeln!(f, "{n:>6} {} with key {key}", self.done)?;
         }

@@ -1,12 +1,12 @@
 //! What the generated bursts met: every size, each condition of 20 alone and at its edge, each own answer of a frame with
-//! a good frame behind it, and in every size each kind of frame among good ones.
+//! a good frame behind it, and in every size each kind of frame among good ones. A good frame is one that opens as sealed.
 use super::calls::{lengths_of, Call, Outcome};
-use super::operations::{MAX_BURST, OPENED_RECORD, PART};
+use super::operations::{MARK_CLEAR, MARK_SEALED, MAX_BURST, OPENED_MARK, OPENED_RECORD, PART};
 use super::tally::NUMBERS;
 use std::collections::{BTreeMap, BTreeSet};
 
 /// What a frame of a burst can answer: 0, and each number of opening but 18, since a part has room for every payload.
-pub const OWN_ANSWERS: [usize; 17] = [0, 1, 2, 3, 4, 5, 6, 7, 8, 9, 10, 11, 12, 14, 15, 16, 19];
+pub const OWN_ANSWERS: [usize; 16] = [0, 1, 2, 3, 4, 5, 6, 7, 8, 9, 10, 11, 12, 15, 16, 19];
 
 /// The ways to meet one condition of 20 and none of the others.
 pub const ALONE: [&str; 9] = [
@@ -26,7 +26,7 @@ pub const ACCEPTED: [&str; 3] =
     ["no frames, nothing lent", "no frames, something lent", "lengths above 16 bits in all"];
 
 /// What stands among the good frames of a burst.
-pub const AMONG: [&str; 4] = ["empty", "over-long", "damaged", "refused"];
+pub const AMONG: [&str; 5] = ["clear", "empty", "over-long", "damaged", "refused"];
 
 #[derive(Default)]
 pub struct BurstTally {
@@ -37,6 +37,7 @@ pub struct BurstTally {
     /// The own answers of the frames, and those with a good frame behind them.
     own: [usize; NUMBERS],
     before_a_good_one: [usize; NUMBERS],
+    clear_before_a_good_one: usize,
     /// Accepted bursts by their size and what stands in them.
     among: BTreeMap<(usize, &'static str), usize>,
 }
@@ -49,9 +50,12 @@ impl BurstTally {
         if let Some(name) = name {
             *self.met.entry(name).or_default() += 1;
         }
-        let own: Vec<usize> = outcome.frames().map(|(record, _)| usize::from(record[0])).collect();
-        own.iter().for_each(|&number| self.own[number] += 1);
-        own.windows(2).filter(|pair| pair[1] == 0).for_each(|pair| self.before_a_good_one[pair[0]] += 1);
+        let own: Vec<Own> = outcome.frames().map(|(record, _)| (usize::from(record[0]), record[OPENED_MARK])).collect();
+        own.iter().for_each(|&(number, _)| self.own[number] += 1);
+        for pair in own.windows(2).filter(|pair| pair[1].1 == MARK_SEALED) {
+            self.before_a_good_one[pair[0].0] += 1;
+            self.clear_before_a_good_one += usize::from(pair[0].1 == MARK_CLEAR);
+        }
         let kinds: BTreeSet<&str> = own.iter().zip(lengths_of(&call.inputs[1])).map(kind).collect();
         for kind in kinds.iter().filter(|_| kinds.contains("good")) {
             *self.among.entry((own.len(), kind)).or_default() += 1;
@@ -77,6 +81,8 @@ impl BurstTally {
             assert!(met >= at_least, "a frame answered {number} only {met} times");
             assert!(before >= at_least, "a good frame stood behind one that answered {number} only {before} times");
         }
+        let before = self.clear_before_a_good_one;
+        assert!(before >= at_least, "a good frame stood behind a clear one only {before} times");
         let own: usize = OWN_ANSWERS.iter().map(|&number| self.own[number]).sum();
         assert_eq!(own, self.own.iter().sum::<usize>(), "a frame answered what no frame can");
     }
@@ -87,13 +93,17 @@ impl BurstTally {
     }
 }
 
+/// The own answer of a frame: its number, and its mark.
+type Own = (usize, u8);
+
 /// The kind of a frame, by its own answer and its length.
-fn kind((number, length): (&usize, usize)) -> &'static str {
-    match (number, length) {
-        (0, _) => "good",
+fn kind((own, length): (&Own, usize)) -> &'static str {
+    match (own, length) {
+        ((0, MARK_CLEAR), _) => "clear",
+        ((0, _), _) => "good",
         (_, 0) => "empty",
-        (1, _) => "over-long",
-        (19, _) => "damaged",
+        ((1, _), _) => "over-long",
+        ((19, _), _) => "damaged",
         _ => "refused",
     }
 }

@@ -1,7 +1,7 @@
 //! One call through the C boundary, made between guard bytes, and what must hold after every call.
 use super::guarded::Guarded;
 use super::hex::hex;
-use super::operations::{Extent, Operation, OPENED_RECORD, PART};
+use super::operations::{Extent, Operation, MARK_CLEAR, MARK_SEALED, OPENED_MARK, OPENED_RECORD, PART};
 use store_reader::sys;
 
 /// An operation with its inputs and the lengths of its lent outputs, in the order of its parameters. The lengths of a burst
@@ -13,6 +13,11 @@ pub struct Call {
     pub inputs: Vec<Vec<u8>>,
     pub rooms: Vec<usize>,
 }
+
+/// The bit of opening's answer that marks a clear frame.
+pub const CLEAR_BIT: u32 = 40;
+/// The security bit in the second byte of a frame: bit 9 of frame control.
+pub const SECURITY_BIT: u8 = 0x02;
 
 /// What a call answered, and the whole of each lent output afterwards.
 #[derive(Clone, PartialEq, Eq, Debug)]
@@ -30,14 +35,39 @@ impl Outcome {
         (self.answer >> 32) as u8
     }
 
+    /// Whether the answer is marked as clear, which only opening's is.
+    pub fn clear(&self) -> bool {
+        self.answer >> CLEAR_BIT & 1 == 1
+    }
+
+    /// The payload of a frame that was opened.
+    pub fn payload<'a>(&'a self, call: &'a Call) -> &'a [u8] {
+        payload_of(&self.outputs[0], &call.inputs[0], &self.outputs[1])
+    }
+
     /// The record and the part of each frame of a burst; none where it was refused.
     pub fn frames(&self) -> impl Iterator<Item = (&[u8], &[u8])> {
         self.outputs[0].chunks(OPENED_RECORD).zip(self.outputs[1].chunks(PART)).take(self.length())
     }
 
-    /// Bits 40 to 63, which are always 0.
+    /// Bits 41 to 63, which are always 0.
     fn other_bits(&self) -> u64 {
-        self.answer >> 40
+        self.answer >> (CLEAR_BIT + 1)
+    }
+}
+
+/// The length that an opened record says.
+pub fn length_of(record: &[u8]) -> usize {
+    usize::from(u16::from_le_bytes([record[2], record[3]]))
+}
+
+/// The payload that an opened record speaks of: the last bytes of the frame if its mark is clear, the first of the opened bytes
+/// if it is sealed, else none.
+pub fn payload_of<'a>(record: &[u8], frame: &'a [u8], opened: &'a [u8]) -> &'a [u8] {
+    match record[OPENED_MARK] {
+        MARK_CLEAR => &frame[frame.len() - length_of(record)..],
+        MARK_SEALED => &opened[..length_of(record)],
+        _ => &[],
     }
 }
 
@@ -56,6 +86,22 @@ impl Call {
     pub fn burst(key: [u8; 16], frames: &[u8], lengths: &[u16], answers: usize, room: usize) -> Self {
         let inputs = vec![frames.to_vec(), list_of(lengths)];
         Self { operation: Operation::OpenBurst, key, inputs, rooms: vec![OPENED_RECORD * answers, room] }
+    }
+
+    /// The opening of a frame that is lent a record and so many bytes of output.
+    pub fn open(key: [u8; 16], frame: &[u8], room: usize) -> Self {
+        Self { operation: Operation::Open, key, inputs: vec![frame.to_vec()], rooms: vec![OPENED_RECORD, room] }
+    }
+
+    /// The frames of a burst whose lengths add up.
+    pub fn frames(&self) -> Vec<&[u8]> {
+        let mut rest = &self.inputs[0][..];
+        let mut next = |length| {
+            let (frame, behind) = rest.split_at(length);
+            rest = behind;
+            frame
+        };
+        lengths_of(&self.inputs[1]).into_iter().map(&mut next).collect()
     }
 
     /// The call as one line, for a report.
@@ -100,6 +146,7 @@ pub fn check_boundary(call: &Call, outcome: &Outcome, fill: u8) {
     }
     for (extent, output) in shape.outputs.iter().zip(&outcome.outputs) {
         let written = match (refusal, *extent) {
+            (0, Extent::Length) if outcome.clear() => 0,
             (0, Extent::Length) => outcome.length(),
             (0, Extent::Fixed(size) | Extent::Array(size)) => size,
             (0, Extent::Records(size) | Extent::Parts(size)) => outcome.length() * size,
@@ -108,17 +155,36 @@ pub fn check_boundary(call: &Call, outcome: &Outcome, fill: u8) {
         assert!(written <= output.len(), "more written than lent: {}", call.line());
         assert!(output[written..].iter().all(|&byte| byte == fill), "bytes not to be touched: {}", call.line());
     }
-    if call.operation == Operation::OpenBurst {
-        check_parts(call, outcome, fill);
+    match call.operation {
+        Operation::Open => check_opened(call, outcome),
+        Operation::OpenBurst => check_parts(call, outcome, fill),
+        _ => assert!(!outcome.clear(), "marked as clear: {}", call.line()),
     }
 }
 
-/// What holds of each frame of a burst: beside a refusal its record is 0, and behind its payload its part is untouched.
+/// What holds of opening: a refusal is not marked as clear; else a frame is clear exactly if its security bit is off, and the
+/// record has the answer's mark and length.
+fn check_opened(call: &Call, outcome: &Outcome) {
+    if outcome.refusal() != 0 {
+        assert!(!outcome.clear(), "a refusal marked as clear: {}", call.line());
+        return;
+    }
+    let (frame, record) = (&call.inputs[0], &outcome.outputs[0]);
+    assert_eq!(outcome.clear(), frame[1] & SECURITY_BIT == 0, "the mark: {}", call.line());
+    let mark = if outcome.clear() { MARK_CLEAR } else { MARK_SEALED };
+    assert_eq!((record[0], record[OPENED_MARK]), (0, mark), "the record's refusal and mark: {}", call.line());
+    assert_eq!(length_of(record), outcome.length(), "the record's length: {}", call.line());
+}
+
+/// What holds of each frame of a burst: beside a refusal its record is 0, else it is marked; its part is untouched behind its
+/// payload, and whole if it was clear. The burst's own answer bears no mark.
 fn check_parts(call: &Call, outcome: &Outcome, fill: u8) {
+    assert!(!outcome.clear(), "a burst marked as clear: {}", call.line());
     for (k, (record, part)) in outcome.frames().enumerate() {
-        let n = usize::from(u16::from_le_bytes([record[2], record[3]]));
         let blank = record[1..].iter().all(|&byte| byte == 0);
-        assert!(record[0] == 0 || blank, "frame {k}: bytes beside its refusal: {}", call.line());
+        let marked = [MARK_CLEAR, MARK_SEALED].contains(&record[OPENED_MARK]);
+        assert!(if record[0] == 0 { marked } else { blank }, "frame {k}: beside its number: {}", call.line());
+        let n = if record[OPENED_MARK] == MARK_SEALED { length_of(record) } else { 0 };
         assert!(n <= part.len(), "frame {k}: more than its part: {}", call.line());
         assert!(part[n..].iter().all(|&byte| byte == fill), "frame {k}: bytes behind its payload: {}", call.line());
     }

@@ -2,10 +2,12 @@
 //! calls.
 pub mod burst_tally;
 pub mod calls;
+pub mod clear_tally;
 pub mod command;
 pub mod compare;
 pub mod generate;
 pub mod guarded;
+pub mod header_comments;
 pub mod hex;
 pub mod model;
 pub mod nettle;

@@ -5,6 +5,10 @@ pub const AUXILIARY_RECORD: usize = 19;
 pub const OPENED_RECORD: usize = 182;
 /// Where an opened record has the header record; the auxiliary record is behind it.
 pub const OPENED_HEADER: usize = 16;
+/// Where it has the mark, and what the mark is of a frame that was opened; 0 beside a refusal.
+pub const OPENED_MARK: usize = 1;
+pub const MARK_CLEAR: u8 = 1;
+pub const MARK_SEALED: u8 = 2;
 pub const COMMAND_RECORD: usize = 535;
 /// The most frames of a burst, and each frame's part of the output.
 pub const MAX_BURST: usize = 16;
@@ -36,7 +40,7 @@ pub enum Operation {
 /// How many bytes of a lent buffer an accepted call writes.
 #[derive(Clone, Copy, PartialEq, Eq, Debug)]
 pub enum Extent {
-    /// As many as the length answered.
+    /// As many as the length answered; none if the answer is marked as clear.
     Length,
     /// A fixed number: a record.
     Fixed(usize),
@@ -44,7 +48,8 @@ pub enum Extent {
     Array(usize),
     /// A list of records of this size, as many as the length answered. Its room is a whole number of them.
     Records(usize),
-    /// As many parts of this size as the length answered. Of each part the front, as its record says.
+    /// As many parts of this size as the length answered. Of each part the front, as its record says; nothing if it is marked
+    /// as clear.
     Parts(usize),
 }
 
@@ -120,7 +125,7 @@ const fn shape(
     Shape { name, keyed, inputs, outputs, refusals }
 }
 
-/// In the order of `OPERATIONS`. The refusals are those of the comments in `include/nwk.h`.
+/// In the order of `OPERATIONS`. The refusals are those of the comments in `include/nwk.h`, which `generated.rs` looks at.
 static SHAPES: [Shape; 17] = [
     shape("nwk_read_header", false, &[("bytes", true)], &[Fixed(HEADER_RECORD)], &[1, 2, 3, 4, 5, 6, 7, 8, 18]),
     shape("nwk_write_header", false, &[("header", false)], &[Length], &[13, 17, 18]),
@@ -146,7 +151,7 @@ static SHAPES: [Shape; 17] = [
         true,
         &[("bytes", true)],
         &[Fixed(OPENED_RECORD), Length],
-        &[1, 2, 3, 4, 5, 6, 7, 8, 9, 10, 11, 12, 14, 15, 16, 18, 19],
+        &[1, 2, 3, 4, 5, 6, 7, 8, 9, 10, 11, 12, 15, 16, 18, 19],
     ),
     shape(
         "nwk_open_burst",

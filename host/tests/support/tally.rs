@@ -1,5 +1,5 @@
 //! What was called, so that a test cannot silently stop testing: calls by operation and refusal, kinds of content, input
-//! lengths, rooms. `burst_tally` has what is counted of bursts beside.
+//! lengths, rooms. `burst_tally` has what is counted of bursts beside, `clear_tally` what of clear frames.
 use super::calls::{Call, Outcome};
 use super::operations::{Operation, HEADER_RECORD, MAX_BURST, OPENED_HEADER, OPERATIONS};
 use std::collections::BTreeMap;
@@ -141,14 +141,15 @@ fn kind(call: &Call, outcome: &Outcome) -> usize {
     }
 }
 
-/// How many kinds of content an operation can accept. Sealing and opening need one of two IEEEs.
+/// How many kinds of content an operation can accept. Sealing, and opening a sealed frame, need one of two IEEEs.
 pub fn all_kinds(operation: Operation) -> usize {
     use Operation::*;
     match operation {
         ReadHeader | WriteHeader | WriteFrame | ReadCommand | WriteCommand => 16,
         ReadAuxiliary | WriteAuxiliary => 2,
         ReadFrame => 48,
-        Seal | Open => 24,
+        Seal => 24,
+        Open => 24 + 16,
         OpenBurst => MAX_BURST + 1,
         PayloadKind => 3,
         TimeoutSeconds => 15,

@@ -1,6 +1,6 @@
-//! Generated bursts: good, refused, damaged, empty and over-long frames end to end, and lengths that do not add up.
+//! Generated bursts: sealed, clear, refused, damaged, empty and over-long frames end to end, and lengths that do not add up.
 use super::damage;
-use super::sealed::{frame, secured_frame};
+use super::sealed::{clear_frame, frame, secured_frame};
 use crate::support::calls::{lengths_of, list_of, Call};
 use crate::support::model::MAX_FRAME;
 use crate::support::operations::{MAX_BURST, MIC, OPENED_RECORD, PART};
@@ -20,17 +20,18 @@ pub fn inputs(key: &[u8; 16], random: &mut Random) -> Vec<Vec<u8>> {
     vec![frames.concat(), list_of(&lengths)]
 }
 
-/// A frame: good ones, and all that is handed to opening alone.
+/// A frame: good ones, sealed or clear, and all that is handed to opening alone.
 fn one(key: &[u8; 16], random: &mut Random) -> Vec<u8> {
     match random.below(20) {
         0 => Vec::new(),
         1 => too_long(random),
         2 | 3 => damaged(key, random),
-        4..=12 => secured_frame(key, None, random),
+        4..=11 => secured_frame(key, None, random),
+        12..=14 => clear_frame(false, random),
         _ => {
             let wanted = random.bit().then(|| random.below(LONGEST + 1));
             let mut bytes = frame(key, wanted, random);
-            damage::bytes(&mut bytes, random);
+            damage::frame(&mut bytes, random);
             bytes
         }
     }

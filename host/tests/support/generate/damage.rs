@@ -1,6 +1,6 @@
 //! Damage to a call's inputs: bits flipped, bytes cut, records of wrong length or with bytes out of range.
 use super::{bursts, LONG};
-use crate::support::calls::Call;
+use crate::support::calls::{Call, SECURITY_BIT};
 use crate::support::operations::Operation;
 use crate::support::random::Random;
 
@@ -19,7 +19,8 @@ pub fn call(call: &mut Call, random: &mut Random) {
         }
     }
     match call.operation {
-        ReadHeader | ReadAuxiliary | ReadFrame | Open | ReadCommand => bytes(&mut call.inputs[0], random),
+        ReadHeader | ReadAuxiliary | ReadCommand => bytes(&mut call.inputs[0], random),
+        ReadFrame | Open => frame(&mut call.inputs[0], random),
         WriteHeader | WriteFrame => record(&mut call.inputs[0], 40, random),
         WriteAuxiliary => record(&mut call.inputs[0], 19, random),
         Seal => {
@@ -72,6 +73,15 @@ pub fn bytes(bytes: &mut Vec<u8>, random: &mut Random) {
         6 => *bytes = random.bytes(bytes.len()),
         _ => {}
     }
+}
+
+/// A frame: its security bit turned in some, so that a sealed one is read as clear, or a clear one as sealed; else as any bytes.
+pub fn frame(frame: &mut Vec<u8>, random: &mut Random) {
+    if frame.len() > 1 && random.percent(8) {
+        frame[1] ^= SECURITY_BIT;
+        return;
+    }
+    bytes(frame, random);
 }
 
 /// Flips one bit.

@@ -6,7 +6,7 @@ pub mod headers;
 pub mod sealed;
 
 use super::calls::Call;
-use super::model;
+use super::model::{self, opening};
 use super::operations::{Extent, Operation, BLOCK};
 use super::random::Random;
 use super::tally::{AROUND, LONGEST};
@@ -21,6 +21,8 @@ pub struct Generated {
 const ROOMY: usize = 1000;
 /// What is lent, more or less, where nothing can be written anyway.
 const ANY_ROOM: usize = 30;
+/// The longest output that is lent beside a clear frame, which has no need of one.
+pub const LONGEST_UNNEEDED: usize = 120;
 /// Lengths whose lowest bits are all 0: a length cut to 8 or 16 bits would be short.
 pub const LONG: [usize; 3] = [256, 512, 65_536];
 
@@ -33,6 +35,9 @@ pub fn call(operation: Operation, number: usize, random: &mut Random) -> Generat
     damage::call(&mut call, random);
     let exact = needed(&call).unwrap_or(before);
     call.rooms = rooms(operation, &exact, random);
+    if operation == Operation::Open && opening::clear_payload(&call.inputs[0]).is_some() {
+        call.rooms[1] = random.below(LONGEST_UNNEEDED + 1);
+    }
     Generated { call, exact }
 }
 

@@ -1,4 +1,4 @@
-//! Generated frames, most of them sealed under the call's key, and inputs of CCM alone.
+//! Generated frames, most of them sealed under the call's key and others clear, and inputs of CCM alone.
 use super::headers;
 use crate::support::model::{ccm, frame, MAX_FRAME, MAX_PAYLOAD};
 use crate::support::random::Random;
@@ -9,20 +9,24 @@ const NONCE: usize = 13;
 /// A frame's bytes, brought to the length wanted. Most are secured and carry the right MIC.
 pub fn frame(key: &[u8; 16], wanted: Option<usize>, random: &mut Random) -> Vec<u8> {
     let near_longest = wanted.unwrap_or(0) > MAX_FRAME - 4;
-    if random.percent(if near_longest { 40 } else { 12 }) {
-        return unsecured_frame(near_longest, wanted, random);
+    if random.percent(if near_longest { 40 } else { 25 }) {
+        let bytes = clear_frame(near_longest, random);
+        return headers::sized(bytes, wanted, random);
     }
     let bytes = secured_frame(key, wanted, random);
     headers::sized(bytes, wanted, random)
 }
 
-/// A frame without auxiliary header. Behind the shortest header a payload can be longer than 108 bytes.
-fn unsecured_frame(shortest: bool, wanted: Option<usize>, random: &mut Random) -> Vec<u8> {
-    let header = if shortest { headers::plain_header(random) } else { headers::header(0, random) };
-    let mut bytes = header.bytes();
-    let behind = random.below(MAX_PAYLOAD).min(MAX_FRAME.saturating_sub(bytes.len()));
-    bytes.extend(random.bytes(behind));
-    headers::sized(bytes, wanted, random)
+/// A frame without auxiliary header, its security bit off. Behind the shortest header the payload has 0 to 111 bytes, of which
+/// 109 and 110 are too many for a payload and 111 for a frame; behind other headers as many as a frame can have.
+pub fn clear_frame(shortest: bool, random: &mut Random) -> Vec<u8> {
+    let behind = random.below(MAX_PAYLOAD + 4);
+    if shortest || random.bit() {
+        return [headers::plain_header(random).bytes(), random.bytes(behind)].concat();
+    }
+    let front = headers::header(0, random).bytes();
+    let payload = random.bytes(behind.min(MAX_FRAME.saturating_sub(front.len())));
+    [front, payload].concat()
 }
 
 /// A frame with auxiliary header; its payload is as long as the length wanted allows. The control's level and bit 7 are

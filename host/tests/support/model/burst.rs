@@ -1,5 +1,5 @@
-//! A burst (document 02, request 1): the four conditions of 20, and each frame opened alone into its own part.
-use super::{refuse, Answer, Done};
+//! A burst (document 02, requests 1 and 3): the four conditions of 20, and each frame opened alone into its own part.
+use super::{opening, refuse, Answer, Done};
 use crate::support::calls::lengths_of;
 use crate::support::operations::{MAX_BURST, OPENED_RECORD, PART};
 
@@ -22,13 +22,14 @@ pub fn open(key: &[u8; 16], frames: &[u8], list: &[u8], rooms: &[usize]) -> Answ
         parts.extend(part);
         rest = behind;
     }
-    Ok(Done { length: lengths.len(), written: vec![answers, parts] })
+    Ok(Done { length: lengths.len(), clear: false, written: vec![answers, parts] })
 }
 
 /// The answer and the part of a frame: "each answer equals opening that frame alone into that part". Beside a refusal's
-/// number the answer is zeros. A part stays behind what opening writes.
+/// number the answer is zeros, its mark too. A part stays behind what opening writes, and "a clear frame writes nothing to its
+/// part".
 fn alone(key: &[u8; 16], frame: &[u8]) -> (Vec<Option<u8>>, Vec<Option<u8>>) {
-    let (answer, mut part) = match super::open(key, frame, &[OPENED_RECORD, PART]) {
+    let (answer, mut part) = match opening::open(key, frame, &[OPENED_RECORD, PART]) {
         Ok(Done { written, .. }) => (written[0].clone(), written[1].clone()),
         Err(number) => {
             let mut answer = vec![Some(0); OPENED_RECORD];

@@ -8,17 +8,20 @@ pub mod ccm;
 pub mod commands;
 pub mod frame;
 pub mod header;
+pub mod opening;
 
-use super::calls::{Call, Outcome};
-use super::operations::{Operation, AUXILIARY_RECORD, COMMAND_RECORD, HEADER_RECORD, MIC, OPENED_RECORD};
+use super::calls::{Call, Outcome, CLEAR_BIT};
+use super::operations::{Operation, AUXILIARY_RECORD, COMMAND_RECORD, HEADER_RECORD, MIC};
 
 pub const MAX_FRAME: usize = 118;
 pub const MAX_PAYLOAD: usize = 108;
 pub const MAX_CCM: usize = 127;
 
-/// An accepted call: the length answered, and the first bytes of each output, where none is a byte that stays.
+/// An accepted call: the length answered, whether the answer is marked as clear, and the first bytes of each output, where
+/// none is a byte that stays.
 pub struct Done {
     pub length: usize,
+    pub clear: bool,
     pub written: Vec<Vec<Option<u8>>>,
 }
 
@@ -26,7 +29,7 @@ impl Done {
     /// A call that writes all of these bytes to the front of its outputs.
     fn new(length: usize, written: Vec<Vec<u8>>) -> Self {
         let written = written.into_iter().map(|bytes| bytes.into_iter().map(Some).collect()).collect();
-        Self { length, written }
+        Self { length, clear: false, written }
     }
 }
 
@@ -53,7 +56,7 @@ pub fn run(call: &Call) -> Answer {
         Operation::ReadFrame => read_frame(input(0), rooms),
         Operation::WriteFrame => write_frame(input(0), input(1), rooms),
         Operation::Seal => seal(&call.key, input(0), input(1), input(2), rooms),
-        Operation::Open => open(&call.key, input(0), rooms),
+        Operation::Open => opening::open(&call.key, input(0), rooms),
         Operation::OpenBurst => burst::open(&call.key, input(0), input(1), rooms),
         Operation::PayloadKind => payload_kind(input(0)[0]),
         Operation::ReadCommand => read_command(input(0), rooms),
@@ -76,7 +79,7 @@ pub fn outcome(call: &Call, fill: u8) -> Outcome {
                 let places = output[..written.len()].iter_mut().zip(written);
                 places.for_each(|(place, byte)| *place = byte.unwrap_or(*place));
             }
-            Outcome { answer: done.length as u64, outputs }
+            Outcome { answer: done.length as u64 | u64::from(done.clear) << CLEAR_BIT, outputs }
         }
     }
 }
@@ -133,27 +136,6 @@ fn seal(key: &[u8; 16], header: &[u8], auxiliary: &[u8], payload: &[u8], rooms: 
     let too_long = payload.len() > MAX_PAYLOAD || length > MAX_FRAME;
     refuse(&[(17, too_long), (18, rooms[0] < length)])?;
     given(frame::seal(key, &header, &auxiliary, &ieee, payload))
-}
-
-fn open(key: &[u8; 16], bytes: &[u8], rooms: &[usize]) -> Answer {
-    let frame = frame::read(bytes)?;
-    let auxiliary = frame.auxiliary.as_ref().ok_or(14)?;
-    let ieee = frame::nonce_ieee(&frame.header, auxiliary).ok_or(15)?;
-    let behind = &bytes[frame.headers_length..];
-    refuse(&[(16, behind.len() < MIC)])?;
-    let length = behind.len() - MIC;
-    refuse(&[(18, rooms[0] < OPENED_RECORD || rooms[1] < length)])?;
-    let payload = frame::open(key, &frame.header, auxiliary, &ieee, behind).ok_or(19)?;
-    Ok(Done::new(length, vec![opened_record(&frame, length), payload]))
-}
-
-/// Refusal and mark 0, the length, places that hold nothing yet, and the two records.
-fn opened_record(frame: &frame::Frame, length: usize) -> Vec<u8> {
-    let mut record = vec![0; 16];
-    record[2..4].copy_from_slice(&(length as u16).to_le_bytes());
-    record.extend(frame.header.record());
-    record.extend(auxiliary::record(&frame.auxiliary));
-    record
 }
 
 /// "A plaintext is a command if the type is 1, else opaque"; the types are 0, 1 and 3.

@@ -1,8 +1,9 @@
--- `open_under` meets its contract: refused with nothing changed, 19 among the refusals, or opened. Assumes nothing.
+-- `open_under` meets its contract: refused with nothing changed, 19 among the refusals, or clear, or opened. Assumes nothing.
 use borrow.Author.Needs.{needs}
 use mathlib.Core.Path.{sym, ap, _∙_}
 use Prim.Native.Nat.{_+_}
 use native.Mathlib.Omega.{arith}
+use borrow.Author.Tests.{not-true, not-false}
 use lib.ListN.{length}
 use Rattle.frame.proofs.opening.open_under.Statement.{statement}
 use Rattle.frame.proofs.opening.open_under.Tie as tie
@@ -10,7 +11,7 @@ use Rattle.header.specs.declared.auxiliary.NwkAuxHeader.{NwkAuxHeader}
 use Rattle.header.specs.Writing.{headerBytes}
 use Rattle.header.specs.Auxiliary.{auxBytes}
 use Rattle.frame.specs.Opening as opening
-use Rattle.frame.proofs.Answers.{open-stopped, opened-valid, opened-invalid, ready, ready-facts}
+use Rattle.frame.proofs.Answers.{open-stopped, opened-clear, opened-valid, opened-invalid, ready, ready-facts}
 
 returns : tie.Need-returns
 returns c =
@@ -22,46 +23,60 @@ returns c =
       λ key e. ap (λ (r : opening.Run). r .out) (open-stopped key _ _ _ _ _ (read .read-frame .ensures) (number .before .behind .ensures) (number .open-refusal .ensures) taken),
     )
 
-open-frame-requires : tie.Need-open-frame-requires
-open-frame-requires c κs =
+returns-2 : tie.Need-returns-2
+returns-2 c =
     let passed = c .before .before in
     let rest = passed .before .before in
+    let run =
+    opened-clear _ _ _ _ _ (rest .before .before .read-frame .ensures) (rest .behind .ensures) (passed .before .open-refusal .ensures) (passed .if1 .left)
+    (not-true _ (c .if2 .taken)) in
+    (λ key e. ap (λ (r : opening.Run). r .answer) (run key), λ key e. ap (λ (r : opening.Run). r .out) (run key))
+
+open-frame-requires : tie.Need-open-frame-requires
+open-frame-requires c κs =
+    let sealed = c .before .before in
+    let passed = sealed .before .before in
+    let rest = passed .before .before in
     let read = rest .before .before in
-    let s = ready _ _ _ _ _ (sym (passed .before .open-refusal .ensures) ∙ passed .if1 .left) in
-    let r = ready-facts _ _ (λ i. read .before .before .shared-slice-known .given i .fits) (read .read-frame .ensures) (s .read) (s .present) in
+    let bit = not-false _ (sealed .if2 .left) in
+    let s = ready _ _ _ _ _ (sym (passed .before .open-refusal .ensures) ∙ passed .if1 .left) bit in
+    let r = ready-facts _ _ (λ i. read .before .before .shared-slice-known .given i .fits) (read .read-frame .ensures) (s .read) bit in
     let e = ap (λ (x : NwkAuxHeader). length (headerBytes (read .read-frame .result .header)) + length (auxBytes x)) (c .before .or-blank .ensures) in
     (r .0, omega (arith, e, r .1), omega (arith, ap length (rest .behind .ensures), r .2), s .tagged, s .fits)
 
-sub-t17 : tie.Need-sub-t17
-sub-t17 c =
-    let passed = c .before .before .before .before .before .before in
-    omega (arith, ready _ _ _ _ _ (sym (passed .before .open-refusal .ensures) ∙ passed .if1 .left) .tagged)
+sub-t20 : tie.Need-sub-t20
+sub-t20 c =
+    let sealed = c .before .before .before .before .before .before in
+    let passed = sealed .before .before in
+    omega (arith, ready _ _ _ _ _ (sym (passed .before .open-refusal .ensures) ∙ passed .if1 .left) (not-false _ (sealed .if2 .left)) .tagged)
 
-returns-2 : tie.Need-returns-2
-returns-2 c =
+returns-3 : tie.Need-returns-3
+returns-3 c =
     let opened = c .before .before .before in
-    let passed = opened .before .before .before in
+    let sealed = opened .before .before .before in
+    let passed = sealed .before .before in
     let rest = passed .before .before in
     let o = opened .open-frame .ensures in
     let run =
     opened-valid _ _ _ _ _ _ _ _ _ (rest .before .before .read-frame .ensures) (rest .behind .ensures) (opened .before .before .or-blank .ensures)
-    (passed .before .open-refusal .ensures) (passed .if1 .left) (o .0) (o .1) (c .if2 .taken) in
+    (passed .before .open-refusal .ensures) (passed .if1 .left) (not-false _ (sealed .if2 .left)) (o .0) (o .1) (c .if3 .taken) in
     (λ key e. ap (λ (r : opening.Run). r .answer) (run key e), λ key e. ap (λ (r : opening.Run). r .out) (run key e))
 
-returns-3 : tie.Need-returns-3
-returns-3 c =
+returns-4 : tie.Need-returns-4
+returns-4 c =
     let opened = c .before .before .before .before in
-    let passed = opened .before .before .before in
+    let sealed = opened .before .before .before in
+    let passed = sealed .before .before in
     let rest = passed .before .before in
     let o = opened .open-frame .ensures in
     let run =
     opened-invalid _ _ _ _ _ _ _ _ _ (rest .before .before .read-frame .ensures) (rest .behind .ensures) (opened .before .before .or-blank .ensures)
-    (passed .before .open-refusal .ensures) (passed .if1 .left) (o .0) (o .1) (c .before .if2 .left) in
+    (passed .before .open-refusal .ensures) (passed .if1 .left) (not-false _ (sealed .if2 .left)) (o .0) (o .1) (c .before .if3 .left) in
     (λ key e. c .refused2 .ensures ∙ ap (λ (r : opening.Run). r .answer) (run key e), λ key e. ap (λ (r : opening.Run). r .out) (run key e))
 
 pub open-under-spec : {M : Type 1} → statement M
 open-under-spec =
     tie.close
-    (tie.spec (λ c κs. search needs) (λ c κs. search needs) (λ c κs. search needs) (λ c κs. search needs) returns
-    (λ c κs. search needs) open-frame-requires sub-t17 (λ c. search needs) returns-2 (λ c κs. search needs)
-    (λ c. search needs) returns-3)
+    (tie.spec (λ c κs. search needs) (λ c κs. search needs) (λ c κs. search needs) (λ c κs. search needs) returns returns-2
+    (λ c κs. search needs) open-frame-requires sub-t20 (λ c. search needs) returns-3 (λ c κs. search needs)
+    (λ c. search needs) returns-4)

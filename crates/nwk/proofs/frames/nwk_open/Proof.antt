@@ -1,11 +1,14 @@
 -- `nwk_open` meets its contract: refused with nothing changed, or opened into the output and the record. Assumes nothing.
 use borrow.Author.Needs.{needs}
-use mathlib.Core.Path.{sym, _∙_}
+use mathlib.Core.Path.{refl, sym, _∙_}
+use Prim.Native.Nat.{ℕ}
 use lib.ListN.{length}
+use Rattle.octets.proofs.Conditions.{accepted-by, refused-by}
 use Rattle.types.specs.Keys.{keyBytes}
-use Rattle.nwk.specs.Answer.{answer}
-use Rattle.nwk.proofs.Calls.{refused-both, refused-answer, refused-buffer, passed-answer, given-passed}
-use Rattle.nwk.proofs.FrameRefusals.{open-short, open-number, opened-number, open-gives, open-leaves}
+use Rattle.nwk.specs.Answer.{openedAnswer}
+use Rattle.nwk.specs.Frames.{openRecordRefusal}
+use Rattle.nwk.proofs.Calls.{refused-answer, refused-buffer, given-passed}
+use Rattle.nwk.proofs.FrameRefusals.{open-short, open-number, opened-number, open-leaves}
 use Rattle.nwk.proofs.frames.nwk_open.Statement.{statement}
 use Rattle.nwk.proofs.frames.nwk_open.Tie as tie
 
@@ -13,7 +16,7 @@ returns : tie.Need-returns
 returns c =
     let a = c .before .before .before .before .before .before .args in
     let s = open-short (keyBytes (a .key-first) (a .key-second)) _ _ _ _ (c .before .short-refusal .ensures) (c .before .before .if1 .taken) in
-    refused-both _ _ _ _ _ _ _ _ (s .0) (s .1) (c .answer .ensures)
+    (refused-answer _ _ _ _ (s .0) (s .1) (c .answer .ensures), (refused-buffer _ _ _ _ (s .0) (s .1), refused-by _ _ _ (λ (n : ℕ). a .out .now) (s .0) (s .1)))
 
 returns-2 : tie.Need-returns-2
 returns-2 c =
@@ -27,7 +30,7 @@ returns-2 c =
     let e = t ∙ sym (open-number key (a .bytes .now) (a .out .now) (length (a .opened .now)) (room .if1 .left)) in
     let same = rw k at (opened .«open» .ensures .1) ∙ open-leaves key (a .bytes .now) (a .out .now) (λ z. refused (t ∙ z)) in (
       refused-answer _ _ _ _ e refused (c .answer2 .ensures),
-      (refused-buffer _ _ _ (a .opened .now) e refused, same ∙ refused-buffer _ _ _ (a .out .now) e refused),
+      (refused-buffer _ _ _ (a .opened .now) e refused, same ∙ refused-by _ _ _ (λ (n : ℕ). a .out .now) e refused),
     )
 
 returns-3 : tie.Need-returns-3
@@ -42,11 +45,11 @@ returns-3 c =
     let d = rw k at (opened .«open» .ensures .0) in
     let z = sym (opened-number key (a .bytes .now) (a .out .now) _ d) ∙ passed .if2 .left in
     let e = open-number key (a .bytes .now) (a .out .now) (length (a .opened .now)) (room .if1 .left) ∙ z in
-    let g = open-gives key (a .bytes .now) (a .out .now) z in (
-      passed-answer _ _ _ e (c .answer3 .ensures ∙ rw (d, g)),
+    let number = openRecordRefusal key (a .bytes .now) (length (a .opened .now)) (length (a .out .now)) in (
+      c .opened-answer .ensures ∙ (λ i. openedAnswer (d i .mark) (d i .length)) ∙ accepted-by number number _ _ refl e,
       (
         given-passed _ _ (a .opened .now) _ e (put .put-opened .ensures ∙ rw d),
-        given-passed _ _ (a .out .now) _ e (rw k at (opened .«open» .ensures .1) ∙ (λ i. g i .out)),
+        rw k at (opened .«open» .ensures .1) ∙ accepted-by number number _ _ refl e,
       ),
     )
 

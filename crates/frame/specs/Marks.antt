@@ -1,0 +1,111 @@
+-- Document 02, 3, sentence by sentence: what opening says of clear frames and of sealed ones. Each is one claim over all keys,
+-- frames and earlier output contents. Of bursts the claims are in crates/burst/specs/Claims.antt, and the sealing law in
+-- SealingLaw.antt speaks of sealed frames only.
+-- Assumes nothing.
+use mathlib.Core.Path.{_≡_}
+use mathlib.Core.Bool.{true, false, not}
+use mathlib.Core.List.{List, [], _∷_}
+use Prim.Native.Nat.{ℕ, _-_, _≤_}
+use lib.ListN.{length, drop}
+use lib.Dec.{ltb}
+use Rattle.octets.specs.Refusals.{on, by, firstOf}
+use Rattle.ccm.specs.Verification.{Verified}
+use Rattle.ccm.specs.Operations.{micLength}
+use Rattle.frame.specs.declared.{OptionAuxHeader.OptionAuxHeader, Mark.Mark}
+use Rattle.frame.specs.Reading.{readFrame}
+use Rattle.frame.specs.Security.{networkLevel, orBlank, noIeee}
+use Rattle.frame.specs.Opening.{isSealed, behind, verified, sealedGiven, clearGiven, openFrame, payloadIn}
+
+-- the payload handed back of the frame f, opened under key into o
+abbrev pub handedBack : List ℕ → List ℕ → List ℕ → List ℕ
+handedBack key f o = payloadIn (openFrame key f o .answer) f (openFrame key f o .out)
+
+-- ---- "opening now accepts a frame whose security bit is off, marks the answer as clear and does not touch the output"
+
+-- a frame that reads, its security bit off
+pub record IsClear (f : List ℕ) : Type 0 where
+  pub reads : readFrame f .refusal ≡ 0
+  pub off : isSealed (readFrame f .header) ≡ false
+
+-- under every key and into every output, shorter than the payload or empty too, what opening leaves is this: marked clear, the
+-- headers as read, no auxiliary header, "the length given is then the payload's", and the output as it was
+pub record Clear (key f o : List ℕ) : Type 0 where
+  pub run : openFrame key f o ≡ clearGiven f (readFrame f) o
+  pub auxiliary : openFrame key f o .answer .aux ≡ OptionAuxHeader.Absent
+  pub length : openFrame key f o .answer .length ≡ length (drop (readFrame f .length) f)
+  pub untouched : openFrame key f o .out ≡ o
+
+abbrev pub ClearAccepted : Type 0
+ClearAccepted = (key f o : List ℕ) → IsClear f → Clear key f o
+
+-- and no other frame is marked so
+abbrev pub ClearOnly : Type 0
+ClearOnly = (key f o : List ℕ) → openFrame key f o .answer .mark ≡ Mark.Clear → IsClear f
+
+-- ---- "every frame that was opened before has the answer it had, now marked sealed"
+
+-- what CCM makes of the frame
+abbrev pub ccmOf : List ℕ → List ℕ → Verified
+ccmOf key f = verified networkLevel micLength key f (readFrame f)
+
+-- the conditions on which a frame is opened
+pub record IsOpened (key f o : List ℕ) : Type 0 where
+  pub reads : readFrame f .refusal ≡ 0
+  pub secured : isSealed (readFrame f .header) ≡ true
+  pub ieee : noIeee (readFrame f .header) (orBlank (readFrame f .aux)) ≡ false
+  pub tagged : micLength ≤ length (behind f (readFrame f))
+  pub fits : length (behind f (readFrame f)) - micLength ≤ length o
+  pub valid : ccmOf key f .valid ≡ true
+
+-- on these the headers are as read, and what CCM opened stands at the front of the output
+abbrev pub SealedAccepted : Type 0
+SealedAccepted = (key f o : List ℕ) → IsOpened key f o → openFrame key f o ≡ sealedGiven (readFrame f) (ccmOf key f) o
+
+-- and no other frame is marked sealed
+abbrev pub SealedOnly : Type 0
+SealedOnly = (key f o : List ℕ) → openFrame key f o .answer .mark ≡ Mark.Sealed → IsOpened key f o
+
+-- a frame whose security bit is on is refused by the numbers that refused it, in their order
+abbrev pub SecuredNumbers : Type 0
+SecuredNumbers =
+    (key f o : List ℕ) → isSealed (readFrame f .header) ≡ true
+    → openFrame key f o .answer .refusal
+    ≡ firstOf (by (readFrame f .refusal)
+    ∷ on 15 (noIeee (readFrame f .header) (orBlank (readFrame f .aux)))
+    ∷ on 16 (ltb (length (behind f (readFrame f))) micLength)
+    ∷ on 18 (ltb (length o) (length (behind f (readFrame f)) - micLength))
+    ∷ on 19 (not (ccmOf key f .valid))
+    ∷ [])
+
+-- ---- no mark beside a refusal
+
+-- and one beside every answer that is none, so that an answer is exactly one of refused, clear and sealed
+pub record Marked (key f o : List ℕ) : Type 0 where
+  pub refused : (openFrame key f o .answer .refusal ≡ 0 → ⊥) → openFrame key f o .answer .mark ≡ Mark.Unmarked
+  pub accepted : openFrame key f o .answer .refusal ≡ 0 → openFrame key f o .answer .mark ≡ Mark.Unmarked → ⊥
+
+abbrev pub MarkedIfAccepted : Type 0
+MarkedIfAccepted = (key f o : List ℕ) → Marked key f o
+
+-- ---- "the payload handed back is a part of the frame if clear, and of the opened bytes if sealed"
+
+-- of a clear frame what follows the headers: the frame's last bytes, as many as the length says
+abbrev pub PayloadOfClear : Type 0
+PayloadOfClear = (key f o : List ℕ) → openFrame key f o .answer .mark ≡ Mark.Clear → handedBack key f o ≡ drop (readFrame f .length) f
+
+-- of a sealed one what CCM opened
+abbrev pub PayloadOfSealed : Type 0
+PayloadOfSealed = (key f o : List ℕ) → openFrame key f o .answer .mark ≡ Mark.Sealed → handedBack key f o ≡ ccmOf key f .payload
+
+-- beside a refusal none
+abbrev pub PayloadOfRefused : Type 0
+PayloadOfRefused = (key f o : List ℕ) → (openFrame key f o .answer .refusal ≡ 0 → ⊥) → handedBack key f o ≡ []
+
+-- it has the length that the answer says
+abbrev pub PayloadLength : Type 0
+PayloadLength = (key f o : List ℕ) → length (handedBack key f o) ≡ openFrame key f o .answer .length
+
+-- ---- "opening no longer gives 14"
+
+abbrev pub NoFourteen : Type 0
+NoFourteen = (key f o : List ℕ) → openFrame key f o .answer .refusal ≡ 14 → ⊥

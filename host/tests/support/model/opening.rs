@@ -1,0 +1,52 @@
+//! Opening (document 01, "Frame"; document 02, request 3): sealed frames, clear ones, and the opened record of
+//! `include/nwk.h`.
+use super::auxiliary::{self, Auxiliary};
+use super::frame::{self, Frame};
+use super::{refuse, Answer, Done};
+use crate::support::operations::{MARK_CLEAR, MARK_SEALED, MIC, OPENED_RECORD};
+
+/// "Opening takes a frame's bytes and first reads them, with reading's refusals." The auxiliary header "is present exactly if
+/// bit 9 of frame control is set", and a frame "whose security bit is off" is clear.
+pub fn open(key: &[u8; 16], bytes: &[u8], rooms: &[usize]) -> Answer {
+    let frame = frame::read(bytes)?;
+    let behind = &bytes[frame.headers_length..];
+    match &frame.auxiliary {
+        Some(auxiliary) => open_sealed(key, &frame, auxiliary, behind, rooms),
+        None => open_clear(&frame, behind.len(), rooms),
+    }
+}
+
+/// "Every frame that was opened before has the answer it had, now marked sealed."
+fn open_sealed(key: &[u8; 16], frame: &Frame, auxiliary: &Auxiliary, behind: &[u8], rooms: &[usize]) -> Answer {
+    let ieee = frame::nonce_ieee(&frame.header, auxiliary).ok_or(15)?;
+    refuse(&[(16, behind.len() < MIC)])?;
+    let length = behind.len() - MIC;
+    refuse(&[(18, rooms[0] < OPENED_RECORD || rooms[1] < length)])?;
+    let payload = frame::open(key, &frame.header, auxiliary, &ieee, behind).ok_or(19)?;
+    Ok(Done::new(length, vec![record(MARK_SEALED, frame, length), payload]))
+}
+
+/// Opening "marks the answer as clear and does not touch the output. The length given is then the payload's, and no output
+/// byte is the result". "15 to 19 are not checked for a clear frame": the output may be short, but 18 is said of the record,
+/// which only the C function has.
+fn open_clear(frame: &Frame, length: usize, rooms: &[usize]) -> Answer {
+    refuse(&[(18, rooms[0] < OPENED_RECORD)])?;
+    let done = Done::new(length, vec![record(MARK_CLEAR, frame, length), Vec::new()]);
+    Ok(Done { clear: true, ..done })
+}
+
+/// The payload handed back "is a part of the frame if clear": its bytes behind the headers, up to the last one.
+pub fn clear_payload(bytes: &[u8]) -> Option<&[u8]> {
+    let frame = frame::read(bytes).ok()?;
+    frame.auxiliary.is_none().then(|| &bytes[frame.headers_length..])
+}
+
+/// No refusal, the mark, the length, places that hold nothing yet, and the two records.
+fn record(mark: u8, frame: &Frame, length: usize) -> Vec<u8> {
+    let mut record = vec![0; 16];
+    record[1] = mark;
+    record[2..4].copy_from_slice(&(length as u16).to_le_bytes());
+    record.extend(frame.header.record());
+    record.extend(auxiliary::record(&frame.auxiliary));
+    record
+}
