@@ -424,9 +424,9 @@ static inline struct nwk_key nwk_key_of(const uint8_t bytes[16]) {
   return key;
 }
 
-/* Where the payload is that an answer of nwk_open speaks of, NWK_LENGTH(answer) bytes of it: behind the headers of the frame if it
- * was clear, at the front of out if it was sealed. NULL beside a refusal. bytes, bytes_len and out are those that nwk_open was
- * given, out with what it left there. */
+/* Where the payload is that an answer of nwk_open speaks of, NWK_LENGTH(answer) bytes of it: behind the header of the frame if it
+ * was clear, out if it was sealed, which may be NULL where the payload is empty. Beside a refusal there is none: NULL. bytes,
+ * bytes_len and out are those that nwk_open was given, out with what it left there. */
 static inline const uint8_t *nwk_payload(uint64_t answer, const uint8_t *bytes, size_t bytes_len, const uint8_t *out) {
   if (NWK_REFUSAL(answer) != NWK_ACCEPTED) {
     return NULL;

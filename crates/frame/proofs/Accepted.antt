@@ -18,6 +18,7 @@ use Rattle.frame.specs.Reading.{frameRefused, frameGiven, frameNumber, f
 use Rattle.frame.specs.Security.{isAbsent, orBlank, noIeee}
 use Rattle.frame.specs.Writing.{frameBytes, frameWriteRefusal}
 use Rattle.frame.specs.Sealing.{sealedLength, lengthRefusals, sealRefusal}
+use Rattle.frame.specs.Marks.{Openable}
 use Rattle.frame.specs.Opening.{isSealed, behind, verified, openRefusals, openRefusal, openRefused, Run, sealedGiven, clearGiven, openGiven, openNothing, openBy}
 
 -- ---- sealing
@@ -85,7 +86,7 @@ frame-refusal f h a = answer-number (λ (r : FrameRead). r .refusal) (frameNumbe
 -- ---- opening
 
 -- what holds of both cases holds of the case that a bit decides
-pub cond-either : {A : Type 0} (P : A → Type 0) (b : Bool) (x y : A) → (b ≡ true → P x) → (b ≡ false → P y) → P (cond b x y)
+cond-either : {A : Type 0} (P : A → Type 0) (b : Bool) (x y : A) → (b ≡ true → P x) → (b ≡ false → P y) → P (cond b x y)
 cond-either P true x y p q = p refl
 cond-either P false x y p q = q refl
 
@@ -99,7 +100,7 @@ counts-not true x e = absurd (true≢false e)
 counts-not false x e = refl
 
 -- a frame that is not refused, sealed or clear
-pub given-either : (P : Run → Type 0) (f : List ℕ) (r : FrameRead) (v : Verified) (o : List ℕ)
+given-either : (P : Run → Type 0) (f : List ℕ) (r : FrameRead) (v : Verified) (o : List ℕ)
     → (isSealed (r .header) ≡ true → P (sealedGiven r v o)) → (isSealed (r .header) ≡ false → P (clearGiven f r o)) → P (openGiven f r v o)
 given-either P f r v o p q = cond-either P (isSealed (r .header)) (sealedGiven r v o) (clearGiven f r o) p q
 
@@ -110,15 +111,6 @@ open-number l t key f r o =
     answer-number (λ (x : Run). x .answer .refusal) (openRefusal l t key f r (length o)) (openGiven f r (verified l t key f r) o) (λ (n : ℕ). openNothing n o)
     (given-either (λ (x : Run). x .answer .refusal ≡ 0) f r (verified l t key f r) o (λ s. refl) (λ s. refl)) refl
 
--- no condition of a sealed frame holds
-pub record Openable (l : NwkSecurityLevel) (t : ℕ) (key f : List ℕ) (r : FrameRead) (room : ℕ) : Type 0 where
-  pub read : r .refusal ≡ 0
-  pub sealed : isSealed (r .header) ≡ true
-  pub ieee : noIeee (r .header) (orBlank (r .aux)) ≡ false
-  pub tagged : t ≤ length (behind f r)
-  pub fits : length (behind f r) - t ≤ room
-  pub valid : verified l t key f r .valid ≡ true
-
 pub openable : (l : NwkSecurityLevel) (t : ℕ) (key f : List ℕ) (r : FrameRead) (room : ℕ) → openRefusal l t key f r room ≡ 0
     → isSealed (r .header) ≡ true → Openable l t key f r room
 unfolding openRefusal openRefusals
@@ -126,8 +118,8 @@ openable l t key f r room e s =
     let all = none _ e in
     let n = none _ (all .0) in
     record {
-      read = n .0;
-      sealed = s;
+      reads = n .0;
+      on = s;
       ieee = sym (counts (isSealed (r .header)) _ s) ∙ n .1 .0;
       tagged = ltb-false (length (behind f r)) t (sym (counts (isSealed (r .header)) _ s) ∙ n .1 .1 .0);
       fits = ltb-false room (length (behind f r) - t) (sym (counts (isSealed (r .header)) _ s) ∙ n .1 .1 .1 .0);
@@ -138,13 +130,13 @@ module _ (l : NwkSecurityLevel) (t : ℕ) (key f : List ℕ) (r : FrameRead) whe
   open-accepts : (room : ℕ) → Openable l t key f r room → openRefusal l t key f r room ≡ 0
   unfolding openRefusal openRefusals
   open-accepts room s =
-      let off : (x : Bool) → x ≡ false → (isSealed (r .header) && x) ≡ false = λ x e. counts (isSealed (r .header)) x (s .sealed) ∙ e in
+      let off : (x : Bool) → x ≡ false → (isSealed (r .header) && x) ≡ false = λ x e. counts (isSealed (r .header)) x (s .on) ∙ e in
       let keyless =
       none-refuse (openRefusals t (r .refusal) (r .header) (r .aux) (length (behind f r)) room)
-      (s .read, (off _ (s .ieee), (off _ (le-ltb (length (behind f r)) t (s .tagged)), (off _ (le-ltb room (length (behind f r) - t) (s .fits)), tt)))) in
+      (s .reads, (off _ (s .ieee), (off _ (le-ltb (length (behind f r)) t (s .tagged)), (off _ (le-ltb room (length (behind f r) - t) (s .fits)), tt)))) in
       none-refuse _ (keyless, (off _ (ap not (s .valid)), tt))
 
-  pub clear-accepts : (room : ℕ) → r .refusal ≡ 0 → isSealed (r .header) ≡ false → openRefusal l t key f r room ≡ 0
+  clear-accepts : (room : ℕ) → r .refusal ≡ 0 → isSealed (r .header) ≡ false → openRefusal l t key f r room ≡ 0
   unfolding openRefusal openRefusals
   clear-accepts room e off =
       let not-so : (x : Bool) → (isSealed (r .header) && x) ≡ false = λ x. counts-not (isSealed (r .header)) x off in
@@ -157,7 +149,7 @@ module _ (l : NwkSecurityLevel) (t : ℕ) (key f : List ℕ) (r : FrameRead) whe
   unfolding openBy
   sealed-run o s =
       accepted (openRefusal l t key f r (length o)) _ _ (open-accepts (length o) s)
-      ∙ ap (λ (b : Bool). cond b (sealedGiven r (verified l t key f r) o) (clearGiven f r o)) (s .sealed)
+      ∙ ap (λ (b : Bool). cond b (sealedGiven r (verified l t key f r) o) (clearGiven f r o)) (s .on)
 
   pub clear-run : (o : List ℕ) → r .refusal ≡ 0 → isSealed (r .header) ≡ false → openBy l t key f r o ≡ clearGiven f r o
   unfolding openBy
@@ -177,22 +169,30 @@ apart : (m n : Mark) → (place m ≡ place n → ⊥) → m ≡ n → ⊥
 apart m n h e = h (ap place e)
 
 module _ (l : NwkSecurityLevel) (t : ℕ) (key f : List ℕ) (r : FrameRead) (o : List ℕ) where
+  -- what holds of an opened frame, of a clear one and of a refusal holds of what opening leaves
+  pub run-either : (P : Run → Type 0)
+      → (Openable l t key f r (length o) → P (sealedGiven r (verified l t key f r) o))
+      → (r .refusal ≡ 0 → isSealed (r .header) ≡ false → P (clearGiven f r o))
+      → P (openNothing (openRefusal l t key f r (length o)) o)
+      → P (openBy l t key f r o)
+  unfolding openBy openRefusal openRefusals
+  run-either P opened clear refused =
+      unless-either P (openRefusal l t key f r (length o)) _ _
+      (λ e. given-either P f r (verified l t key f r) o (λ s. opened (openable l t key f r (length o) e s)) (clear (none _ (none _ e .0) .0)))
+      refused
+
   -- what each mark says of the frame
   pub marked-sealed : openBy l t key f r o .answer .mark ≡ Mark.Sealed → Openable l t key f r (length o)
-  unfolding openBy openRefused
+  unfolding openRefused
   marked-sealed =
-      unless-either (λ (x : Run). x .answer .mark ≡ Mark.Sealed → Openable l t key f r (length o)) (openRefusal l t key f r (length o)) _ _
-      (λ e. given-either (λ (x : Run). x .answer .mark ≡ Mark.Sealed → Openable l t key f r (length o)) f r (verified l t key f r) o
-      (λ s m. openable l t key f r (length o) e s) (λ s m. absurd (apart Mark.Clear Mark.Sealed (λ z. omega arith) m)))
-      (λ m. absurd (apart Mark.Unmarked Mark.Sealed (λ z. omega arith) m))
+      run-either (λ (x : Run). x .answer .mark ≡ Mark.Sealed → Openable l t key f r (length o)) (λ w m. w)
+      (λ e off m. absurd (apart Mark.Clear Mark.Sealed (λ z. omega arith) m)) (λ m. absurd (apart Mark.Unmarked Mark.Sealed (λ z. omega arith) m))
 
   pub marked-clear : openBy l t key f r o .answer .mark ≡ Mark.Clear → (r .refusal ≡ 0) × (isSealed (r .header) ≡ false)
-  unfolding openBy openRefused openRefusal openRefusals
+  unfolding openRefused
   marked-clear =
-      unless-either (λ (x : Run). x .answer .mark ≡ Mark.Clear → (r .refusal ≡ 0) × (isSealed (r .header) ≡ false)) (openRefusal l t key f r (length o)) _ _
-      (λ e. given-either (λ (x : Run). x .answer .mark ≡ Mark.Clear → (r .refusal ≡ 0) × (isSealed (r .header) ≡ false)) f r (verified l t key f r) o
-      (λ s m. absurd (apart Mark.Sealed Mark.Clear (λ z. omega arith) m)) (λ s m. (none _ (none _ e .0) .0, s)))
-      (λ m. absurd (apart Mark.Unmarked Mark.Clear (λ z. omega arith) m))
+      run-either (λ (x : Run). x .answer .mark ≡ Mark.Clear → (r .refusal ≡ 0) × (isSealed (r .header) ≡ false))
+      (λ w m. absurd (apart Mark.Sealed Mark.Clear (λ z. omega arith) m)) (λ e off m. (e, off)) (λ m. absurd (apart Mark.Unmarked Mark.Clear (λ z. omega arith) m))
 
   -- there is one exactly where nothing is refused
   pub marked : openRefusal l t key f r (length o) ≡ 0 → openBy l t key f r o .answer .mark ≡ Mark.Unmarked → ⊥

@@ -26,8 +26,9 @@ use Rattle.frame.specs.Reading.{secured, auxIf, auxBehind, frameRefusal,
 use Rattle.frame.specs.Security.{sentLevel, atLevel, orBlank, noIeee, nonce, authenticated}
 use Rattle.frame.specs.Sealing.{generated, sealedBytes, sealedLength}
 use Rattle.frame.specs.Opening.{isSealed, behind, ciphertextOf, micOf, verified, openBy}
+use Rattle.frame.specs.Marks.{Openable}
 use Rattle.frame.proofs.Levels.{level-agrees, level-fits, level-length, level-nonce, level-authenticated, level-ieee}
-use Rattle.frame.proofs.Accepted.{Openable, sealed-run}
+use Rattle.frame.proofs.Accepted.{sealed-run}
 
 -- ---- reading a secured frame from its parts
 
@@ -164,8 +165,8 @@ module _ (l : NwkSecurityLevel) (t : ℕ) (key : List ℕ) (h : NwkHeader) (x : 
     openable-back room ieee fits-room =
         let size : length (behind (sealedBytes l t key h x p) readBack) ≡ length p + t = ap length behind-headers ∙ part-length in
         record {
-          read = refl;
-          sealed = back-sealed;
+          reads = refl;
+          on = back-sealed;
           ieee = level-ieee l sentLevel x h (cleared h) (same-cleared h good) ∙ ieee;
           tagged = omega (arith, size);
           fits = omega (arith, size);

@@ -10,7 +10,6 @@ use lib.ListN.{length, take, drop, length-append, take-append-drop}
 use lib.Seq.{drop-at}
 use lib.Dec.{eqb, ltb}
 use Rattle.octets.specs.Refusals.{unless, Condition, on, by, firstOf}
-use Rattle.octets.proofs.Conditions.{unless-either}
 use Rattle.octets.proofs.Strings.{take-over}
 use Rattle.header.specs.Reading.{headerRefusal, readHeader, optionalRefusals}
 use Rattle.header.specs.Auxiliary.{auxRefusal, readAux}
@@ -19,9 +18,9 @@ use Rattle.ccm.specs.Operations.{micLength}
 use Rattle.frame.specs.declared.{FrameRead.FrameRead, FrameOpened.FrameOpened}
 use Rattle.frame.specs.Reading.{secured, auxBehind, frameRefusal, frameNumber, readFrame}
 use Rattle.frame.specs.Security.{networkLevel, orBlank, noIeee}
-use Rattle.frame.specs.Opening.{isSealed, lastOf, behind, openRefusals, openRefusal, openRefused, Run, clearGiven, openBy, openFrame, payloadIn}
+use Rattle.frame.specs.Opening.{isSealed, lastOf, behind, openRefusals, openRefusal, openRefused, Run, clearGiven, openFrame, payloadIn}
 use Rattle.frame.specs.Marks.{IsClear, ClearAccepted, ClearOnly, ccmOf, SealedAccepted, SealedOnly, SecuredNumbers, MarkedIfAccepted, PayloadOfClear, PayloadOfSealed, PayloadOfRefused, PayloadLength, NoFourteen}
-use Rattle.frame.proofs.Accepted.{frame-refusal, counts, given-either, sealed-run, clear-run, marked-sealed, marked-clear, marked, unmarked}
+use Rattle.frame.proofs.Accepted.{frame-refusal, counts, run-either, sealed-run, clear-run, marked-sealed, marked-clear, marked, unmarked}
 use Rattle.frame.proofs.ClearFrames.{clear-facts}
 use Rattle.frame.proofs.Opened.{number-is, open-refused}
 
@@ -52,15 +51,11 @@ clear-only key f o m =
 
 pub sealed-accepted : SealedAccepted
 unfolding openFrame
-sealed-accepted key f o c =
-    sealed-run networkLevel micLength key f (readFrame f) o
-    (record { read = c .reads; sealed = c .secured; ieee = c .ieee; tagged = c .tagged; fits = c .fits; valid = c .valid })
+sealed-accepted key f o w = sealed-run networkLevel micLength key f (readFrame f) o w
 
 pub sealed-only : SealedOnly
 unfolding openFrame
-sealed-only key f o m =
-    let s = marked-sealed networkLevel micLength key f (readFrame f) o m in
-    record { reads = s .read; secured = s .sealed; ieee = s .ieee; tagged = s .tagged; fits = s .fits; valid = s .valid }
+sealed-only key f o m = marked-sealed networkLevel micLength key f (readFrame f) o m
 
 -- a list in two parts is one list
 one-list : (n : ℕ) (a b c d : Bool)
@@ -118,12 +113,10 @@ payload-of-refused key f o h =
     ap (λ (a : FrameOpened). payloadIn a f (openFrame key f o .out)) (open-refused key f o (openFrame key f o .answer .refusal) refl h)
 
 pub payload-length-said : PayloadLength
-unfolding openFrame openBy openRefused behind
+unfolding openFrame openRefused behind
 payload-length-said key f o =
-    unless-either (λ (r : Run). length (payloadIn (r .answer) f (r .out)) ≡ r .answer .length) (openRefusal networkLevel micLength key f (readFrame f) (length o)) _ _
-    (λ e. given-either (λ (r : Run). length (payloadIn (r .answer) f (r .out)) ≡ r .answer .length) f (readFrame f) (ccmOf key f) o
-    (λ s. ap length (take-over o (ccmOf key f .payload))) (λ s. ap length (last-behind f (readFrame f .length))))
-    refl
+    run-either networkLevel micLength key f (readFrame f) o (λ (r : Run). length (payloadIn (r .answer) f (r .out)) ≡ r .answer .length)
+    (λ w. ap length (take-over o (ccmOf key f .payload))) (λ e off. ap length (last-behind f (readFrame f .length))) refl
 
 -- ---- 14
 

@@ -13,7 +13,7 @@ use borrow.Author.Tests.{lt-ltb, le-ltb}
 use Rattle.octets.specs.Strings.{Below}
 use Rattle.octets.specs.Refusals.{unless, Condition, on, by, firstOf}
 use Rattle.octets.proofs.Strings.{length-over, over-front}
-use Rattle.octets.proofs.Conditions.{accepted, refused, unless-either, none, stop-by}
+use Rattle.octets.proofs.Conditions.{accepted, refused, none, stop-by}
 use Rattle.header.specs.declared.nwk.NwkHeader.{NwkHeader}
 use Rattle.header.specs.Reading.{headerRefusal, readHeader}
 use Rattle.header.proofs.ReadFacts.{header-number, header-facts}
@@ -23,7 +23,7 @@ use Rattle.frame.specs.declared.{OptionAuxHeader.OptionAuxHeader, FrameR
 use Rattle.frame.specs.Reading.{secured, auxBehind, frameRefusal, frameGiven, frameNumber, frameBy, readFrame}
 use Rattle.frame.specs.Security.{networkLevel}
 use Rattle.frame.specs.Opening.{isSealed, behind, verified, openRefusals, openRefusal, openRefused, Run, sealedGiven, clearGiven, openGiven, openNothing, openBy, openFrame}
-use Rattle.frame.proofs.Accepted.{frame-refusal, given-either, open-number, openable}
+use Rattle.frame.proofs.Accepted.{frame-refusal, open-number, run-either}
 use Rattle.frame.proofs.SecondHalf.{payload-length}
 
 -- a number given before, if it is not 0
@@ -40,21 +40,16 @@ module _ (key f o : List ℕ) where
   number-is = open-number networkLevel micLength key f (readFrame f) o
 
   pub open-length : length (openFrame key f o .out) ≡ length o
-  unfolding openFrame openBy
+  unfolding openFrame
   open-length =
-      unless-either (λ (r : Run). length (r .out) ≡ length o) number _ _
-      (λ e. given-either (λ (r : Run). length (r .out) ≡ length o) f (readFrame f) (verified networkLevel micLength key f (readFrame f)) o
-      (λ s. length-over o 0 _ (rw (zero-add, payload-length networkLevel micLength key f (readFrame f)) (openable networkLevel micLength key f (readFrame f) (length o) e s .fits)))
-      (λ s. refl))
-      refl
+      run-either networkLevel micLength key f (readFrame f) o (λ (r : Run). length (r .out) ≡ length o)
+      (λ w. length-over o 0 _ (rw (zero-add, payload-length networkLevel micLength key f (readFrame f)) (w .fits))) (λ e off. refl) refl
 
   pub open-behind : drop (openFrame key f o .answer .length) (openFrame key f o .out) ≡ drop (openFrame key f o .answer .length) o
-  unfolding openFrame openBy openRefused
+  unfolding openFrame openRefused
   open-behind =
-      unless-either (λ (r : Run). drop (r .answer .length) (r .out) ≡ drop (r .answer .length) o) number _ _
-      (λ e. given-either (λ (r : Run). drop (r .answer .length) (r .out) ≡ drop (r .answer .length) o) f (readFrame f) (verified networkLevel micLength key f (readFrame f)) o
-      (λ s. rw over-front (drop-append-seam (verified networkLevel micLength key f (readFrame f) .payload) _)) (λ s. refl))
-      refl
+      run-either networkLevel micLength key f (readFrame f) o (λ (r : Run). drop (r .answer .length) (r .out) ≡ drop (r .answer .length) o)
+      (λ w. rw over-front (drop-append-seam (verified networkLevel micLength key f (readFrame f) .payload) _)) (λ e off. refl) refl
 
   pub open-refused : (n : ℕ) → openFrame key f o .answer .refusal ≡ n → (n ≡ 0 → ⊥) → openFrame key f o .answer ≡ openRefused n
   unfolding openFrame openBy

@@ -14,7 +14,6 @@ use Rattle.header.specs.Writing.{fieldRefusal}
 use Rattle.octets.specs.Writing as writing
 use Rattle.octets.specs.Writing.{wrote, written}
 use Rattle.octets.specs.Refusals.{unless, Condition, on, by, firstOf}
-use Rattle.octets.proofs.Conditions.{unless-either, none}
 use Rattle.octets.proofs.Writing.{write-accepted, written-number, written-within}
 use Rattle.header.proofs.ReadBack.{same-cleared}
 use Rattle.ccm.specs.Operations.{micLength}
@@ -23,9 +22,10 @@ use Rattle.frame.specs.Reading.{readFrame}
 use Rattle.frame.specs.Security.{networkLevel, orBlank}
 use Rattle.frame.specs.Sealing.{sealRefusal, sealedBytes, sealFrame}
 use Rattle.frame.specs.Opening as opening
-use Rattle.frame.specs.Opening.{verified, openRefusals, openRefusal, openRefused, sealedGiven, openBy, openFrame, payloadIn}
+use Rattle.frame.specs.Opening.{verified, openRefused, sealedGiven, openBy, openFrame, payloadIn}
+use Rattle.frame.specs.Marks.{Openable}
 use Rattle.frame.specs.SealingLaw.{FirstHalf, SecondHalf, sealThenOpen, openThenSeal, Resealed, bytesWritten, payloadGiven}
-use Rattle.frame.proofs.Accepted.{Sealable, sealable, seal-accepts, given-either, Openable, sealed-run, marked-sealed}
+use Rattle.frame.proofs.Accepted.{Sealable, sealable, seal-accepts, run-either, sealed-run, marked-sealed}
 use Rattle.frame.proofs.ClearFrames.{clear-facts}
 use Rattle.frame.proofs.FirstHalf.{sealed-length, reopened}
 use Rattle.frame.proofs.SecondHalf.{SecuredFacts, secured-facts, wholeRead, sealable-again, frame-again}
@@ -96,7 +96,7 @@ resealed key f out₂ h a p size able same =
 pub second-half : SecondHalf
 second-half key f out out₂ bytes accepted marked control size =
     let w = opened-sealed key f out marked in
-    let s = secured-facts f (w .read) (w .sealed) in
+    let s = secured-facts f (w .reads) (w .on) in
     let run = opened-run key f out w s in
     let v = verified networkLevel micLength key f (wholeRead f) in
     let o : Openable networkLevel micLength key f (wholeRead f) (length out) = rw (s .read) at w in
@@ -114,11 +114,6 @@ pub seal-then-open-run : (key : List ℕ) (h : NwkHeader) (a : OptionAuxHeader) 
 seal-then-open-run key h a p out out₂ w frame r o ew ef er eo =
     (λ i. record { answer = er i; out = eo i }) ∙ (λ i. openFrame key (take (ew i .length) (ef i)) out₂)
 
--- reading's number goes before every other of opening's
-read-first : (key f o : List ℕ) → openRefusal networkLevel micLength key f (readFrame f) (length o) ≡ 0 → readFrame f .refusal ≡ 0
-unfolding openRefusal openRefusals
-read-first key f o e = none _ (none _ e .0) .0
-
 -- without an auxiliary header sealing is refused, whatever the payload
 refused-alike : (n : ℕ) (cs ds : List Condition) (bs bs′ o : List ℕ)
     → written (firstOf (by n ∷ on 14 true ∷ cs)) bs o ≡ written (firstOf (by n ∷ on 14 true ∷ ds)) bs′ o
@@ -134,14 +129,12 @@ unsealable key h p p′ o = refused-alike (fieldRefusal h) _ _ _ _ o
 pub sealed-alike : (key f out out₂ : List ℕ)
     → sealFrame key (openFrame key f out .answer .header) (openFrame key f out .answer .aux) (payloadIn (openFrame key f out .answer) f (openFrame key f out .out)) out₂
     ≡ openThenSeal key f out out₂
-unfolding openFrame openBy openRefused
+unfolding openFrame openRefused
 sealed-alike key f out out₂ =
     let again : opening.Run → List ℕ → writing.Run = λ r p. sealFrame key (r .answer .header) (r .answer .aux) p out₂ in
-    unless-either (λ (r : opening.Run). again r (payloadIn (r .answer) f (r .out)) ≡ again r (payloadGiven r)) (openRefusal networkLevel micLength key f (readFrame f) (length out)) _ _
-    (λ e. given-either (λ (r : opening.Run). again r (payloadIn (r .answer) f (r .out)) ≡ again r (payloadGiven r)) f (readFrame f) (verified networkLevel micLength key f (readFrame f)) out (λ s. refl)
-    (λ off.
-    let absent = ap (λ (r : FrameRead). r .aux) (clear-facts f (read-first key f out e) off .read) in
-    rw absent (unsealable key (readFrame f .header) _ _ out₂)))
+    run-either networkLevel micLength key f (readFrame f) out (λ (r : opening.Run). again r (payloadIn (r .answer) f (r .out)) ≡ again r (payloadGiven r))
+    (λ w. refl)
+    (λ e off. rw (ap (λ (r : FrameRead). r .aux) (clear-facts f e off .read)) (unsealable key (readFrame f .header) _ _ out₂))
     refl
 
 pub open-then-seal-run : (key f out out₂ : List ℕ) (d : FrameOpened) (o p : List ℕ) (w : Written) (b : List ℕ)

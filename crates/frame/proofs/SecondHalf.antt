@@ -25,7 +25,8 @@ use Rattle.frame.specs.Reading.{secured, auxBehind, frameRefusal, frameR
 use Rattle.frame.specs.Security.{sentLevel, atLevel, orBlank, nonce, authenticated}
 use Rattle.frame.specs.Sealing.{generated, sealedBytes, sealedLength}
 use Rattle.frame.specs.Opening.{isSealed, behind, ciphertextOf, micOf, verified}
-use Rattle.frame.proofs.Accepted.{Sealable, Openable, frame-refusal}
+use Rattle.frame.specs.Marks.{Openable}
+use Rattle.frame.proofs.Accepted.{Sealable, frame-refusal}
 use Rattle.frame.proofs.FirstHalf.{secured-frame}
 
 -- ---- a frame that was read and has an auxiliary header

@@ -9,9 +9,10 @@ use Prim.Native.Nat.{ℕ, _-_, _≤_}
 use lib.ListN.{length, drop}
 use lib.Dec.{ltb}
 use Rattle.octets.specs.Refusals.{on, by, firstOf}
+use Rattle.header.specs.declared.auxiliary.NwkSecurityLevel.{NwkSecurityLevel}
 use Rattle.ccm.specs.Verification.{Verified}
 use Rattle.ccm.specs.Operations.{micLength}
-use Rattle.frame.specs.declared.{OptionAuxHeader.OptionAuxHeader, Mark.Mark}
+use Rattle.frame.specs.declared.{OptionAuxHeader.OptionAuxHeader, FrameRead.FrameRead, Mark.Mark}
 use Rattle.frame.specs.Reading.{readFrame}
 use Rattle.frame.specs.Security.{networkLevel, orBlank, noIeee}
 use Rattle.frame.specs.Opening.{isSealed, behind, verified, sealedGiven, clearGiven, openFrame, payloadIn}
@@ -48,14 +49,17 @@ ClearOnly = (key f o : List ℕ) → openFrame key f o .answer .mark ≡ Mark.Cl
 abbrev pub ccmOf : List ℕ → List ℕ → Verified
 ccmOf key f = verified networkLevel micLength key f (readFrame f)
 
--- the conditions on which a frame is opened
-pub record IsOpened (key f o : List ℕ) : Type 0 where
-  pub reads : readFrame f .refusal ≡ 0
-  pub secured : isSealed (readFrame f .header) ≡ true
-  pub ieee : noIeee (readFrame f .header) (orBlank (readFrame f .aux)) ≡ false
-  pub tagged : micLength ≤ length (behind f (readFrame f))
-  pub fits : length (behind f (readFrame f)) - micLength ≤ length o
-  pub valid : ccmOf key f .valid ≡ true
+-- the conditions on which a frame is opened: at level l with a tag of t bytes, r being what reading it answers
+pub record Openable (l : NwkSecurityLevel) (t : ℕ) (key f : List ℕ) (r : FrameRead) (room : ℕ) : Type 0 where
+  pub reads : r .refusal ≡ 0
+  pub on : isSealed (r .header) ≡ true
+  pub ieee : noIeee (r .header) (orBlank (r .aux)) ≡ false
+  pub tagged : t ≤ length (behind f r)
+  pub fits : length (behind f r) - t ≤ room
+  pub valid : verified l t key f r .valid ≡ true
+
+abbrev pub IsOpened : List ℕ → List ℕ → List ℕ → Type 0
+IsOpened key f o = Openable networkLevel micLength key f (readFrame f) (length o)
 
 -- on these the headers are as read, and what CCM opened stands at the front of the output
 abbrev pub SealedAccepted : Type 0

@@ -12,7 +12,6 @@ use Rattle.octets.specs.Strings.{tab, Below}
 use Rattle.octets.specs.Numbers.{le, leAt}
 use Rattle.octets.proofs.Strings.{length-tab, drop-below}
 use Rattle.octets.proofs.Numbers.{leAt-le}
-use Rattle.octets.proofs.Conditions.{unless-either, none}
 use Rattle.header.specs.Control.{controlOf}
 use Rattle.header.specs.Reading.{relaysOf, headerBy, blankHeader, readHeader}
 use Rattle.header.specs.Auxiliary.{blankAux}
@@ -22,9 +21,10 @@ use Rattle.header.proofs.ReadFacts.{header-facts, aux-facts}
 use Rattle.frame.specs.declared.{OptionAuxHeader.OptionAuxHeader, Mark.Mark, FrameOpened.FrameOpened}
 use Rattle.frame.specs.Reading.{auxIf, readFrame}
 use Rattle.frame.specs.Security.{networkLevel}
-use Rattle.frame.specs.Opening.{isSealed, behind, verified, openRefusals, openRefusal, openRefused, Run, sealedGiven, clearGiven, openBy, openFrame}
+use Rattle.frame.specs.Opening.{isSealed, behind, verified, openRefused, Run, sealedGiven, clearGiven, openFrame}
+use Rattle.frame.specs.Marks.{Openable}
 use Rattle.frame.specs.SealingLaw.{AuxOptionFits}
-use Rattle.frame.proofs.Accepted.{given-either, Openable, openable}
+use Rattle.frame.proofs.Accepted.{run-either}
 use Rattle.frame.proofs.ClearFrames.{clear-facts}
 use Rattle.frame.proofs.SecondHalf.{secured-facts, payload-length}
 use Rattle.records.specs.HeaderRecord.{headerRecord, headerOf}
@@ -80,7 +80,7 @@ opened-back o f =
 sealed-fits : (key f o : List ℕ) → Below 256 f → length o < 2 ^ 16 → Openable networkLevel 4 key f (readFrame f) (length o)
     → AnswerFits (sealedGiven (readFrame f) (verified networkLevel 4 key f (readFrame f)) o .answer)
 sealed-fits key f o u s p =
-    let facts = secured-facts f (p .read) (p .sealed) in
+    let facts = secured-facts f (p .reads) (p .on) in
     let hf = header-facts f u (facts .header) in
     let af = aux-facts (drop (readHeader f .length) f) (drop-below f (readHeader f .length) 256 u) (facts .aux) in
     let size = payload-length networkLevel 4 key f (readFrame f) in
@@ -96,12 +96,9 @@ clear-fits f o u e off =
     record { short = omega (arith, size, hf .short); header = rw (facts .read) (hf .fits); relays = rw (facts .read) (hf .places); aux = rw (facts .read) tt }
 
 pub answer-fits : (key f o : List ℕ) → Below 256 f → length o < 2 ^ 16 → AnswerFits (openFrame key f o .answer)
-unfolding openFrame openBy openRefused openRefusal openRefusals blankHeader headerBy relaysOf
+unfolding openFrame openRefused blankHeader headerBy relaysOf
 answer-fits key f o u s =
-    unless-either (λ (r : Run). AnswerFits (r .answer)) (openRefusal networkLevel 4 key f (readFrame f) (length o)) _ _
-    (λ e. given-either (λ (r : Run). AnswerFits (r .answer)) f (readFrame f) (verified networkLevel 4 key f (readFrame f)) o
-    (λ bit. sealed-fits key f o u s (openable networkLevel 4 key f (readFrame f) (length o) e bit))
-    (clear-fits f o u (none _ (none _ e .0) .0)))
+    run-either networkLevel 4 key f (readFrame f) o (λ (r : Run). AnswerFits (r .answer)) (sealed-fits key f o u s) (clear-fits f o u)
     (record { short = omega arith; header = read-fits [] (controlOf 0) (λ i. omega arith); relays = length-tab _ 54; aux = tt })
 
 -- so its record says it again

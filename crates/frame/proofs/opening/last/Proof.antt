@@ -1,7 +1,7 @@
 -- `last` meets its contract: as many as asked for, or all. Assumes nothing.
 use borrow.Author.Needs.{needs}
-use mathlib.Core.Path.{_≡_, refl, sym, ap, _∙_}
-use Prim.Native.Nat.{_-_}
+use mathlib.Core.Path.{_≡_, sym, ap, _∙_}
+use Prim.Native.Nat.{ℕ, _-_}
 use native.Mathlib.Omega.{arith}
 use lib.ListN.{length, drop}
 use lib.Seq.{take-length}
@@ -19,7 +19,7 @@ returns-2 : tie.Need-returns-2
 returns-2 c =
     let a = c .before .before .args in
     let none : 0 ≡ length (a .bytes .now) - a .n = omega (arith, c .before .if1 .left) in
-    take-length (a .bytes .now) ∙ ap (λ (k : Prim.Native.Nat.ℕ). drop k (a .bytes .now)) none
+    take-length (a .bytes .now) ∙ ap (λ (k : ℕ). drop k (a .bytes .now)) none
 
 pub last-spec : {M : Type 1} → statement M
 last-spec =

@@ -1,7 +1,6 @@
 -- `payload` meets its contract: the mark says which slice. Assumes nothing.
 use borrow.Author.Needs.{needs}
 use mathlib.Core.Path.{sym, ap, _∙_}
-use lib.ListN.{take}
 use Rattle.frame.proofs.opening.payload.Statement.{statement}
 use Rattle.frame.proofs.opening.payload.Tie as tie
 use Rattle.frame.specs.declared.Mark.{Mark}
