@@ -11,6 +11,7 @@ use lib.Seq.{drop-at}
 use lib.Dec.{eqb, ltb}
 use Rattle.octets.specs.Refusals.{unless, Condition, on, by, firstOf}
 use Rattle.octets.proofs.Strings.{take-over}
+use Rattle.header.specs.declared.control.NwkFrameControl.{NwkFrameControl}
 use Rattle.header.specs.Reading.{headerRefusal, readHeader, optionalRefusals}
 use Rattle.header.specs.Auxiliary.{auxRefusal, readAux}
 use Rattle.header.proofs.ReadFacts.{header-number, aux-number}
@@ -19,9 +20,11 @@ use Rattle.frame.specs.declared.{FrameRead.FrameRead, FrameOpened.FrameO
 use Rattle.frame.specs.Reading.{secured, auxBehind, frameRefusal, frameNumber, readFrame}
 use Rattle.frame.specs.Security.{networkLevel, orBlank, noIeee}
 use Rattle.frame.specs.Opening.{isSealed, lastOf, behind, openRefusals, openRefusal, openRefused, Run, clearGiven, openFrame, payloadIn}
-use Rattle.frame.specs.Marks.{IsClear, ClearAccepted, ClearOnly, ccmOf, SealedAccepted, SealedOnly, SecuredNumbers, MarkedIfAccepted, PayloadOfClear, PayloadOfSealed, PayloadOfRefused, PayloadLength, NoFourteen}
+use Rattle.frame.specs.Writing.{writeFrame}
+use Rattle.frame.specs.SealingLaw.{bytesWritten}
+use Rattle.frame.specs.Marks.{IsClear, ClearAccepted, ClearOnly, ccmOf, SealedAccepted, SealedOnly, SecuredNumbers, MarkedIfAccepted, PayloadOfClear, PayloadOfSealed, PayloadOfRefused, PayloadLength, NoFourteen, WrittenOpensClear}
 use Rattle.frame.proofs.Accepted.{frame-refusal, counts, run-either, sealed-run, clear-run, marked-sealed, marked-clear, marked, unmarked}
-use Rattle.frame.proofs.ClearFrames.{clear-facts}
+use Rattle.frame.proofs.ClearFrames.{clear-facts, clear-back}
 use Rattle.frame.proofs.Opened.{number-is, open-refused}
 
 -- ---- clear
@@ -160,3 +163,14 @@ unfolding openRefusal openRefusals
 no-fourteen key f o e =
     let keyless = openRefusals micLength (readFrame f .refusal) (readFrame f .header) (readFrame f .aux) (length (behind f (readFrame f))) (length o) in
     never 14 _ (λ z. omega arith) (never 14 keyless (λ z. omega arith) (read-never f, (refl, (refl, (refl, tt)))), (refl, tt)) (sym (number-is key f o) ∙ e)
+
+-- ---- what was written without a key
+
+pub written-opens-clear : WrittenOpensClear
+written-opens-clear key h p out o fits accepted off agrees =
+    let f = bytesWritten (writeFrame h p out) in
+    let back = clear-back h p out fits accepted off agrees in
+    let clear : IsClear f = record { reads = back .accepted; off = ap (λ (c : NwkFrameControl). c .security) (sym (back .header .control)) ∙ off } in
+    let run = run-of-clear key f o clear in
+    let marked = ap (λ (r : Run). r .answer .mark) run in
+    record { marked = marked; header = rw run (back .header); payload = payload-of-clear key f o marked ∙ back .payload }

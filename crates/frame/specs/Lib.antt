@@ -1,8 +1,8 @@
--- NWK frames: reading, writing without a key, sealing and opening, the marks, and the sealing law.
+-- NWK frames: reading, writing without a key, sealing and opening, the sealing law, and the marks.
 pub mod Reading
 pub mod Writing
 pub mod Security
 pub mod Sealing
 pub mod Opening
-pub mod Marks
 pub mod SealingLaw
+pub mod Marks

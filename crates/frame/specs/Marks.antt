@@ -9,13 +9,16 @@ use Prim.Native.Nat.{ℕ, _-_, _≤_}
 use lib.ListN.{length, drop}
 use lib.Dec.{ltb}
 use Rattle.octets.specs.Refusals.{on, by, firstOf}
-use Rattle.header.specs.declared.auxiliary.NwkSecurityLevel.{NwkSecurityLevel}
+use Rattle.header.specs.declared.{auxiliary.NwkSecurityLevel.NwkSecurityLevel, nwk.NwkHeader.NwkHeader}
+use Rattle.header.specs.Same.{Agrees, SameHeader, HeaderFits}
 use Rattle.ccm.specs.Verification.{Verified}
 use Rattle.ccm.specs.Operations.{micLength}
 use Rattle.frame.specs.declared.{OptionAuxHeader.OptionAuxHeader, FrameRead.FrameRead, Mark.Mark}
 use Rattle.frame.specs.Reading.{readFrame}
 use Rattle.frame.specs.Security.{networkLevel, orBlank, noIeee}
+use Rattle.frame.specs.Writing.{writeFrame}
 use Rattle.frame.specs.Opening.{isSealed, behind, verified, sealedGiven, clearGiven, openFrame, payloadIn}
+use Rattle.frame.specs.SealingLaw.{bytesWritten}
 
 -- the payload handed back of the frame f, opened under key into o
 abbrev pub handedBack : List ℕ → List ℕ → List ℕ → List ℕ
@@ -113,3 +116,18 @@ PayloadLength = (key f o : List ℕ) → length (handedBack key f o) ≡ openFra
 
 abbrev pub NoFourteen : Type 0
 NoFourteen = (key f o : List ℕ) → openFrame key f o .answer .refusal ≡ 14 → ⊥
+
+-- ---- what was written without a key
+
+-- opened from the frame f, under key into o, it is clear, and header and payload are those that were written
+pub record WrittenBack (h : NwkHeader) (p key f o : List ℕ) : Type 0 where
+  pub marked : openFrame key f o .answer .mark ≡ Mark.Clear
+  pub header : SameHeader h (openFrame key f o .answer .header)
+  pub payload : handedBack key f o ≡ p
+
+-- where the security bit is off and each presence bit agrees with its field
+abbrev pub WrittenOpensClear : Type 0
+WrittenOpensClear =
+    (key : List ℕ) (h : NwkHeader) (p out o : List ℕ) → HeaderFits h → writeFrame h p out .answer .refusal ≡ 0
+    → h .«frame_control» .security ≡ false → Agrees h
+    → WrittenBack h p key (bytesWritten (writeFrame h p out)) o
