@@ -9,7 +9,7 @@
  * 0: accepted), in bit 40 of nwk_open's answer whether the frame was clear (NWK_CLEAR), the other bits 0. A refusal has length 0
  * and leaves every lent byte as it was, records included. Where nothing is refused, each result stands at the front of its
  * buffer (each frame's of a burst at the front of its own part) and the rest of the buffer stays. Refusals are checked in the
- * order in which each function's comment lists those that it can answer: rising, but for 20, which is first of all.
+ * order in which each function's comment lists those that it can answer, which need not be that of their numbers.
  *
  * Example:
  *
@@ -41,8 +41,8 @@
 extern "C" {
 #endif
 
-#define NWK_VERSION "0.4.0"
-#define NWK_VERSION_NUMBER 0x000400
+#define NWK_VERSION "0.5.0"
+#define NWK_VERSION_NUMBER 0x000500
 
 #ifdef __cplusplus
 #define NWK_CAST(type, value) static_cast<type>(value)
@@ -86,7 +86,8 @@ enum nwk_refusal {
   NWK_REFUSED_LENGTH = 17,
   NWK_REFUSED_NO_ROOM = 18,
   NWK_REFUSED_WRONG_MIC = 19,
-  NWK_REFUSED_BURST = 20
+  NWK_REFUSED_BURST = 20,
+  NWK_REFUSED_LAST_COUNTER = 21
 };
 
 /* ---- records
@@ -136,7 +137,7 @@ enum nwk_refusal {
  *        2      1  key identifier, 0 to 3
  *        3      1  extended nonce bit
  *        4      1  verified frame counter bit
- *        5      4  frame counter
+ *        5      4  frame counter; FFFFFFFF is read, written and opened, and not sealed
  *        9      1  presence of the IEEE
  *       10      8  IEEE, in wire order
  *       18      1  key sequence number
@@ -297,8 +298,9 @@ uint64_t nwk_write_frame(const uint8_t *header, size_t header_len, const uint8_t
 
 /* Seal a frame. The level in the auxiliary record does not matter: level 5 is authenticated and level 0 is sent. Length: the
  * frame's bytes. Refusals: 13 a record; 14 the auxiliary record's presence byte is 0, whatever its other bytes are; 15 neither
- * record has an IEEE for the nonce (the auxiliary one, else the header's source); 17 a payload over 108 or a frame over 118; 18
- * out shorter than the frame. Afterwards out holds the frame in its first bytes. */
+ * record has an IEEE for the nonce (the auxiliary one, else the header's source); 21 the auxiliary record's counter is FFFFFFFF,
+ * which receivers throw away; 17 a payload over 108 or a frame over 118; 18 out shorter than the frame.
+ * Afterwards out holds the frame in its first bytes. */
 uint64_t nwk_seal(uint64_t key_first, uint64_t key_second, const uint8_t *header, size_t header_len,
                   const uint8_t *auxiliary, size_t auxiliary_len, const uint8_t *payload, size_t payload_len, uint8_t *out,
                   size_t out_len);
@@ -335,7 +337,7 @@ uint64_t nwk_open_burst(uint64_t key_first, uint64_t key_second, const uint8_t *
 #define NWK_PAYLOAD_COMMAND 1
 
 /* What the payload of a frame of this type is, in place of the length: NWK_PAYLOAD_COMMAND for type 1, else
- * NWK_PAYLOAD_OPAQUE. Refusals: 13 a code that is no frame type, 2 or above 3. */
+ * NWK_PAYLOAD_OPAQUE. Refusals: 13 a code that is no frame type: 2 or above 3. */
 uint64_t nwk_payload_kind(uint8_t frame_type);
 
 /* ---- commands */
@@ -406,6 +408,7 @@ static inline const char *nwk_refusal_text(uint8_t refusal) {
       "the MIC is not the one computed",
       "a burst has more than 16 lengths, they do not add up to the bytes lent, the output is shorter than 108 times "
       "their number, or the list for the answers is shorter than their number",
+      "the counter to be sealed is FFFFFFFF",
   };
   return refusal < sizeof texts / sizeof texts[0] ? texts[refusal] : "a number that the list does not have";
 }

@@ -286,6 +286,9 @@ static void auxiliary_record(struct buffer *b) {
   r[2] %= 4;
   r[3] %= 2;
   r[4] %= 2;
+  if (percent(8)) {
+    memset(r + NWK_AUXILIARY_COUNTER, 0xFF, 4);
+  }
   r[9] = percent(10) ? r[3] ^ 1 : r[3];
 }
 

@@ -106,7 +106,7 @@ pub fn write(header: &NwkHeader, payload: &[u8], out: &mut [u8]) -> Result<usize
 ///
 /// # Errors
 ///
-/// Refusals 13, 14, 15, 17, 18.
+/// Refusals 13, 14, 15, 21, 17, 18, in this order: a counter of [`u32::MAX`] is not sealed, however long the payload.
 pub fn seal(
     key: &Key,
     header: &NwkHeader,

@@ -330,7 +330,8 @@ pub struct NwkSecurityHeaderControlField {
 pub struct NwkAuxHeader {
     /// The security control byte.
     pub security_control: NwkSecurityHeaderControlField,
-    /// A number that each sealed frame of a device raises. Under one key no device may seal two frames with the same one.
+    /// A number that each sealed frame of a device raises. Under one key no device may seal two frames with the same one. The last
+    /// one, [`u32::MAX`], is not sealed (21), because receivers throw its frames away; opening accepts it.
     pub frame_counter: u32,
     /// The long address of the device that sealed the frame: on each hop the one that sends.
     pub extended_source: Option<Eui64>,

@@ -38,6 +38,7 @@ refusals! {
     NO_ROOM = 18, "the lent output is shorter than what is to be written";
     WRONG_MIC = 19, "the MIC is not the one computed";
     BURST = 20, "a burst has more than 16 lengths, they do not add up to the bytes lent, the output is shorter than 108 times their number, or the list for the answers is shorter than their number";
+    LAST_COUNTER = 21, "the counter to be sealed is FFFFFFFF";
 }
 
 /// A refusal. Nothing that was lent to the operation has changed.
@@ -48,7 +49,7 @@ refusals! {
 /// let refusal = read(&[0x08, 0x00, 0x00]).unwrap_err();
 /// assert_eq!(refusal.number(), 2);
 /// assert_eq!(refusal.to_string(), "refused by 2: a header has fewer than 8 bytes");
-/// assert_eq!(Refusal::all().count(), 20);
+/// assert_eq!(Refusal::all().count(), 21);
 ///
 /// let why = match refusal {
 ///     Refusal::WRONG_MIC => "damaged, or another key",

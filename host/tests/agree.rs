@@ -69,7 +69,7 @@ fn c_and_rust_get_the_same_answers() {
     let printed = String::from_utf8(run.stdout).expect("lines of text");
     let mut calls = [0; OPERATIONS.len()];
     let mut accepted = [0; OPERATIONS.len()];
-    let mut clear = 0;
+    let (mut clear, mut last_counter) = (0, 0);
     for line in printed.lines() {
         let (call, from_c) = parsed(line).unwrap_or_else(|| panic!("a line that says no call: {line}"));
         let from_rust = perform(&call, FILL, 0x69);
@@ -79,11 +79,13 @@ fn c_and_rust_get_the_same_answers() {
         calls[call.operation as usize] += 1;
         accepted[call.operation as usize] += usize::from(from_c.refusal() == 0);
         clear += usize::from(from_c.clear());
+        last_counter += usize::from(from_c.refusal() == 21);
     }
     println!("{} lines, accepted by operation {accepted:?}, {clear} clear frames", printed.lines().count());
     assert_eq!(printed.lines().count(), ROUNDS * OPERATIONS.len());
     assert_eq!(calls, [ROUNDS; OPERATIONS.len()]);
     assert!(accepted.iter().all(|&n| n >= ROUNDS / 8), "accepted by operation {accepted:?}");
     let sealed = accepted[Operation::Open as usize] - clear;
+    assert!(last_counter >= ROUNDS / 50, "{last_counter} calls refused by 21");
     assert!(clear >= ROUNDS / 20 && sealed >= ROUNDS / 20, "{clear} clear and {sealed} sealed frames opened");
 }

@@ -483,15 +483,16 @@ fn sealing_writes_the_frame_that_another_implementation_made() {
 
 #[test]
 fn each_sealed_frame_has_the_next_counter_and_what_fails_is_said() {
-    let clear = format!("0800000034121E07AA\n{SEALED}\n0800000034121E\n0800000034121E07BB\n0800000034121E07CC\n");
-    let ran = run(&["seal", "--key", KEY, "--ieee", "0807060504030201", "--counter", "4294967294"], clear.as_bytes());
+    let clear = format!("0800000034121E07AA\n{SEALED}\n0800000034121E\n0800000034121E07BB\n0800000034121E07CC\n0800000034121E07DD\n");
+    let ran = run(&["seal", "--key", KEY, "--ieee", "0807060504030201", "--counter", "4294967293"], clear.as_bytes());
     let errors = "store-reader: line 2: the frame is sealed already\n\
                   store-reader: line 3: refused by 2: a header has fewer than 8 bytes\n\
-                  store-reader: line 5: the frame counter is used up\n";
+                  store-reader: line 5: refused by 21: the counter to be sealed is FFFFFFFF\n\
+                  store-reader: line 6: refused by 21: the counter to be sealed is FFFFFFFF\n";
     assert_eq!((ran.err.as_str(), ran.status), (errors, 1));
     let opened = run(&["open", "--key", KEY], ran.out.as_bytes());
-    let expected = "   1  data      0x1234 -> 0x0000  sequence 7  counter 4294967294  payload 1 byte: AA\n   \
-                    2  data      0x1234 -> 0x0000  sequence 7  counter 4294967295  payload 1 byte: BB\n\
+    let expected = "   1  data      0x1234 -> 0x0000  sequence 7  counter 4294967293  payload 1 byte: AA\n   \
+                    2  data      0x1234 -> 0x0000  sequence 7  counter 4294967294  payload 1 byte: BB\n\
                     2 frames: 2 opened, 0 refused\n";
     assert_eq!(opened.out, expected);
 }

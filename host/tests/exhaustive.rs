@@ -8,10 +8,10 @@ use support::calls::{Call, Outcome};
 use support::compare::compare;
 use support::generate::{commands, headers};
 use support::model::auxiliary::{record as auxiliary_record, Auxiliary};
-use support::model::frame;
+use support::model::{frame, LAST_COUNTER};
 use support::model::header::{self, Header, SourceRoute};
 use support::operations::{
-    Operation, AUXILIARY_RECORD, COMMAND_RECORD, HEADER_RECORD, MARK_CLEAR, MARK_SEALED, OPENED_MARK, OPENED_RECORD,
+    Operation, AUXILIARY_COUNTER, AUXILIARY_RECORD, COMMAND_RECORD, HEADER_RECORD, MARK_CLEAR, MARK_SEALED, OPENED_MARK, OPENED_RECORD,
     PART,
 };
 use support::random::Random;
@@ -257,6 +257,23 @@ fn every_byte_of_an_auxiliary_record() {
     let accepted = |at: usize| accepted_values(Operation::WriteAuxiliary, &record, at, 14);
     assert_eq!([0, 1, 2, 3, 4, 9].map(accepted), [1, 8, 4, 2, 2, 2]);
     assert!((5..9).chain(10..AUXILIARY_RECORD).all(|at| accepted(at) == 256));
+}
+
+/// Each value of each byte of the counter, the other three being `FF`: only where all four are is sealing refused, by 21. Writing
+/// the auxiliary header takes every value, as the test above has it.
+#[test]
+fn every_byte_beside_the_last_counter() {
+    let mut random = Random::new(SEED + 9);
+    let (header, _) = header::read(&SECURED).expect("the shortest header");
+    let ieee = Some(random.array());
+    for (at, value) in AUXILIARY_COUNTER.flat_map(|at| (0..=255).map(move |value| (at, value))) {
+        let auxiliary = Auxiliary { counter: LAST_COUNTER, extended_nonce: true, ieee, ..headers::auxiliary(&mut random) };
+        let mut record = auxiliary_record(&Some(auxiliary));
+        record[at] = value;
+        let inputs = vec![header.record(), record, random.bytes(2)];
+        let sealed = compare(&Call { operation: Operation::Seal, key: KEY, inputs, rooms: vec![118] }, FILL, 0x5A);
+        assert_eq!(sealed.answer, if value == 0xFF { 21 << 32 } else { 8 + 14 + 2 + 4 }, "{value:02X} at {at}");
+    }
 }
 
 /// Identifier, offset in the record, and how many values document 01 declares.

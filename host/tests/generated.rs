@@ -7,6 +7,7 @@ use support::burst_tally::BurstTally;
 use support::calls::Call;
 use support::clear_tally::ClearTally;
 use support::compare::compare;
+use support::counter_tally::CounterTally;
 use support::generate;
 use support::header_comments;
 use support::operations::{Extent, Operation, OPERATIONS};
@@ -22,23 +23,27 @@ const AT_LEAST: usize = 10;
 #[test]
 fn every_operation_answers_as_the_model() {
     let mut random = Random::new(SEED);
-    let (mut tally, mut bursts, mut clear) = (Tally::new(), BurstTally::default(), ClearTally::default());
+    let (mut tally, mut bursts) = (Tally::new(), BurstTally::default());
+    let (mut clear, mut counters) = (ClearTally::default(), CounterTally::default());
     for number in 0..CALLS_EACH {
         for operation in OPERATIONS {
             let generated = generate::call(operation, number, &mut random);
             let outcome = compare(&generated.call, random.byte(), random.byte());
             tally.count(&generated.call, &outcome, &generated.exact);
             clear.count(&generated.call, &outcome);
+            counters.count(&generated.call, &outcome);
             if operation == Operation::OpenBurst {
                 bursts.count(&generated.call, &outcome);
             }
         }
     }
-    println!("{} calls\n{}\n{}\n{}", tally.all_calls(), tally.report(), bursts.report(), clear.report());
+    println!("{} calls\n{}\n{}", tally.all_calls(), tally.report(), bursts.report());
+    println!("{}\n{}", clear.report(), counters.report());
     assert!(tally.all_calls() >= CALLS_IN_ALL);
     OPERATIONS.into_iter().for_each(|operation| check_tally(&tally, operation));
     bursts.check(AT_LEAST);
     clear.check(AT_LEAST);
+    counters.check(AT_LEAST);
     // "Opening no longer gives 14, sealing still does"; of a burst's frames its own tally says so.
     assert_eq!(tally.answers(Operation::Open, 14), 0);
     assert!(tally.answers(Operation::Seal, 14) >= AT_LEAST);

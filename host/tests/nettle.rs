@@ -8,9 +8,12 @@ use support::calls::{check_boundary, length_of, list_of, payload_of, perform, Ca
 use support::generate::headers::{auxiliary, header};
 use support::generate::sealed::ccm_inputs;
 use support::model::auxiliary::record as auxiliary_record;
-use support::model::{aes, ccm, frame, header as model_header, MAX_CCM, MAX_FRAME};
+use support::model::{aes, ccm, frame, header as model_header, LAST_COUNTER, MAX_CCM, MAX_FRAME};
 use support::nettle::Nettle;
-use support::operations::{Operation, MARK_CLEAR, MARK_SEALED, MAX_BURST, MIC, OPENED_MARK, OPENED_RECORD, PART};
+use support::operations::{
+    Operation, AUXILIARY_COUNTER, HEADER_RECORD, MARK_CLEAR, MARK_SEALED, MAX_BURST, MIC, OPENED_HEADER, OPENED_MARK,
+    OPENED_RECORD, PART,
+};
 use support::random::Random;
 
 const SEED: u64 = 0x0E77_1E00;
@@ -118,6 +121,10 @@ fn sealed_frames_carry_the_ciphertext_of_nettle() {
             assert_eq!(sealed.refusal(), 15);
             continue;
         };
+        if auxiliary.counter == LAST_COUNTER {
+            assert_eq!(sealed.refusal(), 21);
+            continue;
+        }
         if sealed.refusal() == 17 {
             continue;
         }
@@ -135,10 +142,16 @@ fn sealed_frames_carry_the_ciphertext_of_nettle() {
     assert!(compared >= ROUNDS / 2);
 }
 
-/// A frame as nettle seals it, or the model where nettle is missing, and its payload.
-fn sealed_outside(nettle: Option<&Nettle>, key: &[u8; 16], random: &mut Random) -> (Vec<u8>, Vec<u8>) {
+/// A frame as nettle seals it, or the model where nettle is missing, and its payload; with this counter, or any.
+fn sealed_outside(
+    nettle: Option<&Nettle>,
+    key: &[u8; 16],
+    counter: Option<[u8; 4]>,
+    random: &mut Random,
+) -> (Vec<u8>, Vec<u8>) {
     loop {
-        let (header, auxiliary) = (header(100, random), auxiliary(random));
+        let (header, mut auxiliary) = (header(100, random), auxiliary(random));
+        auxiliary.counter = counter.unwrap_or(auxiliary.counter);
         let n = random.below(60);
         let payload = random.bytes(n);
         let Some(ieee) = frame::nonce_ieee(&header, &auxiliary) else {
@@ -157,10 +170,29 @@ fn sealed_outside(nettle: Option<&Nettle>, key: &[u8; 16], random: &mut Random) 
     }
 }
 
+/// "Opening still accepts the old one": frames that were sealed outside with the last counter open to their payload, marked
+/// sealed, and sealing what was given is refused by 21 (document 02, request 4).
+#[test]
+fn frames_of_the_last_counter_sealed_by_nettle_are_opened() {
+    let nettle = nettle();
+    let mut random = Random::new(SEED + 4);
+    for _ in 0..ROUNDS / 10 {
+        let key = random.array();
+        let (bytes, payload) = sealed_outside(nettle.as_ref(), &key, Some(LAST_COUNTER), &mut random);
+        let opened = made(Operation::Open, key, vec![bytes], vec![OPENED_RECORD, payload.len()]);
+        assert_eq!((opened.answer, opened.outputs[0][OPENED_MARK]), (payload.len() as u64, MARK_SEALED));
+        assert_eq!(opened.outputs[1], payload);
+        let (header, auxiliary) = opened.outputs[0][OPENED_HEADER..].split_at(HEADER_RECORD);
+        assert_eq!(auxiliary[AUXILIARY_COUNTER], LAST_COUNTER);
+        let inputs = vec![header.to_vec(), auxiliary.to_vec(), payload];
+        assert_eq!(made(Operation::Seal, key, inputs, vec![MAX_FRAME]).answer, 21 << 32);
+    }
+}
+
 /// A frame of a burst, the mark that it must have, and its payload: sealed outside; with a bit of ciphertext or MIC flipped,
 /// which is refused; or with its security bit off, which is clear, all behind the header being payload.
 fn sent(nettle: Option<&Nettle>, key: &[u8; 16], random: &mut Random) -> (Vec<u8>, u8, Vec<u8>) {
-    let (mut bytes, payload) = sealed_outside(nettle, key, random);
+    let (mut bytes, payload) = sealed_outside(nettle, key, None, random);
     match random.below(8) {
         0 | 1 => {
             let last = bytes.len() - 1 - random.below(payload.len() + MIC);

@@ -1,2 +1,3 @@
--- The starred cases of document 01 hold.
+-- The cases of both tables hold.
 pub mod Starred
+pub mod LastCounter

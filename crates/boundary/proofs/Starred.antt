@@ -15,9 +15,10 @@ use Rattle.commands.specs.Format.{heldParts, heldField, heldFields, heldEntries
 use Rattle.commands.specs.Commands.{leaveFormat, leaveOf, leaveValues, timeoutRequestFormat, timeoutRequestBy, timeoutRequestOf, timeoutRequestValues, linkStatusFormat, linkStatusOf, linkStatusValues, linkOf, linkEntry, firsts}
 use Rattle.commands.specs.Reading.{formatOf, commandOf, places, withLists, listed, bodyOf, typedBy, typed, unparsed, parsed, readRefusal, readCommand}
 use Rattle.commands.specs.Writing.{wireOf, wire, wireBytes, commandBytes, overPlaces, misfits, fieldRefusal, writeRefusal, writeCommand, seconds, timeoutSeconds}
-use Rattle.boundary.specs.Starred.{All, starred, plainBytes, dataControl, routedControl, fromProbe, routedBytes, leaveWithRequest, timeout14, oneLink}
+use Rattle.boundary.specs.Rows.{All}
+use Rattle.boundary.specs.Starred.{Holds, starred, plainBytes, dataControl, routedControl, fromProbe, routedBytes, leaveWithRequest, timeout14, oneLink}
 
-pub starred-hold : All starred
+pub starred-hold : All Holds starred
 unfolding tab over heldParts heldField heldFields heldEntries heldValues le leAt fields packed unless firstOf written
     xtime productOfBits product bitPower power inverse bit affineBit ofBits affine sbox controlOf sourceAt multicastAt
     routeAt relaysAnnounced headerEnd optionalRefusals headerRefusal relaysOf headerBy blankHeader readHeader

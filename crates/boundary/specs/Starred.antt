@@ -52,10 +52,6 @@ Holds (isWritten c s) =
     writeCommand c lent ≡ record { answer = record { refusal = 0; length = length s }; out = s ++ drop (length s) lent }
 Holds (substitutes x y) = sbox x ≡ y
 
-abbrev pub All : List Case → Type 0
-All [] = Unit {0}
-All (c ∷ cs) = Holds c × All cs
-
 -- ---- what the rows name
 
 -- `08 00 00 00 34 12 1E 07`: data, version 2, source 0x1234, radius 30, sequence 7; and the same with a source route bit

@@ -7,8 +7,11 @@ use Prim.Native.Nat.{ℕ, _-_, _≤_}
 use native.Mathlib.Omega.{arith}
 use lib.ListN.{length}
 use lib.Dec.{ltb}
-use borrow.Author.Tests.{ltb-false, le-ltb, not-false}
+use borrow.Author.Tests.{ltb-false, le-ltb, ne-eqb, eqb-false, not-false}
 use Rattle.octets.specs.Refusals.{firstOf, unless}
+use Rattle.octets.specs.Writing.{written}
+use Rattle.octets.proofs.Strings.{take-over}
+use Rattle.octets.proofs.Writing.{write-accepted}
 use Rattle.octets.proofs.Conditions.{accepted, refused, answer-number, unless-either, none, none-refuse, or-false}
 use Rattle.header.specs.declared.{auxiliary.NwkSecurityLevel.NwkSecurityLevel, auxiliary.AuxRead.AuxRead, nwk.HeaderRead.HeaderRead, nwk.NwkHeader.NwkHeader}
 use Rattle.header.specs.Writing.{badHeader, fieldRefusal}
@@ -17,9 +20,17 @@ use Rattle.frame.specs.declared.{OptionAuxHeader.OptionAuxHeader, FrameR
 use Rattle.frame.specs.Reading.{frameRefused, frameGiven, frameNumber, frameBy}
 use Rattle.frame.specs.Security.{isAbsent, orBlank, noIeee}
 use Rattle.frame.specs.Writing.{frameBytes, frameWriteRefusal}
-use Rattle.frame.specs.Sealing.{sealedLength, lengthRefusals, sealRefusal}
+use Rattle.frame.specs.Sealing.{sealedLength, lengthRefusals, counterOf, lastCounter, sealRefusal}
+use Rattle.frame.specs.SealingLaw.{bytesWritten}
+use Rattle.frame.specs.LastCounter.{refusalWithout21}
 use Rattle.frame.specs.Marks.{Openable}
 use Rattle.frame.specs.Opening.{isSealed, behind, verified, openRefusals, openRefusal, openRefused, Run, sealedGiven, clearGiven, openGiven, openNothing, openBy}
+
+-- ---- writing
+
+-- the bytes of a writer that was not refused
+pub bytes-written : (n : ℕ) (bs o : List ℕ) → n ≡ 0 → bytesWritten (written n bs o) ≡ bs
+bytes-written n bs o e = ap bytesWritten (sym (write-accepted n n bs o refl e)) ∙ take-over o bs
 
 -- ---- sealing
 
@@ -31,9 +42,10 @@ pub record Sealable (t : ℕ) (h : NwkHeader) (a : OptionAuxHeader) (p : List �
   pub whole : sealedLength t h (orBlank a) p ≤ 118
   pub fits : sealedLength t h (orBlank a) p ≤ room
 
-pub sealable : (t : ℕ) (h : NwkHeader) (a : OptionAuxHeader) (p : List ℕ) (room : ℕ) → sealRefusal t h a p room ≡ 0 → Sealable t h a p room
-unfolding sealRefusal lengthRefusals fieldRefusal
-sealable t h a p room e =
+-- by the list without 21
+pub sealable-without : (t : ℕ) (h : NwkHeader) (a : OptionAuxHeader) (p : List ℕ) (room : ℕ) → refusalWithout21 t h a p room ≡ 0 → Sealable t h a p room
+unfolding refusalWithout21 lengthRefusals fieldRefusal
+sealable-without t h a p room e =
     let n = none _ e in
     let long = or-false (ltb 108 (length p)) (ltb 118 (sealedLength t h (orBlank a) p)) (n .1 .1 .1 .0) in
     record {
@@ -45,9 +57,9 @@ sealable t h a p room e =
       fits = ltb-false room (sealedLength t h (orBlank a) p) (n .1 .1 .1 .1 .0);
     }
 
-pub seal-accepts : (t : ℕ) (h : NwkHeader) (a : OptionAuxHeader) (p : List ℕ) (room : ℕ) → Sealable t h a p room → sealRefusal t h a p room ≡ 0
-unfolding sealRefusal lengthRefusals fieldRefusal firstOf unless
-seal-accepts t h a p room s =
+without-accepts : (t : ℕ) (h : NwkHeader) (a : OptionAuxHeader) (p : List ℕ) (room : ℕ) → Sealable t h a p room → refusalWithout21 t h a p room ≡ 0
+unfolding refusalWithout21 lengthRefusals fieldRefusal firstOf unless
+without-accepts t h a p room s =
     rw (
       s .good,
       s .present,
@@ -56,6 +68,22 @@ seal-accepts t h a p room s =
       le-ltb 118 (sealedLength t h (orBlank a) p) (s .whole),
       le-ltb room (sealedLength t h (orBlank a) p) (s .fits),
     ) refl
+
+-- by the list with it
+module _ (t : ℕ) (h : NwkHeader) (a : OptionAuxHeader) (p : List ℕ) (room : ℕ) where
+  pub number-without : (counterOf a ≡ lastCounter → ⊥) → sealRefusal t h a p room ≡ refusalWithout21 t h a p room
+  unfolding sealRefusal refusalWithout21 firstOf
+  number-without other = rw (ne-eqb (counterOf a) lastCounter other) refl
+
+  pub not-last : sealRefusal t h a p room ≡ 0 → counterOf a ≡ lastCounter → ⊥
+  unfolding sealRefusal
+  not-last e = eqb-false (counterOf a) lastCounter (none _ e .1 .1 .1 .0)
+
+  pub sealable : sealRefusal t h a p room ≡ 0 → Sealable t h a p room
+  sealable e = sealable-without t h a p room (sym (number-without (not-last e)) ∙ e)
+
+  pub seal-accepts : (counterOf a ≡ lastCounter → ⊥) → Sealable t h a p room → sealRefusal t h a p room ≡ 0
+  seal-accepts other s = number-without other ∙ without-accepts t h a p room s
 
 -- ---- writing without a key
 

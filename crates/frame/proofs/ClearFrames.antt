@@ -12,8 +12,7 @@ use lib.Seq.{drop-at}
 use lib.Dec.{ltb}
 use borrow.Author.Tests.{ltb-false, le-ltb}
 use Rattle.octets.proofs.Conditions.{accepted, none, none-refuse}
-use Rattle.octets.proofs.Strings.{take-over}
-use Rattle.octets.proofs.Writing.{write-accepted, written-number}
+use Rattle.octets.proofs.Writing.{written-number}
 use Rattle.header.specs.declared.{auxiliary.AuxRead.AuxRead, control.NwkFrameControl.NwkFrameControl, nwk.HeaderRead.HeaderRead, nwk.NwkHeader.NwkHeader}
 use Rattle.header.specs.Reading.{readHeader}
 use Rattle.header.specs.Same.{Agrees, SameHeader, cleared, HeaderFits}
@@ -24,7 +23,7 @@ use Rattle.frame.specs.Reading.{secured, auxIf, auxBehind, frameRefusal,
 use Rattle.frame.specs.Writing.{frameBytes, frameWriteRefusal, writeFrame}
 use Rattle.frame.specs.Opening.{isSealed}
 use Rattle.frame.specs.SealingLaw.{bytesWritten}
-use Rattle.frame.proofs.Accepted.{ClearWritable, clear-writable, frame-refusal, counts}
+use Rattle.frame.proofs.Accepted.{bytes-written, ClearWritable, clear-writable, frame-refusal, counts}
 
 -- the frame whose header has been read, the security bit being off
 clear-frame : (f : List ℕ) (h : HeaderRead) (a : AuxRead) → secured h ≡ false → h .refusal ≡ 0 → length f - h .length ≤ 108
@@ -83,5 +82,4 @@ pub clear-back : (h : NwkHeader) (p out : List ℕ) → HeaderFits h → writeFr
 unfolding writeFrame
 clear-back h p out fits ok off agrees =
     let e : frameWriteRefusal h p (length out) ≡ 0 = sym (written-number _ _ out) ∙ ok in
-    let bytes : bytesWritten (writeFrame h p out) ≡ frameBytes h p = ap bytesWritten (sym (write-accepted _ _ (frameBytes h p) out refl e)) ∙ take-over out (frameBytes h p) in
-    rw bytes (clear-read h p (length out) fits off agrees (clear-writable h p (length out) e))
+    rw (bytes-written _ (frameBytes h p) out e) (clear-read h p (length out) fits off agrees (clear-writable h p (length out) e))

@@ -8,3 +8,4 @@ pub mod Answers
 pub mod Opened
 pub mod ClearFrames
 pub mod Marks
+pub mod LastCounter

@@ -124,12 +124,12 @@ payload-length-said key f o =
 -- ---- 14
 
 -- a number that no entry of a list gives
-abbrev Never : ℕ → List Condition → Type 0
+abbrev pub Never : ℕ → List Condition → Type 0
 Never m [] = Unit {0}
 Never m (on n b ∷ cs) = (eqb n m ≡ false) × Never m cs
 Never m (by n ∷ cs) = (n ≡ m → ⊥) × Never m cs
 
-never : (m : ℕ) (cs : List Condition) → (m ≡ 0 → ⊥) → Never m cs → firstOf cs ≡ m → ⊥
+pub never : (m : ℕ) (cs : List Condition) → (m ≡ 0 → ⊥) → Never m cs → firstOf cs ≡ m → ⊥
 unfolding firstOf unless
 never m [] h away e = h (sym e)
 never m (on n true ∷ cs) h away e = true≢false (sym (eq-eqb n m e) ∙ away .0)

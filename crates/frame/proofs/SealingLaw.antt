@@ -1,7 +1,7 @@
 -- The sealing law: a value of each of the two statements in specs/SealingLaw.antt.
 -- Assumes nothing.
 use mathlib.Core.Path.{_≡_, refl, sym, ap, _∙_}
-use mathlib.Core.Bool.{true}
+use mathlib.Core.Bool.{true, true≢false}
 use mathlib.Core.List.{List, _∷_}
 use Prim.Native.Nat.{ℕ, zero, suc, _≤_, _<_}
 use native.Mathlib.Omega.{arith}
@@ -10,6 +10,7 @@ use Rattle.octets.proofs.Strings.{take-over}
 use Rattle.header.specs.declared.nwk.NwkHeader.{NwkHeader}
 use Rattle.octets.specs.declared.Written.{Written}
 use Rattle.header.specs.Reading.{readHeader}
+use Rattle.header.specs.Same.{Agrees, HeaderFits}
 use Rattle.header.specs.Writing.{fieldRefusal}
 use Rattle.octets.specs.Writing as writing
 use Rattle.octets.specs.Writing.{wrote, written}
@@ -20,17 +21,17 @@ use Rattle.ccm.specs.Operations.{micLength}
 use Rattle.frame.specs.declared.{OptionAuxHeader.OptionAuxHeader, FrameRead.FrameRead, Mark.Mark, FrameOpened.FrameOpened}
 use Rattle.frame.specs.Reading.{readFrame}
 use Rattle.frame.specs.Security.{networkLevel, orBlank}
-use Rattle.frame.specs.Sealing.{sealRefusal, sealedBytes, sealFrame}
+use Rattle.frame.specs.Sealing.{counterOf, lastCounter, sealRefusal, sealedBytes, sealFrame}
 use Rattle.frame.specs.Opening as opening
 use Rattle.frame.specs.Opening.{verified, openRefused, sealedGiven, openBy, openFrame, payloadIn}
 use Rattle.frame.specs.Marks.{Openable}
-use Rattle.frame.specs.SealingLaw.{FirstHalf, SecondHalf, sealThenOpen, openThenSeal, Resealed, bytesWritten, payloadGiven}
-use Rattle.frame.proofs.Accepted.{Sealable, sealable, seal-accepts, run-either, sealed-run, marked-sealed}
+use Rattle.frame.specs.SealingLaw.{AuxOptionFits, AuxOptionAgrees, FirstHalf, SecondHalf, sealThenOpen, openThenSeal, Reopened, Resealed, bytesWritten, payloadGiven}
+use Rattle.frame.proofs.Accepted.{bytes-written, Sealable, sealable, seal-accepts, run-either, sealed-run, marked-sealed}
 use Rattle.frame.proofs.ClearFrames.{clear-facts}
 use Rattle.frame.proofs.FirstHalf.{sealed-length, reopened}
 use Rattle.frame.proofs.SecondHalf.{SecuredFacts, secured-facts, wholeRead, sealable-again, frame-again}
 
-seal-number : (key : List ℕ) (h : NwkHeader) (a : OptionAuxHeader) (p o : List ℕ)
+pub seal-number : (key : List ℕ) (h : NwkHeader) (a : OptionAuxHeader) (p o : List ℕ)
     → sealFrame key h a p o .answer .refusal ≡ sealRefusal micLength h a p (length o)
 unfolding sealFrame
 seal-number key h a p o = written-number _ _ o
@@ -41,9 +42,10 @@ seal-run : (key : List ℕ) (h : NwkHeader) (a : OptionAuxHeader) (p o : List �
 unfolding sealFrame
 seal-run key h a p o e = sym (write-accepted _ _ (sealedBytes networkLevel micLength key h (orBlank a) p) o refl e)
 
-pub seal-bytes : (key : List ℕ) (h : NwkHeader) (a : OptionAuxHeader) (p o : List ℕ) → sealRefusal micLength h a p (length o) ≡ 0
+seal-bytes : (key : List ℕ) (h : NwkHeader) (a : OptionAuxHeader) (p o : List ℕ) → sealRefusal micLength h a p (length o) ≡ 0
     → bytesWritten (sealFrame key h a p o) ≡ sealedBytes networkLevel micLength key h (orBlank a) p
-seal-bytes key h a p o e = ap bytesWritten (seal-run key h a p o e) ∙ take-over o (sealedBytes networkLevel micLength key h (orBlank a) p)
+unfolding sealFrame
+seal-bytes key h a p o e = bytes-written _ _ o e
 
 -- the length that sealing gives is within the output
 pub seal-within : (key : List ℕ) (h : NwkHeader) (a : OptionAuxHeader) (p o : List ℕ) → sealFrame key h a p o .answer .length ≤ length o
@@ -52,30 +54,35 @@ seal-within key h a p o =
     written-within _ _ o
     (λ e. rw (sealed-length networkLevel micLength key h (orBlank a) p) (sealable micLength h a p (length o) e .fits))
 
-pub first-half : FirstHalf
+-- opening the bytes sealed of headers and payload that no condition but 21's refuses
+pub opened-again : (key : List ℕ) (h : NwkHeader) (a : OptionAuxHeader) (p : List ℕ) (room : ℕ) (out : List ℕ)
+    → HeaderFits h → AuxOptionFits a → Sealable micLength h a p room → h .«frame_control» .security ≡ true → Agrees h → AuxOptionAgrees a
+    → length p ≤ length out → Reopened h a p (openFrame key (sealedBytes networkLevel micLength key h (orBlank a) p) out)
 unfolding openFrame
-first-half key h OptionAuxHeader.Absent p out out₂ fits afits accepted sec agrees aagrees room =
-    absurd (mathlib.Core.Bool.true≢false (sealable micLength h OptionAuxHeader.Absent p (length out) (sym (seal-number key h OptionAuxHeader.Absent p out) ∙ accepted) .present))
-first-half key h (OptionAuxHeader.Present x) p out out₂ fits afits accepted sec agrees aagrees room =
-    let e = sym (seal-number key h (OptionAuxHeader.Present x) p out) ∙ accepted in
-    let s = sealable micLength h (OptionAuxHeader.Present x) p (length out) e in
-    let run = ap (λ (f : List ℕ). openBy networkLevel micLength key f (readFrame f) out₂) (seal-bytes key h (OptionAuxHeader.Present x) p out e)
-    ∙ reopened networkLevel micLength key h x p fits afits (s .good) sec agrees aagrees (s .whole) out₂ (s .ieee) room in
+opened-again key h OptionAuxHeader.Absent p room out fits afits s sec agrees aagrees within = absurd (true≢false (s .present))
+opened-again key h (OptionAuxHeader.Present x) p room out fits afits s sec agrees aagrees within =
+    let run = reopened networkLevel micLength key h x p fits afits (s .good) sec agrees aagrees (s .whole) out (s .ieee) within in
     record {
       accepted = ap (λ (r : opening.Run). r .answer .refusal) run;
       marked = ap (λ (r : opening.Run). r .answer .mark) run;
       header = rw run (same-cleared h (s .good));
       auxiliary = ap (λ (r : opening.Run). r .answer .aux) run;
       length = ap (λ (r : opening.Run). r .answer .length) run;
-      payload = ap payloadGiven run ∙ take-over out₂ p;
+      payload = ap payloadGiven run ∙ take-over out p;
     }
 
-opened-sealed : (key f o : List ℕ) → openFrame key f o .answer .mark ≡ Mark.Sealed → Openable networkLevel micLength key f (readFrame f) (length o)
+pub first-half : FirstHalf
+first-half key h a p out out₂ fits afits accepted sec agrees aagrees within =
+    let e = sym (seal-number key h a p out) ∙ accepted in
+    let s = sealable micLength h a p (length out) e in
+    rw (seal-bytes key h a p out e) (opened-again key h a p (length out) out₂ fits afits s sec agrees aagrees within)
+
+pub opened-sealed : (key f o : List ℕ) → openFrame key f o .answer .mark ≡ Mark.Sealed → Openable networkLevel micLength key f (readFrame f) (length o)
 unfolding openFrame
 opened-sealed key f o m = marked-sealed networkLevel micLength key f (readFrame f) o m
 
 -- what opening gives of a sealed frame, by the parts of the frame
-opened-run : (key f o : List ℕ) → Openable networkLevel micLength key f (readFrame f) (length o) → SecuredFacts f
+pub opened-run : (key f o : List ℕ) → Openable networkLevel micLength key f (readFrame f) (length o) → SecuredFacts f
     → openFrame key f o ≡ sealedGiven (wholeRead f) (verified networkLevel micLength key f (wholeRead f)) o
 unfolding openFrame
 opened-run key f o w s =
@@ -83,10 +90,10 @@ opened-run key f o w s =
     ∙ ap (λ (r : FrameRead). sealedGiven r (verified networkLevel micLength key f r) o) (s .read)
 
 -- sealing afresh what an accepted opening gave
-resealed : (key f out₂ : List ℕ) (h : NwkHeader) (a : OptionAuxHeader) (p : List ℕ) → length out₂ ≡ 118 → Sealable micLength h a p 118
-    → sealedBytes networkLevel micLength key h (orBlank a) p ≡ f → Resealed f (sealFrame key h a p out₂)
-resealed key f out₂ h a p size able same =
-    let e : sealRefusal micLength h a p (length out₂) ≡ 0 = rw size (seal-accepts micLength h a p 118 able) in
+resealed : (key f out₂ : List ℕ) (h : NwkHeader) (a : OptionAuxHeader) (p : List ℕ) → length out₂ ≡ 118 → (counterOf a ≡ lastCounter → ⊥)
+    → Sealable micLength h a p 118 → sealedBytes networkLevel micLength key h (orBlank a) p ≡ f → Resealed f (sealFrame key h a p out₂)
+resealed key f out₂ h a p size other able same =
+    let e : sealRefusal micLength h a p (length out₂) ≡ 0 = rw size (seal-accepts micLength h a p 118 other able) in
     record {
       accepted = seal-number key h a p out₂ ∙ e;
       length = ap (λ (r : writing.Run). r .answer .length) (seal-run key h a p out₂ e) ∙ ap length same;
@@ -94,7 +101,7 @@ resealed key f out₂ h a p size able same =
     }
 
 pub second-half : SecondHalf
-second-half key f out out₂ bytes accepted marked control size =
+second-half key f out out₂ bytes accepted marked control other size =
     let w = opened-sealed key f out marked in
     let s = secured-facts f (w .reads) (w .on) in
     let run = opened-run key f out w s in
@@ -103,7 +110,7 @@ second-half key f out out₂ bytes accepted marked control size =
     let low : getD f (readHeader f .length) 0 < 128 = omega (arith, control .bit7) in
     let able = sealable-again networkLevel micLength key f bytes s low (control .level) (length out) o in
     let same = frame-again networkLevel micLength key f bytes s low (control .level) (o .tagged) (o .valid) in
-    rw (run, take-over out (v .payload)) (resealed key f out₂ _ _ (v .payload) size able same)
+    rw (run, take-over out (v .payload)) (resealed key f out₂ _ _ (v .payload) size (rw run at other) able same)
 
 -- ---- the two in turn, by what each answered and left
 

@@ -1,4 +1,4 @@
--- NWK frames: reading, writing without a key, sealing and opening, the sealing law, and the marks.
+-- NWK frames: reading, writing without a key, sealing and opening, the sealing law, the marks, and the last counter.
 pub mod Reading
 pub mod Writing
 pub mod Security
@@ -6,3 +6,4 @@ pub mod Sealing
 pub mod Opening
 pub mod SealingLaw
 pub mod Marks
+pub mod LastCounter

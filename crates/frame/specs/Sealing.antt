@@ -4,7 +4,7 @@ use Prim.Native.Nat.{ℕ, _+_}
 use mathlib.Core.Bool.{_||_}
 use mathlib.Core.List.{List, [], _∷_, _++_}
 use lib.ListN.{length}
-use lib.Dec.{ltb}
+use lib.Dec.{eqb, ltb}
 use Rattle.octets.specs.Refusals.{Condition, on, by, firstOf}
 use Rattle.octets.specs.Writing.{Run, written}
 use Rattle.header.specs.declared.{auxiliary.NwkSecurityLevel.NwkSecurityLevel, auxiliary.NwkAuxHeader.NwkAuxHeader, nwk.NwkHeader.NwkHeader}
@@ -35,12 +35,20 @@ lengthRefusals t h a p room =
     ∷ on 18 (ltb room (sealedLength t h a p))
     ∷ []
 
--- document 01's numbers 13, 14 and 15, then those
+-- the counter to be sealed, and the last one, before which a sender stops: receivers throw its frames away
+abbrev pub counterOf : OptionAuxHeader → ℕ
+counterOf a = orBlank a .«frame_counter»
+
+abbrev pub lastCounter : ℕ
+lastCounter = 0xFFFFFFFF
+
+-- document 01's numbers 13, 14 and 15, document 02's 21, then those
 unfoldable pub sealRefusal : ℕ → NwkHeader → OptionAuxHeader → List ℕ → ℕ → ℕ
 sealRefusal t h a p room =
     firstOf (by (fieldRefusal h)
     ∷ on 14 (isAbsent a)
     ∷ on 15 (noIeee h (orBlank a))
+    ∷ on 21 (eqb (counterOf a) lastCounter)
     ∷ lengthRefusals t h (orBlank a) p room)
 
 unfoldable pub sealFrame : List ℕ → NwkHeader → OptionAuxHeader → List ℕ → List ℕ → Run

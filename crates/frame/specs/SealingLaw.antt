@@ -4,9 +4,9 @@
 -- exactly the bytes written, under the same key, into any output at least as long as the payload, is accepted and marked
 -- sealed, and gives the same two headers, only the level now 0, and the same payload bytes, no more and no fewer.
 --
--- Second half. Whatever frame opening accepts and marks sealed, if its security control byte arrived with level and bit 7 zero,
--- sealing afresh the two headers and payload bytes it returned, under that key into 118 bytes, is accepted and writes exactly
--- that frame's bytes, no more and no fewer.
+-- Second half. Whatever frame opening accepts and marks sealed, if its security control byte arrived with level and bit 7 zero
+-- and its counter is not the last one, sealing afresh the two headers and payload bytes it returned, under that key into 118
+-- bytes, is accepted and writes exactly that frame's bytes, no more and no fewer.
 --
 -- `FirstHalf` and `SecondHalf` say this below; proofs/SealingLaw.antt has a value of each. The premises `HeaderFits`,
 -- `AuxFits` and `Below 256` only say what every value of a type has, that each number is within its type's range; the
@@ -24,7 +24,7 @@ use Rattle.header.specs.Same.{Agrees, AuxAgrees, SameHeader, HeaderFits, AuxFit
 use Rattle.octets.specs.Writing as writing
 use Rattle.frame.specs.declared.{OptionAuxHeader.OptionAuxHeader, Mark.Mark}
 use Rattle.frame.specs.Security.{sentLevel, atLevel}
-use Rattle.frame.specs.Sealing.{sealFrame}
+use Rattle.frame.specs.Sealing.{counterOf, lastCounter, sealFrame}
 use Rattle.frame.specs.Opening as opening
 use Rattle.frame.specs.Opening.{openFrame}
 
@@ -99,5 +99,6 @@ SecondHalf =
     → openFrame key f out .answer .refusal ≡ 0
     → openFrame key f out .answer .mark ≡ Mark.Sealed
     → PlainControl f
+    → (counterOf (openFrame key f out .answer .aux) ≡ lastCounter → ⊥)
     → length out₂ ≡ 118
     → Resealed f (openThenSeal key f out out₂)

@@ -14,7 +14,7 @@ ghost use Prim.Native.Nat.{_≤_};
 ghost use lib.ListN.{length};
 ghost use Rattle.header.specs.Same.{Agrees};
 ghost use Rattle.frame.specs.declared.Mark.{Mark};
-ghost use Rattle.frame.specs.Sealing.{sealFrame};
+ghost use Rattle.frame.specs.Sealing.{counterOf, lastCounter, sealFrame};
 ghost use Rattle.frame.specs.Opening.{openFrame};
 ghost use Rattle.frame.specs.SealingLaw.{AuxOptionAgrees, sealThenOpen, Reopened, PlainControl, openThenSeal, Resealed};
 
@@ -41,12 +41,13 @@ pub fn seal_then_open(
 }
 
 // Open a frame and seal afresh what it gave. Where opening accepts a sealed frame whose security control byte has level and
-// bit 7 zero, and 118 bytes are lent, exactly the frame's bytes are written again; of a clear frame sealing is refused by 14.
+// bit 7 zero, and 118 bytes are lent, exactly the frame's bytes are written again, unless its counter is the last one: that
+// sealing refuses by 21. Of a clear frame it is refused by 14.
 pub fn open_then_seal(key: Key, frame: &[u8], out: &mut [u8], again: &mut [u8]) -> Written
     ensures answer { λ r. ⌜ r ≡ openThenSeal (key .0) (now (frame .entry)) (now (out .entry)) (now (again .entry)) .answer ⌝ }
     ensures out { λ _. ⌜ now (out .exit) ≡ openFrame (key .0) (now (frame .entry)) (now (out .entry)) .out ⌝ }
     ensures again { λ _. ⌜ now (again .exit) ≡ openThenSeal (key .0) (now (frame .entry)) (now (out .entry)) (now (again .entry)) .out ⌝ }
-    ensures law { λ r. ⌜ (openFrame (key .0) (now (frame .entry)) (now (out .entry)) .answer .refusal ≡ 0 → openFrame (key .0) (now (frame .entry)) (now (out .entry)) .answer .mark ≡ Mark.Sealed → PlainControl (now (frame .entry)) → length (now (again .entry)) ≡ 118 → Resealed (now (frame .entry)) (record { answer = r; out = now (again .exit) })) ⌝ }
+    ensures law { λ r. ⌜ (openFrame (key .0) (now (frame .entry)) (now (out .entry)) .answer .refusal ≡ 0 → openFrame (key .0) (now (frame .entry)) (now (out .entry)) .answer .mark ≡ Mark.Sealed → PlainControl (now (frame .entry)) → (counterOf (openFrame (key .0) (now (frame .entry)) (now (out .entry)) .answer .aux) ≡ lastCounter → ⊥) → length (now (again .entry)) ≡ 118 → Resealed (now (frame .entry)) (record { answer = r; out = now (again .exit) })) ⌝ }
 {
     ranges::bytes_fit(frame);
     let opened = opening::open(key, frame, out);

@@ -27,7 +27,7 @@ fn sealed_length(h: NwkHeader, aux: NwkAuxHeader, payload: &[u8]) -> usize
     h.size() + aux.size() + payload.len() + ccm::MIC_LENGTH
 }
 
-// The first of the refusals 13, 14, 15, 17 and 18 that holds, or 0.
+// The first of the refusals 13, 14, 15, 21, 17 and 18 that holds, or 0.
 fn seal_refusal(h: NwkHeader, aux: OptionAuxHeader, payload: &[u8], room: usize) -> u8
     ensures { λ r. ⌜ r ≡ sealRefusal micLength h aux (now (payload .entry)) room ⌝ }
 {
@@ -41,6 +41,9 @@ fn seal_refusal(h: NwkHeader, aux: OptionAuxHeader, payload: &[u8], room: usize)
     let present = aux.or_blank();
     if security::no_ieee(h, present) {
         return refusals::NO_IEEE;
+    }
+    if present.frame_counter == types::LAST_COUNTER {
+        return refusals::LAST_COUNTER;
     }
     length_refusal(h, present, payload, room)
 }
@@ -94,7 +97,8 @@ fn seal_frame(key: [u8; 16], h: NwkHeader, aux: NwkAuxHeader, payload: &[u8], ou
     put_sealed(key, nonce, &auth[..start], payload, out, start);
 }
 
-// Seal a frame (`NwkFrame::serialize` with a key); refusals 13, 14, 15, 17 and 18, which change nothing.
+// Seal a frame (`NwkFrame::serialize` with a key); refusals 13, 14, 15, 21, 17 and 18, which change
+// nothing.
 pub fn seal(key: Key, h: NwkHeader, aux: OptionAuxHeader, payload: &[u8], out: &mut [u8]) -> Written
     ensures answer { λ r. ⌜ r ≡ sealFrame (key .0) h aux (now (payload .entry)) (now (out .entry)) .answer ⌝ }
     ensures buffer { λ _. ⌜ now (out .exit) ≡ sealFrame (key .0) h aux (now (payload .entry)) (now (out .entry)) .out ⌝ }

@@ -59,3 +59,6 @@ pub const WRONG_MIC: u8 = 19;
 
 // 20: a burst has more than 16 lengths, they do not add up to the bytes lent, the output is shorter than 108 times their number, or the list for the answers is shorter than their number
 pub const BURST: u8 = 20;
+
+// 21: the counter to be sealed is FFFFFFFF
+pub const LAST_COUNTER: u8 = 21;

@@ -16,6 +16,9 @@ pub mod ranges;
 // The largest NWK payload, or command: 127 bytes less the smallest MAC and NWK headers.
 pub const MAX_NSDU_SIZE: usize = 108;
 
+// The last frame counter, before which a sender stops (Zigbee Specification 4.3.1.1).
+pub const LAST_COUNTER: u32 = 0xFFFF_FFFF;
+
 // A 16-bit network address.
 pub struct Nwk(pub u16);
 

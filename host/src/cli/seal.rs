@@ -20,7 +20,7 @@ impl From<Refusal> for NotSealed {
 
 /// Seals each clear frame under the next counter, and gives the exit status.
 pub fn seal_each<W: Write>(mut source: Source, sealing: &Sealing, printer: &mut Printer<'_, W>) -> io::Result<u8> {
-    let mut counter = Some(sealing.counter);
+    let mut counter = sealing.counter;
     let mut status = 0;
     let mut noted = false;
     while let Some(entry) = source.next() {
@@ -30,7 +30,8 @@ pub fn seal_each<W: Write>(mut source: Source, sealing: &Sealing, printer: &mut 
         }
         match sealed(&entry, sealing, counter) {
             Ok(frame) => {
-                counter = counter.and_then(|counter| counter.checked_add(1));
+                // The last counter is never sealed, so there is a next one.
+                counter = counter.saturating_add(1);
                 match printer.show {
                     Show::Json => {
                         let fields = vec![("refusal", 0u8.into()), ("frame", Value::bytes(&frame))];
@@ -60,12 +61,11 @@ fn report<W: Write>(entry: &Entry, why: NotSealed, printer: &mut Printer<'_, W>)
     }
 }
 
-fn sealed(entry: &Entry, sealing: &Sealing, counter: Option<u32>) -> Result<Vec<u8>, NotSealed> {
-    match (&entry.content, counter) {
-        (Content::Frame(bytes), Some(counter)) => seal_frame(bytes, sealing, counter),
-        (Content::Frame(_), None) => Err(NotSealed::Because("the frame counter is used up".to_string())),
-        (Content::Broken(why), _) => Err(NotSealed::Because(why.clone())),
-        (Content::Other(kind, _), _) => Err(NotSealed::Because(kind.to_string())),
+fn sealed(entry: &Entry, sealing: &Sealing, counter: u32) -> Result<Vec<u8>, NotSealed> {
+    match &entry.content {
+        Content::Frame(bytes) => seal_frame(bytes, sealing, counter),
+        Content::Broken(why) => Err(NotSealed::Because(why.clone())),
+        Content::Other(kind, _) => Err(NotSealed::Because(kind.to_string())),
     }
 }
 

@@ -303,10 +303,10 @@ pub fn table(rows: &[Row], names: Names) -> String {
     text
 }
 
-/// The refusals that have a column: all but that of a burst, since the command opens each frame alone. Those that opening into
-/// room enough never answers stay 0.
+/// The refusals that have a column: document 01's, since the command opens each frame alone and a counter is refused to sealing
+/// only. Those that opening into room enough never answers stay 0.
 fn columns() -> impl Iterator<Item = Refusal> {
-    Refusal::all().filter(|refusal| *refusal != Refusal::BURST)
+    Refusal::all().filter(|refusal| !matches!(*refusal, Refusal::BURST | Refusal::LAST_COUNTER))
 }
 
 /// The table as comma-separated values, a column for each refusal.

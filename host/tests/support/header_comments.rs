@@ -5,7 +5,7 @@ use std::fs;
 /// What may stand before a clause's number.
 const BEFORE: [&str; 2] = ["of a sealed frame ", "of any frame "];
 
-/// The numbers that the comment of this function lists; none if it has no such list.
+/// The numbers that the comment of this function lists, in its order; none if it has no such list.
 pub fn refusals(function: &str) -> Vec<u8> {
     let header = fs::read_to_string(root().join("include/nwk.h")).expect("include/nwk.h");
     let place = header.find(&format!("\nuint64_t {function}(")).unwrap_or_else(|| panic!("no {function} in nwk.h"));
@@ -16,11 +16,14 @@ pub fn refusals(function: &str) -> Vec<u8> {
     list.split([';', ',']).fold(Vec::new(), listed)
 }
 
-/// The numbers with those of one more clause. A list rises, so a number that does not is part of a condition's words.
+/// The numbers with those of one more clause. A number that is listed again, on another condition, stands where it was first.
 fn listed(mut numbers: Vec<u8>, clause: &str) -> Vec<u8> {
     let (first, last) = clause_numbers(clause.trim());
-    let least = numbers.last().map_or(1, |&number| number + 1);
-    numbers.extend(first.max(least)..=last);
+    for number in first..=last {
+        if !numbers.contains(&number) {
+            numbers.push(number);
+        }
+    }
     numbers
 }
 

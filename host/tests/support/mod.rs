@@ -5,6 +5,7 @@ pub mod calls;
 pub mod clear_tally;
 pub mod command;
 pub mod compare;
+pub mod counter_tally;
 pub mod generate;
 pub mod guarded;
 pub mod header_comments;

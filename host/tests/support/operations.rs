@@ -1,7 +1,10 @@
 //! The seventeen operations of `include/nwk.h`: their buffers, and the refusals each of them can answer.
+use std::ops::Range;
 
 pub const HEADER_RECORD: usize = 147;
 pub const AUXILIARY_RECORD: usize = 19;
+/// Where an auxiliary record has the frame counter.
+pub const AUXILIARY_COUNTER: Range<usize> = 5..9;
 pub const OPENED_RECORD: usize = 182;
 /// Where an opened record has the header record; the auxiliary record is behind it.
 pub const OPENED_HEADER: usize = 16;
@@ -144,7 +147,7 @@ static SHAPES: [Shape; 17] = [
         true,
         &[("header", false), ("auxiliary", false), ("payload", true)],
         &[Length],
-        &[13, 14, 15, 17, 18],
+        &[13, 14, 15, 21, 17, 18],
     ),
     shape(
         "nwk_open",

@@ -3,6 +3,7 @@ use crate::support::model::auxiliary::{self, Auxiliary};
 use crate::support::model::header::{
     Header, SourceRoute, DESTINATION_IEEE, MAX_RELAYS, MULTICAST, SECURITY, SOURCE_IEEE, SOURCE_ROUTE,
 };
+use crate::support::model::LAST_COUNTER;
 use crate::support::random::Random;
 
 /// A header whose presence bits agree with its fields; the security bit is set in so many of 100.
@@ -53,16 +54,26 @@ fn source_route(random: &mut Random) -> SourceRoute {
 /// An auxiliary header whose presence bit agrees with its field.
 pub fn auxiliary(random: &mut Random) -> Auxiliary {
     let ieee = random.percent(70).then(|| random.array());
-    let counter = if random.percent(5) { [0xFF; 4] } else { random.array() };
     Auxiliary {
         level: random.below(8) as u8,
         key_id: random.below(4) as u8,
         extended_nonce: ieee.is_some(),
         verified_counter: random.bit(),
-        counter,
+        counter: counter(random),
         ieee,
         key_sequence: random.byte(),
     }
+}
+
+/// Any counter; some are the last one, and some differ from it in one byte, mostly by 1.
+fn counter(random: &mut Random) -> [u8; 4] {
+    let mut counter = LAST_COUNTER;
+    match random.below(20) {
+        0 => {}
+        1 => counter[random.below(4)] = random.pick(&[0xFE, 0xFE, 0x7F, 0]),
+        _ => counter = random.array(),
+    }
+    counter
 }
 
 /// A header's bytes with anything behind them, brought to the length wanted.

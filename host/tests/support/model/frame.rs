@@ -43,6 +43,11 @@ pub fn authenticated(header: &Header, auxiliary: &Auxiliary) -> Vec<u8> {
     [header.bytes(), auxiliary.at_level(AUTHENTICATED_LEVEL).bytes()].concat()
 }
 
+/// How many bytes the sealed frame has.
+pub fn sealed_length(header: &Header, auxiliary: &Auxiliary, payload: &[u8]) -> usize {
+    header.bytes().len() + auxiliary.bytes().len() + payload.len() + ccm::MIC
+}
+
 /// The sealed frame's bytes: both headers, the level sent being 0, ciphertext, MIC.
 pub fn seal(key: &[u8; 16], header: &Header, auxiliary: &Auxiliary, ieee: &[u8; 8], payload: &[u8]) -> Vec<u8> {
     let auth = authenticated(header, auxiliary);

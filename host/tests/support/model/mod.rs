@@ -16,6 +16,8 @@ use super::operations::{Operation, AUXILIARY_RECORD, COMMAND_RECORD, HEADER_RECO
 pub const MAX_FRAME: usize = 118;
 pub const MAX_PAYLOAD: usize = 108;
 pub const MAX_CCM: usize = 127;
+/// The counter that is not sealed (document 02, request 4), as the bytes of a record.
+pub const LAST_COUNTER: [u8; 4] = [0xFF; 4];
 
 /// An accepted call: the length answered, whether the answer is marked as clear, and the first bytes of each output, where
 /// none is a byte that stays.
@@ -132,9 +134,9 @@ fn seal(key: &[u8; 16], header: &[u8], auxiliary: &[u8], payload: &[u8], rooms: 
     let header = header::Header::of_record(header)?;
     let auxiliary = auxiliary::of_record(auxiliary)?.ok_or(14)?;
     let ieee = frame::nonce_ieee(&header, &auxiliary).ok_or(15)?;
-    let length = header.bytes().len() + auxiliary.bytes().len() + payload.len() + MIC;
+    let length = frame::sealed_length(&header, &auxiliary, payload);
     let too_long = payload.len() > MAX_PAYLOAD || length > MAX_FRAME;
-    refuse(&[(17, too_long), (18, rooms[0] < length)])?;
+    refuse(&[(21, auxiliary.counter == LAST_COUNTER), (17, too_long), (18, rooms[0] < length)])?;
     given(frame::seal(key, &header, &auxiliary, &ieee, payload))
 }
 

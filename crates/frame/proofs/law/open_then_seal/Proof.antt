@@ -21,8 +21,8 @@ returns c =
         o .1,
         (
           ap (λ (r : Run). r .out) run,
-          λ accepted marked control size.
-              rw run (second-half _ _ _ _ (fit .bytes-fit .ensures) accepted marked control size),
+          λ accepted marked control other size.
+              rw run (second-half _ _ _ _ (fit .bytes-fit .ensures) accepted marked control other size),
         ),
       ),
     )

@@ -1,0 +1,108 @@
+-- Document 02, 4, at its boundary: the last counter and the one before it, as one table. What a row says of the definitions
+-- is `Holds`; that every row holds is one claim, in proofs/LastCounter.antt. Ciphertext and MIC of the two frames are another
+-- AES-CCM's (the Python library cryptography, 48.0.0).
+-- Assumes nothing.
+use mathlib.Core.Path.{_≡_}
+use mathlib.Core.Bool.{true, false}
+use mathlib.Core.List.{List, [], _∷_, _++_}
+use Prim.Native.Nat.{ℕ}
+use lib.ListN.{length, drop, replicate}
+use Rattle.types.specs.Addresses.{noNwk}
+use Rattle.types.specs.Optional.{hasIeee}
+use Rattle.types.specs.declared.OptionEui64.{OptionEui64}
+use Rattle.header.specs.declared.{auxiliary.NwkSecurityLevel.NwkSecurityLevel, auxiliary.NwkSecurityHeaderKeyId.NwkSecurityHeaderKeyId, control.NwkFrameControl.NwkFrameControl, control.NwkFrameType.NwkFrameType, control.NwkRouteDiscovery.NwkRouteDiscovery, optional.NwkSourceRoute.NwkSourceRoute, nwk.NwkHeader.NwkHeader}
+use Rattle.frame.specs.declared.{OptionAuxHeader.OptionAuxHeader, Mark.Mark}
+use Rattle.frame.specs.Sealing.{sealFrame}
+use Rattle.frame.specs.Opening.{openFrame}
+use Rattle.boundary.specs.Starred.{fromProbe}
+
+-- ---- the rows, each under the one key and header
+
+pub data Case : Type 0 where
+  -- with this auxiliary header a payload is sealed as a byte string
+  seals : OptionAuxHeader → List ℕ → List ℕ → Case
+  -- with this auxiliary header sealing refuses a payload by a number
+  refuses : OptionAuxHeader → List ℕ → ℕ → Case
+  -- a frame opens to this auxiliary header and payload
+  opens : List ℕ → OptionAuxHeader → List ℕ → Case
+
+unfoldable pub key : List ℕ
+key = 0x01 ∷ 0x03 ∷ 0x05 ∷ 0x07 ∷ 0x09 ∷ 0x0B ∷ 0x0D ∷ 0x0F ∷ 0x00 ∷ 0x02 ∷ 0x04 ∷ 0x06 ∷ 0x08 ∷ 0x0A ∷ 0x0C ∷ 0x0D ∷ []
+
+-- data, version 2, source 0x1234, radius 30, sequence 7, the security bit set
+unfoldable pub probe : NwkHeader
+probe =
+    fromProbe
+    (record {
+      «frame_type» = NwkFrameType.Data;
+      «protocol_version» = 2;
+      «discover_route» = NwkRouteDiscovery.Suppress;
+      multicast = false;
+      security = true;
+      «source_route» = false;
+      destination = false;
+      «extended_source» = false;
+      «end_device_initiator» = false;
+      reserved1 = 0;
+    })
+    NwkSourceRoute.Absent (replicate 54 noNwk)
+
+-- an output of thirty bytes that are not 0, so that what stays of it is seen
+abbrev pub lent : List ℕ
+lent = replicate 30 0xA5
+
+-- what a row says: the operation's whole answer and its whole output
+abbrev pub Holds : Case → Type 0
+Holds (seals a p f) = sealFrame key probe a p lent ≡ record { answer = record { refusal = 0; length = length f }; out = f ++ drop (length f) lent }
+Holds (refuses a p n) = sealFrame key probe a p lent ≡ record { answer = record { refusal = n; length = 0 }; out = lent }
+Holds (opens f a p) =
+    openFrame key f lent
+    ≡ record {
+      answer = record { refusal = 0; mark = Mark.Sealed; length = length p; header = probe; aux = a };
+      out = p ++ drop (length p) lent;
+    }
+
+-- ---- what the rows name
+
+-- an auxiliary header under the network key, with this address for the nonce or none, and this counter
+unfoldable pub counted : OptionEui64 → ℕ → OptionAuxHeader
+counted ieee counter =
+    OptionAuxHeader.Present
+    (record {
+      «security_control» = record {
+        «security_level» = NwkSecurityLevel.NoSecurity;
+        «key_id» = NwkSecurityHeaderKeyId.NetworkKey;
+        «extended_nonce» = hasIeee ieee;
+        «require_verified_frame_counter» = false;
+      };
+      «frame_counter» = counter;
+      «extended_source» = ieee;
+      «key_sequence_number» = 0;
+    })
+
+-- the address whose bytes in a frame are `0D 6F 00 11 22 33 44 55`
+unfoldable pub one : OptionEui64
+one = OptionEui64.Present 0x5544332211006F0D
+
+-- the headers in front of a frame from it, with the four bytes of a counter, the least significant first
+unfoldable pub front : ℕ → ℕ → ℕ → ℕ → List ℕ
+front a b c d =
+    0x08 ∷ 0x02 ∷ 0x00 ∷ 0x00 ∷ 0x34 ∷ 0x12 ∷ 0x1E ∷ 0x07
+    ∷ 0x28 ∷ a ∷ b ∷ c ∷ d ∷ 0x0D ∷ 0x6F ∷ 0x00 ∷ 0x11 ∷ 0x22 ∷ 0x33 ∷ 0x44 ∷ 0x55 ∷ 0x00 ∷ []
+
+-- ---- the table
+
+unfoldable pub cases : List Case
+cases =
+    -- one byte, `AA`, under the counter before the last one, and under the last one
+    seals (counted one 0xFFFFFFFE) (0xAA ∷ []) (front 0xFE 0xFF 0xFF 0xFF ++ (0xD9 ∷ 0x6F ∷ 0xB0 ∷ 0x03 ∷ 0x33 ∷ []))
+    ∷ refuses (counted one 0xFFFFFFFF) (0xAA ∷ []) 21
+    -- with no address as well; without an auxiliary header there is no counter
+    ∷ refuses (counted OptionEui64.Absent 0xFFFFFFFF) (0xAA ∷ []) 15
+    ∷ refuses OptionAuxHeader.Absent (0xAA ∷ []) 14
+    -- a payload of 93 bytes makes a frame of 119: 21 is before 17, and 17 is there under the counter before
+    ∷ refuses (counted one 0xFFFFFFFF) (replicate 93 0xAA) 21
+    ∷ refuses (counted one 0xFFFFFFFE) (replicate 93 0xAA) 17
+    -- sealed elsewhere with the last counter
+    ∷ opens (front 0xFF 0xFF 0xFF 0xFF ++ (0x3F ∷ 0x9E ∷ 0xFE ∷ 0xE1 ∷ 0x97 ∷ [])) (counted one 0xFFFFFFFF) (0xAA ∷ [])
+    ∷ []

@@ -1,0 +1,85 @@
+-- Document 02, 4, sentence by sentence: no sealing with the last counter. Each is one claim over all keys, headers, payloads,
+-- frames and earlier output contents.
+-- Assumes nothing.
+use mathlib.Core.Path.{_≡_}
+use mathlib.Core.Bool.{true}
+use mathlib.Core.List.{List, [], _∷_}
+use Prim.Native.Nat.{ℕ, _≤_}
+use lib.ListN.{length}
+use Rattle.octets.specs.Strings.{Below}
+use Rattle.octets.specs.Refusals.{on, by, firstOf}
+use Rattle.octets.specs.Writing.{Run, wroteNothing, written}
+use Rattle.header.specs.declared.{auxiliary.NwkAuxHeader.NwkAuxHeader, nwk.NwkHeader.NwkHeader}
+use Rattle.header.specs.Writing.{fieldRefusal}
+use Rattle.header.specs.Same.{Agrees, HeaderFits}
+use Rattle.ccm.specs.Operations.{micLength}
+use Rattle.frame.specs.declared.{OptionAuxHeader.OptionAuxHeader, Mark.Mark}
+use Rattle.frame.specs.Security.{networkLevel, isAbsent, orBlank, noIeee}
+use Rattle.frame.specs.Sealing.{sealedBytes, lengthRefusals, counterOf, lastCounter, sealFrame}
+use Rattle.frame.specs.Opening.{openFrame}
+use Rattle.frame.specs.SealingLaw.{bytesWritten, AuxOptionFits, AuxOptionAgrees, Reopened, openThenSeal}
+
+-- sealing's list without 21, as document 01 has it, and what sealing by it leaves
+unfoldable pub refusalWithout21 : ℕ → NwkHeader → OptionAuxHeader → List ℕ → ℕ → ℕ
+refusalWithout21 t h a p room =
+    firstOf (by (fieldRefusal h)
+    ∷ on 14 (isAbsent a)
+    ∷ on 15 (noIeee h (orBlank a))
+    ∷ lengthRefusals t h (orBlank a) p room)
+
+unfoldable pub sealWithout21 : List ℕ → NwkHeader → OptionAuxHeader → List ℕ → List ℕ → Run
+sealWithout21 key h a p o =
+    written (refusalWithout21 micLength h a p (length o)) (sealedBytes networkLevel micLength key h (orBlank a) p) o
+
+-- ---- "sealable counters are now 0 to 0xFFFFFFFE"
+
+-- whatever is sealed has such a counter
+abbrev pub SealableCounters : Type 0
+SealableCounters =
+    (key : List ℕ) (h : NwkHeader) (a : OptionAuxHeader) (p o : List ℕ)
+    → AuxOptionFits a → sealFrame key h a p o .answer .refusal ≡ 0 → counterOf a ≤ 0xFFFFFFFE
+
+-- and nothing else changed: under every other counter, and without one, sealing leaves what the list without 21 gives
+abbrev pub NothingElseChanged : Type 0
+NothingElseChanged =
+    (key : List ℕ) (h : NwkHeader) (a : OptionAuxHeader) (p o : List ℕ)
+    → (counterOf a ≡ lastCounter → ⊥) → sealFrame key h a p o ≡ sealWithout21 key h a p o
+
+-- ---- "21, after 15 and before 17, if the counter to be sealed is FFFFFFFF"
+
+-- under that counter 13 and 15 come first, and then it is 21, whatever the payload and the output's length; nothing is written
+abbrev pub LastRefused : Type 0
+LastRefused =
+    (key : List ℕ) (h : NwkHeader) (x : NwkAuxHeader) (p o : List ℕ)
+    → x .«frame_counter» ≡ lastCounter
+    → sealFrame key h (OptionAuxHeader.Present x) p o ≡ wroteNothing (firstOf (by (fieldRefusal h) ∷ on 15 (noIeee h x) ∷ by 21 ∷ [])) o
+
+-- and 21 is said of no other
+abbrev pub OnlyTheLast : Type 0
+OnlyTheLast =
+    (key : List ℕ) (h : NwkHeader) (a : OptionAuxHeader) (p o : List ℕ)
+    → sealFrame key h a p o .answer .refusal ≡ 21 → counterOf a ≡ lastCounter
+
+-- ---- "opening still accepts the old one"
+
+-- whatever the list without 21 lets through, the last counter among it, opens again to its headers and its payload
+abbrev pub StillOpened : Type 0
+StillOpened =
+    (key : List ℕ) (h : NwkHeader) (a : OptionAuxHeader) (p out out₂ : List ℕ)
+    → HeaderFits h → AuxOptionFits a
+    → sealWithout21 key h a p out .answer .refusal ≡ 0
+    → h .«frame_control» .security ≡ true
+    → Agrees h → AuxOptionAgrees a
+    → length p ≤ length out₂
+    → Reopened h a p (openFrame key (bytesWritten (sealWithout21 key h a p out)) out₂)
+
+-- ---- "the sealing law's second half leaves out frames with that counter"
+
+-- sealing afresh what opening gave of such a frame is refused by 21, and nothing is written
+abbrev pub LeftOut : Type 0
+LeftOut =
+    (key f out out₂ : List ℕ)
+    → Below 256 f
+    → openFrame key f out .answer .mark ≡ Mark.Sealed
+    → counterOf (openFrame key f out .answer .aux) ≡ lastCounter
+    → openThenSeal key f out out₂ ≡ wroteNothing 21 out₂
