@@ -1,4 +1,5 @@
-/* Seals a frame, opens it again, and shows that a damaged one is refused with nothing changed.
+/* Seals a frame, opens it again, and shows that a damaged one, and one to be sealed with the last counter, are refused with
+ * nothing changed.
  *
  *   rt staticlib nwk
  *   cc -Wall -Wextra -Iinclude examples/seal_open.c target/staticlib/libnwk.a -o seal_open && ./seal_open
@@ -9,6 +10,8 @@
 
 #include <stdio.h>
 #include <string.h>
+
+#define FILLER 0xA5
 
 static const uint8_t key_bytes[16] = {
     0xC0, 0xC1, 0xC2, 0xC3, 0xC4, 0xC5, 0xC6, 0xC7, 0xC8, 0xC9, 0xCA, 0xCB, 0xCC, 0xCD, 0xCE, 0xCF,
@@ -25,6 +28,16 @@ static void show(const char *name, const uint8_t *bytes, size_t n) {
     printf(" %02X", bytes[i]);
   }
   printf("\n");
+}
+
+/* Whether every byte is still the filler. */
+static int untouched(const uint8_t *bytes, size_t n) {
+  for (size_t i = 0; i < n; i++) {
+    if (bytes[i] != FILLER) {
+      return 0;
+    }
+  }
+  return 1;
 }
 
 int main(void) {
@@ -90,22 +103,23 @@ int main(void) {
 
   /* One bit of the ciphertext changed: refused by 19, and every lent byte is as it was. */
   frame[n - 5] ^= 1;
-  memset(plain, 0xA5, sizeof plain);
-  memset(record, 0xA5, sizeof record);
+  memset(plain, FILLER, sizeof plain);
+  memset(record, FILLER, sizeof record);
   uint64_t damaged = nwk_open(key.first, key.second, frame, n, record, sizeof record, plain, sizeof plain);
   printf("damaged: refusal %u, length %u\n", NWK_REFUSAL(damaged), NWK_LENGTH(damaged));
-  if (NWK_REFUSAL(damaged) != NWK_REFUSED_WRONG_MIC || NWK_LENGTH(damaged) != 0) {
+  if (NWK_REFUSAL(damaged) != NWK_REFUSED_WRONG_MIC || NWK_LENGTH(damaged) != 0 || !untouched(plain, sizeof plain) ||
+      !untouched(record, sizeof record)) {
     return 1;
   }
-  for (size_t i = 0; i < sizeof plain; i++) {
-    if (plain[i] != 0xA5) {
-      return 1;
-    }
-  }
-  for (size_t i = 0; i < sizeof record; i++) {
-    if (record[i] != 0xA5) {
-      return 1;
-    }
+
+  /* The last counter, whose frames receivers throw away: sealing refuses it by 21, and nothing is written. */
+  nwk_put32(auxiliary + NWK_AUXILIARY_COUNTER, 0xFFFFFFFF);
+  memset(frame, FILLER, sizeof frame);
+  uint64_t last = nwk_seal(key.first, key.second, header, sizeof header, auxiliary, sizeof auxiliary, payload,
+                           sizeof payload, frame, sizeof frame);
+  printf("last counter: refusal %u, length %u\n", NWK_REFUSAL(last), NWK_LENGTH(last));
+  if (NWK_REFUSAL(last) != NWK_REFUSED_LAST_COUNTER || NWK_LENGTH(last) != 0 || !untouched(frame, sizeof frame)) {
+    return 1;
   }
   return 0;
 }

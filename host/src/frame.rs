@@ -101,6 +101,9 @@ pub fn write(header: &NwkHeader, payload: &[u8], out: &mut [u8]) -> Result<usize
 ///
 /// frame[n - 1] ^= 1;
 /// assert_eq!(open(&key, &frame[..n], &mut out), Err(Refusal::WRONG_MIC));
+///
+/// let last = NwkAuxHeader { frame_counter: u32::MAX, ..auxiliary };
+/// assert_eq!(seal(&key, &header, Some(&last), b"21.5 C", &mut frame), Err(Refusal::LAST_COUNTER));
 /// # Ok::<(), Refusal>(())
 /// ```
 ///

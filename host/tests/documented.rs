@@ -1,5 +1,5 @@
-//! The cases that document 01 prints under "At the boundaries", those of document 02's request 3, and known answers of FIPS
-//! 197 and of NIST's CCM validation set: each is asked of the codec and of the model.
+//! The cases that document 01 prints under "At the boundaries", those of document 02's requests 3 and 4, and known answers of
+//! FIPS 197 and of NIST's CCM validation set: each is asked of the codec and of the model.
 #[allow(dead_code)]
 mod support;
 
@@ -173,6 +173,35 @@ fn sealing_fills_a_frame() {
     let empty = seal(0);
     assert_eq!(empty.answer, 26);
     assert_eq!(open(empty.outputs[0][..26].to_vec()).answer, 0);
+}
+
+/// Document 02, 4: counters 0 to `FFFFFFFE` are sealed. 21 is after 15 and before 17 and 18; without an auxiliary header it is
+/// 14. Opening accepts `FFFFFFFF`, and writing an auxiliary header alone takes it. The frame is another AES-CCM's.
+#[test]
+fn the_last_counter_is_not_sealed() {
+    let mut header = vec![0; HEADER_RECORD];
+    header[4] = 1;
+    let seal = |front: &str, counter: &str, ieee: &str, n: usize, room: usize| {
+        let auxiliary = bytes(&format!("{front} {counter} {ieee} 00"));
+        asked(Operation::Seal, [0; 16], vec![header.clone(), auxiliary, vec![0x55; n]], vec![room]).answer
+    };
+    let (present, last) = ("01 00 01 01 00", "FF FF FF FF");
+    let (ieee, none) = ("01 0D 6F 00 11 22 33 44 55", "00 00 00 00 00 00 00 00 00");
+    assert_eq!(seal(present, "00 00 00 00", ieee, 2, 118), 28);
+    assert_eq!(seal(present, "FE FF FF FF", ieee, 2, 118), 28);
+    assert_eq!(seal(present, last, ieee, 2, 118), 21 << 32);
+    assert_eq!(seal("00 00 01 01 00", last, ieee, 2, 118), 14 << 32);
+    assert_eq!(seal(present, last, none, 2, 118), 15 << 32);
+    assert_eq!((seal(present, last, ieee, 93, 118), seal(present, "FE FF FF FF", ieee, 93, 118)), (21 << 32, 17 << 32));
+    assert_eq!((seal(present, last, ieee, 2, 27), seal(present, "FE FF FF FF", ieee, 2, 27)), (21 << 32, 18 << 32));
+
+    let auxiliary = bytes(&format!("{present} {last} {ieee} 00"));
+    let written = asked(Operation::WriteAuxiliary, [0; 16], vec![auxiliary], vec![14]);
+    assert_eq!(written.outputs[0], bytes("28 FF FF FF FF 0D 6F 00 11 22 33 44 55 00"));
+    let frame = bytes("08 02 00 00 34 12 1E 07 28 FF FF FF FF 0D 6F 00 11 22 33 44 55 00 3F 9E FE E1 97");
+    let key = bytes("01 03 05 07 09 0B 0D 0F 00 02 04 06 08 0A 0C 0D").try_into().expect("a key");
+    let opened = asked(Operation::Open, key, vec![frame], vec![OPENED_RECORD, 1]);
+    assert_eq!((opened.answer, &opened.outputs[1][..]), (1, &[0xAA][..]));
 }
 
 #[test]

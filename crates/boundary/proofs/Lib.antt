@@ -1,3 +1,2 @@
--- The cases of both tables hold.
+-- The starred cases of document 01 hold.
 pub mod Starred
-pub mod LastCounter

@@ -1,4 +1,3 @@
--- The starred cases of document 01, and the boundary that document 02, 4 draws.
+-- The starred cases of document 01.
 pub mod Rows
 pub mod Starred
-pub mod LastCounter

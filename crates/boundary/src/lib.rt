@@ -1,2 +1,1 @@
-// The cases that document 01, "At the boundaries", marks with a star, and those of the last counter (document 02, 4): see specs/.
-// There is no code here.
+// The cases that document 01, "At the boundaries", marks with a star: see specs/Starred.antt. There is no code here.

@@ -1,5 +1,5 @@
--- Reading, writing, sealing and opening frames by their records: the refusals in document 01's order. 18 is also for a
--- record lent with too little room, before 19. Each function's answer, and what it leaves in each lent buffer, is a
+-- Reading, writing, sealing and opening frames by their records: the refusals in the order of documents 01 and 02. 18 is also
+-- for a record lent with too little room, before 19. Each function's answer, and what it leaves in each lent buffer, is a
 -- definition over the inputs and what the buffers held before.
 -- Assumes nothing.
 use Prim.Native.Nat.{ℕ}
@@ -49,7 +49,7 @@ writeFrameAnswer r p o = answerBy (writeFrameRefusal r p (length o)) (length (fr
 abbrev pub writeFrameOutput : List ℕ → List ℕ → List ℕ → List ℕ
 writeFrameOutput r p o = given (writeFrameRefusal r p (length o)) (frameBytes (headerOf r) p) o
 
--- ---- sealing: 13 for a record, then the frame's own 13, 14, 15, 17 and 18
+-- ---- sealing: 13 for a record, then the frame's own 13, 14, 15, 21, 17 and 18
 
 unfoldable pub sealRecordsRefusal : List ℕ → List ℕ → List ℕ → ℕ → ℕ
 sealRecordsRefusal r x p room =

@@ -56,8 +56,8 @@ pub extern "C" fn nwk_write_frame(header: &[u8], payload: &[u8], out: &mut [u8])
     answer(written.refusal, written.length)
 }
 
-// Seal a frame from the headers of two records and the payload, to the front of the output; refusals 13, 14, 15, 17
-// and 18.
+// Seal a frame from the headers of two records and the payload, to the front of the output; refusals 13, 14, 15, 21,
+// 17 and 18.
 #[no_mangle]
 pub extern "C" fn nwk_seal(
     key_first: u64,

@@ -14,7 +14,8 @@ use Rattle.header.specs.declared.{auxiliary.NwkSecurityLevel.NwkSecurityLevel, 
 use Rattle.frame.specs.declared.{OptionAuxHeader.OptionAuxHeader, Mark.Mark}
 use Rattle.frame.specs.Sealing.{sealFrame}
 use Rattle.frame.specs.Opening.{openFrame}
 use Rattle.boundary.specs.Starred.{fromProbe}
+use Rattle.worked_frames.specs.Bytes.{hex}
 
 -- ---- the rows, each under the one key and header
 
@@ -27,7 +28,7 @@ pub data Case : Type 0 where
   opens : List ℕ → OptionAuxHeader → List ℕ → Case
 
 unfoldable pub key : List ℕ
-key = 0x01 ∷ 0x03 ∷ 0x05 ∷ 0x07 ∷ 0x09 ∷ 0x0B ∷ 0x0D ∷ 0x0F ∷ 0x00 ∷ 0x02 ∷ 0x04 ∷ 0x06 ∷ 0x08 ∷ 0x0A ∷ 0x0C ∷ 0x0D ∷ []
+key = hex 16 0x01030507090B0D0F00020406080A0C0D
 
 -- data, version 2, source 0x1234, radius 30, sequence 7, the security bit set
 unfoldable pub probe : NwkHeader
@@ -81,28 +82,27 @@ counted ieee counter =
     })
 
 -- the address whose bytes in a frame are `0D 6F 00 11 22 33 44 55`
-unfoldable pub one : OptionEui64
-one = OptionEui64.Present 0x5544332211006F0D
+unfoldable pub probeIeee : OptionEui64
+probeIeee = OptionEui64.Present 0x5544332211006F0D
 
--- the headers in front of a frame from it, with the four bytes of a counter, the least significant first
-unfoldable pub front : ℕ → ℕ → ℕ → ℕ → List ℕ
-front a b c d =
-    0x08 ∷ 0x02 ∷ 0x00 ∷ 0x00 ∷ 0x34 ∷ 0x12 ∷ 0x1E ∷ 0x07
-    ∷ 0x28 ∷ a ∷ b ∷ c ∷ d ∷ 0x0D ∷ 0x6F ∷ 0x00 ∷ 0x11 ∷ 0x22 ∷ 0x33 ∷ 0x44 ∷ 0x55 ∷ 0x00 ∷ []
+-- one byte, `AA`, sealed with it under the counter before the last one, and under the last one
+unfoldable pub sealedBefore : List ℕ
+sealedBefore = hex 27 0x0802000034121E0728FEFFFFFF0D6F00112233445500D96FB00333
+
+unfoldable pub sealedLast : List ℕ
+sealedLast = hex 27 0x0802000034121E0728FFFFFFFF0D6F001122334455003F9EFEE197
 
 -- ---- the table
 
 unfoldable pub cases : List Case
 cases =
-    -- one byte, `AA`, under the counter before the last one, and under the last one
-    seals (counted one 0xFFFFFFFE) (0xAA ∷ []) (front 0xFE 0xFF 0xFF 0xFF ++ (0xD9 ∷ 0x6F ∷ 0xB0 ∷ 0x03 ∷ 0x33 ∷ []))
-    ∷ refuses (counted one 0xFFFFFFFF) (0xAA ∷ []) 21
-    -- with no address as well; without an auxiliary header there is no counter
+    seals (counted probeIeee 0xFFFFFFFE) (0xAA ∷ []) sealedBefore
+    ∷ refuses (counted probeIeee 0xFFFFFFFF) (0xAA ∷ []) 21
+    -- with no address as well; and with no auxiliary header, which has the counter
     ∷ refuses (counted OptionEui64.Absent 0xFFFFFFFF) (0xAA ∷ []) 15
     ∷ refuses OptionAuxHeader.Absent (0xAA ∷ []) 14
-    -- a payload of 93 bytes makes a frame of 119: 21 is before 17, and 17 is there under the counter before
-    ∷ refuses (counted one 0xFFFFFFFF) (replicate 93 0xAA) 21
-    ∷ refuses (counted one 0xFFFFFFFE) (replicate 93 0xAA) 17
-    -- sealed elsewhere with the last counter
-    ∷ opens (front 0xFF 0xFF 0xFF 0xFF ++ (0x3F ∷ 0x9E ∷ 0xFE ∷ 0xE1 ∷ 0x97 ∷ [])) (counted one 0xFFFFFFFF) (0xAA ∷ [])
+    -- a payload of 93 bytes, which makes a frame of 119: 21 is before 17
+    ∷ refuses (counted probeIeee 0xFFFFFFFF) (replicate 93 0xAA) 21
+    ∷ refuses (counted probeIeee 0xFFFFFFFE) (replicate 93 0xAA) 17
+    ∷ opens sealedLast (counted probeIeee 0xFFFFFFFF) (0xAA ∷ [])
     ∷ []

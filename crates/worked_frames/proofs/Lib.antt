@@ -1,0 +1,3 @@
+-- The worked cases hold.
+pub mod Blocks
+pub mod LastCounter

@@ -1,0 +1,3 @@
+-- Frames sealed and opened, worked out on the definitions.
+pub mod Bytes
+pub mod LastCounter
