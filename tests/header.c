@@ -11,7 +11,7 @@
 #include <string.h>
 
 static void print_texts(void) {
-  for (unsigned number = 0; number <= 21; number++) {
+  for (unsigned number = 0; number <= 22; number++) {
     printf("%u %s\n", number, nwk_refusal_text(NWK_CAST(uint8_t, number)));
   }
 }

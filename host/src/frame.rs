@@ -95,15 +95,15 @@ pub fn write(header: &NwkHeader, payload: &[u8], out: &mut [u8]) -> Result<usize
 /// let n = seal(&key, &header, Some(&auxiliary), b"21.5 C", &mut frame)?;
 /// assert_eq!(n, 8 + 14 + 6 + 4);
 ///
+/// let last = NwkAuxHeader { frame_counter: u32::MAX, ..auxiliary };
+/// assert_eq!(seal(&key, &header, Some(&last), b"21.5 C", &mut frame), Err(Refusal::LAST_COUNTER));
+///
 /// let mut out = [0; MAX_PAYLOAD];
 /// let opened = open(&key, &frame[..n], &mut out)?.sealed().expect("a sealed frame");
 /// assert_eq!((opened.header, opened.auxiliary, opened.payload), (header, auxiliary, &b"21.5 C"[..]));
 ///
 /// frame[n - 1] ^= 1;
 /// assert_eq!(open(&key, &frame[..n], &mut out), Err(Refusal::WRONG_MIC));
-///
-/// let last = NwkAuxHeader { frame_counter: u32::MAX, ..auxiliary };
-/// assert_eq!(seal(&key, &header, Some(&last), b"21.5 C", &mut frame), Err(Refusal::LAST_COUNTER));
 /// # Ok::<(), Refusal>(())
 /// ```
 ///

@@ -13,7 +13,7 @@ use support::random::Random;
 const SEED: u64 = 0xB0_0257;
 const ROUNDS: usize = 6_000;
 /// Bursts of every size, each own answer and each mark are compared at least this often.
-const AT_LEAST: usize = 20;
+const AT_LEAST: usize = 10;
 
 const FILL: u8 = 0xA5;
 

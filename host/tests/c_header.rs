@@ -110,7 +110,7 @@ fn check_texts<'a>(mut lines: impl Iterator<Item = &'a str>) {
     for refusal in Refusal::all() {
         assert_eq!(lines.next(), Some(format!("{} {}", refusal.number(), refusal.condition()).as_str()));
     }
-    assert_eq!(lines.next(), Some("21 a number that the list does not have"));
+    assert_eq!(lines.next(), Some("22 a number that the list does not have"));
     assert_eq!(lines.next(), None);
 }
 

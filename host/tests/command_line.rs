@@ -483,7 +483,9 @@ fn sealing_writes_the_frame_that_another_implementation_made() {
 
 #[test]
 fn each_sealed_frame_has_the_next_counter_and_what_fails_is_said() {
-    let clear = format!("0800000034121E07AA\n{SEALED}\n0800000034121E\n0800000034121E07BB\n0800000034121E07CC\n0800000034121E07DD\n");
+    let clear = format!(
+        "0800000034121E07AA\n{SEALED}\n0800000034121E\n0800000034121E07BB\n0800000034121E07CC\n0800000034121E07DD\n"
+    );
     let ran = run(&["seal", "--key", KEY, "--ieee", "0807060504030201", "--counter", "4294967293"], clear.as_bytes());
     let errors = "store-reader: line 2: the frame is sealed already\n\
                   store-reader: line 3: refused by 2: a header has fewer than 8 bytes\n\

@@ -8,11 +8,11 @@ use support::calls::{Call, Outcome};
 use support::compare::compare;
 use support::generate::{commands, headers};
 use support::model::auxiliary::{record as auxiliary_record, Auxiliary};
-use support::model::{frame, LAST_COUNTER};
 use support::model::header::{self, Header, SourceRoute};
+use support::model::{frame, LAST_COUNTER};
 use support::operations::{
-    Operation, AUXILIARY_COUNTER, AUXILIARY_RECORD, COMMAND_RECORD, HEADER_RECORD, MARK_CLEAR, MARK_SEALED, OPENED_MARK, OPENED_RECORD,
-    PART,
+    Operation, AUXILIARY_COUNTER, AUXILIARY_RECORD, COMMAND_RECORD, HEADER_RECORD, MARK_CLEAR, MARK_SEALED,
+    OPENED_MARK, OPENED_RECORD, PART,
 };
 use support::random::Random;
 
@@ -267,7 +267,8 @@ fn every_byte_beside_the_last_counter() {
     let (header, _) = header::read(&SECURED).expect("the shortest header");
     let ieee = Some(random.array());
     for (at, value) in AUXILIARY_COUNTER.flat_map(|at| (0..=255).map(move |value| (at, value))) {
-        let auxiliary = Auxiliary { counter: LAST_COUNTER, extended_nonce: true, ieee, ..headers::auxiliary(&mut random) };
+        let auxiliary =
+            Auxiliary { counter: LAST_COUNTER, extended_nonce: true, ieee, ..headers::auxiliary(&mut random) };
         let mut record = auxiliary_record(&Some(auxiliary));
         record[at] = value;
         let inputs = vec![header.record(), record, random.bytes(2)];

@@ -1,7 +1,7 @@
 //! What the generated calls of sealing met of the last counter: 21 by itself, the numbers that come before it and those that come
 //! behind it; and, sealed, counters that differ from the last one in one byte.
 use super::calls::{Call, Outcome};
-use super::model::{auxiliary, frame, header::Header, LAST_COUNTER, MAX_FRAME, MAX_PAYLOAD};
+use super::model::{self, LAST_COUNTER, MAX_FRAME, MAX_PAYLOAD};
 use super::operations::{Operation, AUXILIARY_COUNTER};
 use std::collections::BTreeMap;
 
@@ -17,7 +17,8 @@ const REFUSED: [&str; 7] = [
 ];
 
 /// Counters that are sealed, by the byte in which they differ from the last one; and the one before it.
-const SEALED: [&str; 4] = ["all but byte 0 of it", "all but byte 1 of it", "all but byte 2 of it", "all but byte 3 of it"];
+const SEALED: [&str; 4] =
+    ["all but byte 0 of it", "all but byte 1 of it", "all but byte 2 of it", "all but byte 3 of it"];
 const BEFORE_IT: &str = "the one before it";
 
 #[derive(Default)]
@@ -77,11 +78,8 @@ fn refused(number: u8, call: &Call) -> Option<&'static str> {
 }
 
 fn behind(call: &Call) -> Option<&'static str> {
-    let header = Header::of_record(&call.inputs[0]).ok()?;
-    let auxiliary = auxiliary::of_record(&call.inputs[1]).ok()??;
-    let payload = &call.inputs[2];
-    let length = frame::sealed_length(&header, &auxiliary, payload);
-    let too_long = payload.len() > MAX_PAYLOAD || length > MAX_FRAME;
+    let length = model::sealed_length(call)?;
+    let too_long = call.inputs[2].len() > MAX_PAYLOAD || length > MAX_FRAME;
     Some(match (too_long, call.rooms[0] < length) {
         (false, false) => "21 and no other",
         (true, false) => "21 before 17",

@@ -77,10 +77,13 @@ fn payload(wanted: Option<usize>, random: &mut Random) -> Vec<u8> {
     random.bytes(n)
 }
 
-/// What each output needs, none where the call is refused however much is lent. For a burst its lengths' number says it.
+/// What each output needs, none where the call is refused however much is lent. For a burst its lengths' number says it, and for
+/// sealing the two records and the payload, whatever else is refused.
 fn needed(call: &Call) -> Option<Vec<usize>> {
-    if call.operation == Operation::OpenBurst {
-        return Some(bursts::needed(call));
+    match call.operation {
+        Operation::OpenBurst => return Some(bursts::needed(call)),
+        Operation::Seal => return Some(vec![model::sealed_length(call)?]),
+        _ => {}
     }
     let rooms = vec![ROOMY; call.operation.shape().outputs.len()];
     let done = model::run(&Call { rooms, ..call.clone() }).ok()?;

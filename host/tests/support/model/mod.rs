@@ -130,6 +130,13 @@ fn write_frame(record: &[u8], payload: &[u8], rooms: &[usize]) -> Answer {
     given(bytes)
 }
 
+/// How many bytes a call of sealing would write if nothing were refused; none if a record is, or there is no auxiliary header.
+pub fn sealed_length(call: &Call) -> Option<usize> {
+    let header = header::Header::of_record(&call.inputs[0]).ok()?;
+    let auxiliary = auxiliary::of_record(&call.inputs[1]).ok()??;
+    Some(frame::sealed_length(&header, &auxiliary, &call.inputs[2]))
+}
+
 fn seal(key: &[u8; 16], header: &[u8], auxiliary: &[u8], payload: &[u8], rooms: &[usize]) -> Answer {
     let header = header::Header::of_record(header)?;
     let auxiliary = auxiliary::of_record(auxiliary)?.ok_or(14)?;
