@@ -7,12 +7,14 @@ use Prim.Native.Nat.{ℕ}
 use native.Mathlib.Omega.{arith}
 use borrow.Author.Tests.{eq-eqb, eqb-true}
 use lib.ListN.{length}
-use Rattle.octets.specs.Refusals.{unless, on, by, firstOf}
+use Rattle.octets.specs.Numbers.{leAt}
+use Rattle.octets.specs.Refusals.{unless, Condition, on, by, firstOf}
 use Rattle.octets.specs.Writing.{wroteNothing, written}
 use Rattle.octets.proofs.Conditions.{none, none-refuse, skip, stop-by, skip-by}
 use Rattle.octets.proofs.Writing.{write-refused, written-number}
-use Rattle.header.specs.declared.{auxiliary.NwkAuxHeader.NwkAuxHeader, nwk.NwkHeader.NwkHeader}
+use Rattle.header.specs.declared.nwk.NwkHeader.{NwkHeader}
 use Rattle.header.specs.Reading.{readHeader}
+use Rattle.header.specs.Auxiliary.{auxBy, blankAux}
 use Rattle.header.specs.Writing.{badHeader, fieldRefusal}
 use Rattle.header.proofs.ReadFacts.{header-facts}
 use Rattle.ccm.specs.Operations.{micLength}
@@ -21,18 +23,19 @@ use Rattle.frame.specs.Reading.{auxBehind}
 use Rattle.frame.specs.Security.{networkLevel, orBlank, noIeee}
 use Rattle.frame.specs.Sealing.{sealedBytes, lengthRefusals, counterOf, lastCounter, sealRefusal, sealFrame}
 use Rattle.frame.specs.Opening as opening
-use Rattle.frame.specs.Opening.{openFrame}
 use Rattle.frame.specs.LastCounter.{sealWithout21, SealableCounters, NothingElseChanged, LastRefused, OnlyTheLast, StillOpened, LeftOut}
-use Rattle.frame.proofs.Accepted.{bytes-written, sealable-without, number-without, not-last, sealable}
-use Rattle.frame.proofs.Marks.{Never, never}
+use Rattle.frame.proofs.Accepted.{bytes-written, sealable-without, number-without, not-last}
+use Rattle.frame.proofs.Marks.{never}
 use Rattle.frame.proofs.SecondHalf.{secured-facts}
 use Rattle.frame.proofs.SealingLaw.{seal-number, opened-again, opened-sealed, opened-run}
 
 -- ---- other counters
 
 pub sealable-counters : SealableCounters
+unfolding leAt auxBy blankAux
 sealable-counters key h OptionAuxHeader.Absent p o fits accepted =
-    absurd (mathlib.Core.Bool.true≢false (sealable micLength h OptionAuxHeader.Absent p (length o) (sym (seal-number key h OptionAuxHeader.Absent p o) ∙ accepted) .present))
+    let blank : counterOf OptionAuxHeader.Absent ≡ 0 = refl in
+    omega arith
 sealable-counters key h (OptionAuxHeader.Present x) p o fits accepted =
     let other = not-last micLength h (OptionAuxHeader.Present x) p (length o) (sym (seal-number key h (OptionAuxHeader.Present x) p o) ∙ accepted) in
     omega (arith, fits .counter, other)
@@ -47,9 +50,9 @@ nothing-else-changed key h a p o other =
 pub last-refused : LastRefused
 unfolding sealFrame sealRefusal firstOf unless
 last-refused key h x p o last =
-    let n = firstOf (by (fieldRefusal h) ∷ on 15 (noIeee h x) ∷ by 21 ∷ []) in
-    let number : n ≡ sealRefusal micLength h (OptionAuxHeader.Present x) p (length o) = rw (eq-eqb (x .«frame_counter») lastCounter last) refl in
-    sym (write-refused _ n (sealedBytes networkLevel micLength key h x p) o number (λ z. let e = none (by (fieldRefusal h) ∷ on 15 (noIeee h x) ∷ by 21 ∷ []) z .1 .1 .0 in omega arith))
+    let list : List Condition = by (fieldRefusal h) ∷ on 15 (noIeee h x) ∷ by 21 ∷ [] in
+    let number : firstOf list ≡ sealRefusal micLength h (OptionAuxHeader.Present x) p (length o) = rw (eq-eqb (x .«frame_counter») lastCounter last) refl in
+    sym (write-refused _ (firstOf list) (sealedBytes networkLevel micLength key h x p) o number (λ z. omega (arith, none list z .1 .1 .0)))
 
 -- where the number is 21, the entry of 21 holds
 only-21 : (n : ℕ) (a b c d e : Bool) → (n ≡ 21 → ⊥) → firstOf (by n ∷ on 14 a ∷ on 15 b ∷ on 21 c ∷ on 17 d ∷ on 18 e ∷ []) ≡ 21 → c ≡ true

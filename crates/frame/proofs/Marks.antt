@@ -124,7 +124,7 @@ payload-length-said key f o =
 -- ---- 14
 
 -- a number that no entry of a list gives
-abbrev pub Never : ℕ → List Condition → Type 0
+abbrev Never : ℕ → List Condition → Type 0
 Never m [] = Unit {0}
 Never m (on n b ∷ cs) = (eqb n m ≡ false) × Never m cs
 Never m (by n ∷ cs) = (n ≡ m → ⊥) × Never m cs

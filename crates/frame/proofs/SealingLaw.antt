@@ -23,7 +23,7 @@ use Rattle.frame.specs.Reading.{readFrame}
 use Rattle.frame.specs.Security.{networkLevel, orBlank}
 use Rattle.frame.specs.Sealing.{counterOf, lastCounter, sealRefusal, sealedBytes, sealFrame}
 use Rattle.frame.specs.Opening as opening
-use Rattle.frame.specs.Opening.{verified, openRefused, sealedGiven, openBy, openFrame, payloadIn}
+use Rattle.frame.specs.Opening.{verified, openRefused, sealedGiven, openFrame, payloadIn}
 use Rattle.frame.specs.Marks.{Openable}
 use Rattle.frame.specs.SealingLaw.{AuxOptionFits, AuxOptionAgrees, FirstHalf, SecondHalf, sealThenOpen, openThenSeal, Reopened, Resealed, bytesWritten, payloadGiven}
 use Rattle.frame.proofs.Accepted.{bytes-written, Sealable, sealable, seal-accepts, run-either, sealed-run, marked-sealed}

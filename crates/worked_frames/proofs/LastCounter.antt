@@ -30,7 +30,7 @@ use Rattle.frame.specs.Opening.{behind, ciphertextOf, micOf, verified, openRefu
 use Rattle.boundary.specs.Rows.{All}
 use Rattle.boundary.specs.Starred.{fromProbe}
 use Rattle.worked_frames.specs.Bytes.{hex}
-use Rattle.worked_frames.specs.LastCounter.{seals, refuses, opens, Holds, lent, cases, key, probe, counted, probeIeee, sealedBefore, sealedLast}
+use Rattle.worked_frames.specs.LastCounter.{seals, opens, Holds, lent, cases, key, probe, counted, probeIeee, sealedBefore, sealedLast}
 use Rattle.worked_frames.proofs.Blocks.{ciphered, under-key, before-front, before-back, before-stream, last-front, last-back, last-stream}
 
 -- ---- CCM from its blocks

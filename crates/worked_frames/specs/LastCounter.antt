@@ -10,7 +10,7 @@ use lib.ListN.{length, drop, replicate}
 use Rattle.types.specs.Addresses.{noNwk}
 use Rattle.types.specs.Optional.{hasIeee}
 use Rattle.types.specs.declared.OptionEui64.{OptionEui64}
-use Rattle.header.specs.declared.{auxiliary.NwkSecurityLevel.NwkSecurityLevel, auxiliary.NwkSecurityHeaderKeyId.NwkSecurityHeaderKeyId, control.NwkFrameControl.NwkFrameControl, control.NwkFrameType.NwkFrameType, control.NwkRouteDiscovery.NwkRouteDiscovery, optional.NwkSourceRoute.NwkSourceRoute, nwk.NwkHeader.NwkHeader}
+use Rattle.header.specs.declared.{auxiliary.NwkSecurityLevel.NwkSecurityLevel, auxiliary.NwkSecurityHeaderKeyId.NwkSecurityHeaderKeyId, control.NwkFrameType.NwkFrameType, control.NwkRouteDiscovery.NwkRouteDiscovery, optional.NwkSourceRoute.NwkSourceRoute, nwk.NwkHeader.NwkHeader}
 use Rattle.frame.specs.declared.{OptionAuxHeader.OptionAuxHeader, Mark.Mark}
 use Rattle.frame.specs.Sealing.{sealFrame}
 use Rattle.frame.specs.Opening.{openFrame}

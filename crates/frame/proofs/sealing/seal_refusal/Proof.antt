@@ -57,7 +57,7 @@ returns-4 c =
     let good = present .before .before in
     sym (from-21 _ _ _ _ _ _ _ _ (good .before .field-refusal .ensures) (good .if1 .left) (present .before .is-absent .ensures) (present .if2 .left)
     (blank .or-blank .ensures) (ieee .before .no-ieee .ensures) (ieee .if3 .left)
-    ∙ stop 21 _ _ (eq-eqb _ _ (c .if4 .taken)))
+    ∙ stop 21 _ _ (eq-eqb _ lastCounter (c .if4 .taken)))
 
 returns-5 : tie.Need-returns-5
 returns-5 c =
@@ -68,7 +68,7 @@ returns-5 c =
     c .length-refusal .ensures
     ∙ sym (from-21 _ _ _ _ _ _ _ _ (good .before .field-refusal .ensures) (good .if1 .left) (present .before .is-absent .ensures) (present .if2 .left)
     (blank .or-blank .ensures) (ieee .before .no-ieee .ensures) (ieee .if3 .left)
-    ∙ skip 21 _ _ (ne-eqb _ _ (c .before .if4 .left)))
+    ∙ skip 21 _ _ (ne-eqb _ lastCounter (c .before .if4 .left)))
 
 pub seal-refusal-spec : {M : Type 1} → statement M
 seal-refusal-spec =
