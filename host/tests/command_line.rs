@@ -499,6 +499,18 @@ fn each_sealed_frame_has_the_next_counter_and_what_fails_is_said() {
     assert_eq!(opened.out, expected);
 }
 
+/// Document 02, 4: the counter `FFFFFFFF` is not sealed; without a long address as well it is 15.
+#[test]
+fn sealing_with_the_last_counter_is_refused_by_21() {
+    let clear = b"0800000034121E07AA\n0800000034121E07BB\n";
+    let ran = run(&["seal", "--key", KEY, "--ieee=0807060504030201", "--counter=0xFFFFFFFF", "--json"], clear);
+    let line =
+        |n: usize| format!("{{\"line\":{n},\"refusal\":21,\"condition\":\"the counter to be sealed is FFFFFFFF\"}}\n");
+    assert_eq!((ran.out, ran.err.as_str(), ran.status), (line(1) + &line(2), "", 1));
+    let ran = run(&["seal", "--key", KEY, "--counter=4294967295"], b"0800000034121E07AA\n");
+    assert!(ran.err.starts_with("store-reader: line 1: refused by 15: "), "{}", ran.err);
+}
+
 #[test]
 fn sealing_without_a_long_address_is_refused_by_15() {
     let ran = run(&["seal", "--key", KEY, "--counter", "1"], b"0800000034121E07AA\n");
