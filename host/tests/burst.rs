@@ -11,9 +11,9 @@ use support::operations::{Operation, MARK_CLEAR, MARK_SEALED, MAX_BURST, OPENED_
 use support::random::Random;
 
 const SEED: u64 = 0xB0_0257;
-const ROUNDS: usize = 6_000;
+const ROUNDS: usize = 12_000;
 /// Bursts of every size, each own answer and each mark are compared at least this often.
-const AT_LEAST: usize = 10;
+const AT_LEAST: usize = 20;
 
 const FILL: u8 = 0xA5;
 
