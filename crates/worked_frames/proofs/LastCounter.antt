@@ -1,4 +1,4 @@
--- Every row of the table of the last counter holds, by computing the definitions: probeIeee claim, in which a wrong row fails. What
+-- Every row of the table of the last counter holds, by computing the definitions: one claim, in which a wrong row fails. What
 -- AES-128 makes of a block is taken from proofs/Blocks.antt, so that each block is computed once.
 -- Assumes nothing.
 use mathlib.Core.Bool.{true, cond, not}
