@@ -151,8 +151,8 @@ enum nwk_refusal {
  *        1      1  mark: NWK_MARK_CLEAR, NWK_MARK_SEALED, or beside a refusal NWK_MARK_NONE
  *        2      2  length of the payload, wherever it stands (nwk_open)
  *        4      1  count of cipher blocks; 0 until it is reported
- *        5      1  presence of the IEEE that the nonce used; 0 until it is reported
- *        6      8  that IEEE, in wire order; 0 until it is reported
+ *        5      1  presence of the IEEE that the nonce used: 1 where the frame was sealed, 0 where it was clear or refused
+ *        6      8  that IEEE, in wire order: the auxiliary record's, else the header record's source IEEE; 0 where absent
  *       14      2  0
  *       16    147  header record
  *      163     19  auxiliary record, with the level as received; absent, all zeros, where the frame was clear
@@ -314,7 +314,7 @@ uint64_t nwk_seal(uint64_t key_first, uint64_t key_second, const uint8_t *header
  * nwk_payload gives the address in either case. A payload of type 1 is a command, sealed or clear (nwk_payload_kind).
  * Refusals: 1 to 12 as nwk_read_frame; of a sealed frame 15 no IEEE for the nonce, 16 fewer than 4 bytes behind the headers, 18
  * out shorter than the payload; of any frame 18 opened shorter than 182; of a sealed frame 19 the MIC is not the one computed.
- * Afterwards opened holds the opened record, with the same mark. */
+ * Afterwards opened holds the opened record, with the same mark and, of a sealed frame, the IEEE that the nonce used. */
 uint64_t nwk_open(uint64_t key_first, uint64_t key_second, const uint8_t *bytes, size_t bytes_len, uint8_t *opened,
                   size_t opened_len, uint8_t *out, size_t out_len);
 
@@ -323,10 +323,10 @@ uint64_t nwk_open(uint64_t key_first, uint64_t key_second, const uint8_t *bytes,
  * lengths; lengths whose sum is not frames_len; out shorter than 108 times lengths_count; fewer answers than lengths. Nothing
  * else refuses a burst: no frames are accepted with 0, and a frame that opening alone refuses has its number in its own record
  * and stops no other.
- * Afterwards answers[k] is the opened record of frame k (from 0), number, mark and length included. The mark says where the payload
- * of frame k is: NWK_MARK_SEALED at the front of its own part of out, the 108 bytes from 108 * k; NWK_MARK_CLEAR in the last bytes
- * of frame k, and its part is not touched; NWK_MARK_NONE nowhere, the frame is refused. It is what nwk_open would leave of frame k
- * alone with that part lent. Beside a refused frame's number all the rest of its record is 0, and its part stays. So do the bytes
+ * Afterwards answers[k] is the opened record of frame k (from 0), number, mark, length and the nonce's IEEE included. The mark says
+ * where the payload of frame k is: NWK_MARK_SEALED at the front of its own part of out, the 108 bytes from 108 * k; NWK_MARK_CLEAR in
+ * the last bytes of frame k, and its part is not touched; NWK_MARK_NONE nowhere, the frame is refused. It is what nwk_open would leave
+ * of frame k alone with that part lent. Beside a refused frame's number all the rest of its record is 0, and its part stays. So do the bytes
  * behind a payload and behind the last part, and the records past the number of frames. */
 uint64_t nwk_open_burst(uint64_t key_first, uint64_t key_second, const uint8_t *frames, size_t frames_len,
                         const uint16_t *lengths, size_t lengths_count, uint8_t (*answers)[NWK_OPENED_RECORD],

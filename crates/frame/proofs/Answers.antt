@@ -15,6 +15,7 @@ use Rattle.octets.proofs.Strings.{over-then, drop-below}
 use Rattle.octets.specs.Refusals.{Condition, on, firstOf, unless}
 use Rattle.octets.proofs.Conditions.{refused-by, unless-number, none, stop, skip, stop-by, skip-by, empty}
 use Rattle.header.specs.declared.{auxiliary.AuxRead.AuxRead, nwk.HeaderRead.HeaderRead, auxiliary.NwkSecurityLevel.NwkSecurityLevel, auxiliary.NwkAuxHeader.NwkAuxHeader, nwk.NwkHeader.NwkHeader}
+use Rattle.types.specs.declared.OptionEui64.{OptionEui64}
 use Rattle.header.specs.Reading.{readHeader}
 use Rattle.header.specs.Writing.{headerBytes, badHeader}
 use Rattle.header.specs.Auxiliary.{auxBytes, readAux}
@@ -23,7 +24,7 @@ use Rattle.ccm.specs.declared.Split.{Split}
 use Rattle.ccm.specs.Verification.{Verified}
 use Rattle.ccm.specs.Operations.{micLength, sealedBy, openedBy, Under, splitMic, givenIf}
 use Rattle.frame.specs.declared.{OptionAuxHeader.OptionAuxHeader, FrameRead.FrameRead, Mark.Mark}
-use Rattle.frame.specs.Security.{networkLevel, sentLevel, atLevel, orBlank, nonce, authenticated}
+use Rattle.frame.specs.Security.{networkLevel, sentLevel, atLevel, orBlank, nonceIeee, nonce, authenticated}
 use Rattle.frame.specs.Sealing.{generated, sealedBytes}
 use Rattle.frame.specs.Opening.{isSealed, behind, ciphertextOf, micOf, verified, openRefusals, openRefusal, Run, sealedGiven, clearGiven, openNothing, openBy, openFrame}
 use Rattle.frame.proofs.Accepted.{counts, counts-not, openable, sealed-run, clear-run}
@@ -207,13 +208,16 @@ module _ (w : List (List (List ℕ))) (f part o o′ : List ℕ) (r : FrameRead)
     (sealed : isSealed (r .header) ≡ true)
     (valid : Under w (λ (key : List ℕ). b ≡ made key (r .header) x part .valid))
     (given : Under w (λ (key : List ℕ). o′ ≡ givenIf b (made key (r .header) x part) o)) where
-  pub opened-valid : b ≡ true → Under w (λ (key : List ℕ).
-      _≡_ {A = Run} (record { answer = record { refusal = 0; mark = Mark.Sealed; length = length part - 4; header = r .header; aux = r .aux }; out = o′ }) (openFrame key f o))
+  pub opened-valid : (ieee : OptionEui64) → ieee ≡ nonceIeee (x .«extended_source») (r .header .«source_ieee») → b ≡ true → Under w (λ (key : List ℕ).
+      _≡_ {A = Run}
+      (record { answer = record { refusal = 0; mark = Mark.Sealed; length = length part - 4; «nonce_ieee» = ieee; header = r .header; aux = r .aux }; out = o′ })
+      (openFrame key f o))
   unfolding givenIf
-  opened-valid t key e =
+  opened-valid ieee address t key e =
       let v = verified-is key f part r x present rest in
+      let named = address ∙ ap (λ (y : NwkAuxHeader). nonceIeee (y .«extended_source») (r .header .«source_ieee»)) present in
       (λ i. record {
-        answer = record { refusal = 0; mark = Mark.Sealed; length = payload-size key f part r rest i; header = r .header; aux = r .aux };
+        answer = record { refusal = 0; mark = Mark.Sealed; length = payload-size key f part r rest i; «nonce_ieee» = named i; header = r .header; aux = r .aux };
         out = (rw (t, v) at (given key e)) i;
       })
       ∙ open-valid key f part o r n read rest number passed sealed (sym (valid key e ∙ ap (λ (y : Verified). y .valid) v) ∙ t)
@@ -229,8 +233,13 @@ module _ (w : List (List (List ℕ))) (f part o o′ : List ℕ) (r : FrameRead)
 pub opened-clear : (f part o : List ℕ) (r : FrameRead) (n : ℕ) → r ≡ readFrame f → part ≡ drop (r .length) f
     → n ≡ firstOf (openRefusals micLength (r .refusal) (r .header) (r .aux) (length part) (length o)) → n ≡ 0 → isSealed (r .header) ≡ false
     → (key : List ℕ)
-    → _≡_ {A = Run} (record { answer = record { refusal = 0; mark = Mark.Clear; length = length part; header = r .header; aux = r .aux }; out = o }) (openFrame key f o)
+    → _≡_ {A = Run}
+    (record { answer = record { refusal = 0; mark = Mark.Clear; length = length part; «nonce_ieee» = OptionEui64.Absent; header = r .header; aux = r .aux }; out = o })
+    (openFrame key f o)
 unfolding behind
 opened-clear f part o r n read rest number passed off key =
-    (λ i. record { answer = record { refusal = 0; mark = Mark.Clear; length = length (rest i); header = r .header; aux = r .aux }; out = o })
+    (λ i. record {
+      answer = record { refusal = 0; mark = Mark.Clear; length = length (rest i); «nonce_ieee» = OptionEui64.Absent; header = r .header; aux = r .aux };
+      out = o;
+    })
     ∙ open-clear key f part o r n read rest number passed off

@@ -23,7 +23,7 @@ use Rattle.ccm.specs.Operations.{openedBy}
 use Rattle.ccm.proofs.Opening.{length-ciphertext, length-tag, opened-sealed}
 use Rattle.frame.specs.declared.{OptionAuxHeader.OptionAuxHeader, FrameRead.FrameRead, Mark.Mark}
 use Rattle.frame.specs.Reading.{secured, auxIf, auxBehind, frameRefusal, frameGiven, frameNumber, frameBy, readFrame}
-use Rattle.frame.specs.Security.{sentLevel, atLevel, orBlank, noIeee, nonce, authenticated}
+use Rattle.frame.specs.Security.{sentLevel, atLevel, orBlank, nonceIeee, noIeee, nonce, authenticated}
 use Rattle.frame.specs.Sealing.{generated, sealedBytes, sealedLength}
 use Rattle.frame.specs.Opening.{isSealed, behind, ciphertextOf, micOf, verified, openBy}
 use Rattle.frame.specs.Marks.{Openable}
@@ -177,7 +177,14 @@ module _ (l : NwkSecurityLevel) (t : ℕ) (key : List ℕ) (h : NwkHeader) (x : 
     pub reopened : (out : List ℕ) → noIeee h x ≡ false → length p ≤ length out
         → openBy l t key (sealedBytes l t key h x p) (readFrame (sealedBytes l t key h x p)) out
         ≡ record {
-          answer = record { refusal = 0; mark = Mark.Sealed; length = length p; header = cleared h; aux = OptionAuxHeader.Present (atLevel sentLevel x) };
+          answer = record {
+            refusal = 0;
+            mark = Mark.Sealed;
+            length = length p;
+            «nonce_ieee» = nonceIeee (atLevel sentLevel x .«extended_source») (cleared h .«source_ieee»);
+            header = cleared h;
+            aux = OptionAuxHeader.Present (atLevel sentLevel x);
+          };
           out = over out 0 p;
         }
     unfolding readBack
@@ -185,6 +192,13 @@ module _ (l : NwkSecurityLevel) (t : ℕ) (key : List ℕ) (h : NwkHeader) (x : 
         ap (λ (r : FrameRead). openBy l t key (sealedBytes l t key h x p) r out) frame-read
         ∙ sealed-run l t key (sealedBytes l t key h x p) readBack out (openable-back (length out) ieee room)
         ∙ (λ i. record {
-          answer = record { refusal = 0; mark = Mark.Sealed; length = length (made .1 i); header = cleared h; aux = OptionAuxHeader.Present (atLevel sentLevel x) };
+          answer = record {
+            refusal = 0;
+            mark = Mark.Sealed;
+            length = length (made .1 i);
+            «nonce_ieee» = nonceIeee (atLevel sentLevel x .«extended_source») (cleared h .«source_ieee»);
+            header = cleared h;
+            aux = OptionAuxHeader.Present (atLevel sentLevel x);
+          };
           out = over out 0 (made .1 i);
         })

@@ -11,11 +11,12 @@ use Rattle.octets.specs.Strings.{over}
 use Rattle.octets.specs.Refusals.{unless, Condition, on, by, firstOf}
 use Rattle.header.specs.declared.{auxiliary.NwkSecurityLevel.NwkSecurityLevel, nwk.NwkHeader.NwkHeader}
 use Rattle.header.specs.Reading.{blankHeader}
+use Rattle.types.specs.declared.OptionEui64.{OptionEui64}
 use Rattle.ccm.specs.Verification.{Verified}
 use Rattle.ccm.specs.Operations.{micLength, openedBy}
 use Rattle.frame.specs.declared.{OptionAuxHeader.OptionAuxHeader, FrameRead.FrameRead, Mark.Mark, FrameOpened.FrameOpened}
 use Rattle.frame.specs.Reading.{readFrame}
-use Rattle.frame.specs.Security.{networkLevel, orBlank, noIeee, nonce, authenticated}
+use Rattle.frame.specs.Security.{networkLevel, orBlank, nonceIeee, noIeee, nonce, authenticated}
 
 -- the security bit: set in the header of a sealed frame, off in that of a clear one
 abbrev pub isSealed : NwkHeader → Bool
@@ -58,28 +59,36 @@ openRefusal l t key f r room =
     ∷ on 19 (isSealed (r .header) && not (verified l t key f r .valid))
     ∷ [])
 
--- the number alone: no mark stands beside a refusal
+-- the number alone: no mark and no address stand beside a refusal
 unfoldable pub openRefused : ℕ → FrameOpened
-openRefused n = record { refusal = n; mark = Mark.Unmarked; length = 0; header = blankHeader; aux = OptionAuxHeader.Absent }
+openRefused n =
+    record { refusal = n; mark = Mark.Unmarked; length = 0; «nonce_ieee» = OptionEui64.Absent; header = blankHeader; aux = OptionAuxHeader.Absent }
 
 -- what opening leaves: its answer, and the whole of the lent output
 pub record Run : Type 0 where
   pub answer : FrameOpened
   pub out : List ℕ
 
--- sealed: the two headers as read, and the payload at the front of the output
+-- sealed: the two headers as read, the long address that the nonce used, and the payload at the front of the output
 abbrev pub sealedGiven : FrameRead → Verified → List ℕ → Run
 sealedGiven r v o =
     record {
-      answer = record { refusal = 0; mark = Mark.Sealed; length = length (v .payload); header = r .header; aux = r .aux };
+      answer = record {
+        refusal = 0;
+        mark = Mark.Sealed;
+        length = length (v .payload);
+        «nonce_ieee» = nonceIeee (orBlank (r .aux) .«extended_source») (r .header .«source_ieee»);
+        header = r .header;
+        aux = r .aux;
+      };
       out = over o 0 (v .payload);
     }
 
--- clear: the two headers as read, the length of the payload, which stays in the frame, and the output as it was
+-- clear: the two headers as read, the length of the payload, which stays in the frame, no address, and the output as it was
 abbrev pub clearGiven : List ℕ → FrameRead → List ℕ → Run
 clearGiven f r o =
     record {
-      answer = record { refusal = 0; mark = Mark.Clear; length = length (behind f r); header = r .header; aux = r .aux };
+      answer = record { refusal = 0; mark = Mark.Clear; length = length (behind f r); «nonce_ieee» = OptionEui64.Absent; header = r .header; aux = r .aux };
       out = o;
     }
 

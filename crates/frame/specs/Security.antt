@@ -45,6 +45,11 @@ ieeeOf (OptionEui64.Present x) s = x
 ieeeOf OptionEui64.Absent (OptionEui64.Present x) = x
 ieeeOf OptionEui64.Absent OptionEui64.Absent = 0
 
+-- that address, or none where neither has one
+abbrev pub nonceIeee : OptionEui64 → OptionEui64 → OptionEui64
+nonceIeee (OptionEui64.Present x) s = OptionEui64.Present x
+nonceIeee OptionEui64.Absent s = s
+
 -- neither has one (refusal 15)
 abbrev pub noIeee : NwkHeader → NwkAuxHeader → Bool
 noIeee h a = not (hasIeee (a .«extended_source») || hasIeee (h .«source_ieee»))

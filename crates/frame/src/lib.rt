@@ -7,6 +7,7 @@ use header::nwk::NwkHeader;
 use octets::Written;
 use octets::refusals;
 use types::MAX_NSDU_SIZE;
+use types::OptionEui64;
 ghost use mathlib.Core.Path.{_≡_};
 ghost use mathlib.Core.Bool.{cond};
 ghost use Prim.Native.Nat.{_+_, _≤_};
@@ -50,12 +51,14 @@ pub enum Mark {
     Sealed,
 }
 
-// What opening a frame answers: a refusal's number with no mark, length 0 and blank headers, or 0, the mark, the payload's
-// length and the two headers as read. `opening::payload` gives the payload.
+// What opening a frame answers: a refusal's number with no mark, length 0, no address and blank headers, or 0, the mark, the
+// payload's length, the long address that the nonce used (none of a clear frame) and the two headers as read.
+// `opening::payload` gives the payload.
 pub struct FrameOpened {
     pub refusal: u8,
     pub mark: Mark,
     pub length: usize,
+    pub nonce_ieee: OptionEui64,
     pub header: NwkHeader,
     pub aux: OptionAuxHeader,
 }

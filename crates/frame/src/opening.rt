@@ -10,6 +10,7 @@ use header::auxiliary::NwkSecurityLevel;
 use header::nwk::NwkHeader;
 use octets::refusals;
 use types::Key;
+use types::OptionEui64;
 ghost use mathlib.Core.Path.{_≡_};
 ghost use mathlib.Core.Bool.{false};
 ghost use mathlib.Core.List.{List};
@@ -31,6 +32,7 @@ impl FrameOpened {
             refusal,
             mark: Mark::Unmarked,
             length: 0,
+            nonce_ieee: OptionEui64::Absent,
             header: NwkHeader::blank(),
             aux: OptionAuxHeader::Absent,
         }
@@ -115,16 +117,20 @@ pub fn open_under(keys: &[[[u8; 4]; 4]; 11], frame: &[u8], out: &mut [u8]) -> Fr
             refusal: 0,
             mark: Mark::Clear,
             length: part.len(),
+            nonce_ieee: OptionEui64::Absent,
             header,
             aux,
         };
     }
     let present = aux.or_blank();
     if open_frame(keys, header, present, part, out) {
+        let extended_source = present.extended_source;
+        let source_ieee = header.source_ieee;
         return FrameOpened {
             refusal: 0,
             mark: Mark::Sealed,
             length: part.len() - ccm::MIC_LENGTH,
+            nonce_ieee: security::nonce_ieee(extended_source, source_ieee),
             header,
             aux,
         };

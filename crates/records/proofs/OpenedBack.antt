@@ -3,35 +3,37 @@
 -- Assumes nothing.
 use mathlib.Core.Path.{_≡_, refl, ap, _∙_}
 use mathlib.Core.Bool.{Bool, true, false}
-use mathlib.Core.List.{List, [], _++_, append-assoc}
+use mathlib.Core.List.{List, [], _∷_, _++_, append-assoc}
 use Prim.Native.Nat.{ℕ, _^_, _<_}
 use native.Mathlib.Omega.{arith}
 use lib.ListN.{length, take, drop, length-append, length-drop}
 use lib.Seq.{take-at, drop-at}
-use Rattle.octets.specs.Strings.{tab, Below}
+use Rattle.octets.specs.Strings.{Below}
 use Rattle.octets.specs.Numbers.{le, leAt}
 use Rattle.octets.proofs.Strings.{length-tab, drop-below}
 use Rattle.octets.proofs.Numbers.{leAt-le}
+use Rattle.types.specs.declared.OptionEui64.{OptionEui64}
 use Rattle.header.specs.Control.{controlOf}
 use Rattle.header.specs.Reading.{relaysOf, headerBy, blankHeader, readHeader}
 use Rattle.header.specs.Auxiliary.{blankAux}
-use Rattle.header.specs.Same.{HeaderFits}
+use Rattle.header.specs.Same.{IeeeFits, HeaderFits}
 use Rattle.header.proofs.ReadFits.{read-fits}
 use Rattle.header.proofs.ReadFacts.{header-facts, aux-facts}
 use Rattle.frame.specs.declared.{OptionAuxHeader.OptionAuxHeader, Mark.Mark, FrameOpened.FrameOpened}
-use Rattle.frame.specs.Reading.{auxIf, readFrame}
-use Rattle.frame.specs.Security.{networkLevel}
+use Rattle.frame.specs.Reading.{auxIf, auxBehind, readFrame}
+use Rattle.frame.specs.Security.{networkLevel, nonceIeee}
 use Rattle.frame.specs.Opening.{isSealed, behind, verified, openRefused, Run, sealedGiven, clearGiven, openFrame}
 use Rattle.frame.specs.Marks.{Openable}
 use Rattle.frame.specs.SealingLaw.{AuxOptionFits}
 use Rattle.frame.proofs.Accepted.{run-either}
 use Rattle.frame.proofs.ClearFrames.{clear-facts}
 use Rattle.frame.proofs.SecondHalf.{secured-facts, payload-length}
+use Rattle.records.specs.Optional.{ieeeRecord, ieeeIn}
 use Rattle.records.specs.HeaderRecord.{headerRecord, headerOf}
 use Rattle.records.specs.AuxiliaryRecord.{auxRecord, auxOf}
 use Rattle.records.specs.OpenedRecord.{optionRecord, optionOf, markCode, markOf, openedFront, openedRecord, openedOf}
 use Rattle.records.proofs.Sizes.{length-header, length-front}
-use Rattle.records.proofs.RoundTrip.{header-back, aux-back, present-back}
+use Rattle.records.proofs.RoundTrip.{ieee-written, header-back, aux-back, present-back}
 
 pub option-back : (o : OptionAuxHeader) → AuxOptionFits o → optionOf (optionRecord o) ≡ o
 unfolding optionOf optionRecord
@@ -48,6 +50,7 @@ mark-back Mark.Sealed = refl
 -- what every answer has: its header's relays have their 54 places, and each number is within its type's range
 pub record AnswerFits (o : FrameOpened) : Type 0 where
   pub short : o .length < 2 ^ 16
+  pub ieee : IeeeFits (o .«nonce_ieee»)
   pub header : HeaderFits (o .header)
   pub relays : length (o .header .relays) ≡ 54
   pub aux : AuxOptionFits (o .aux)
@@ -60,21 +63,28 @@ aux-part front header aux f h =
     rw (← append-assoc front header aux) (drop-at (front ++ header) aux 163 (rw (length-append front header, f, h) refl))
 
 pub opened-back : (o : FrameOpened) → AnswerFits o → openedOf (openedRecord o) ≡ o
-unfolding openedOf openedRecord openedFront le leAt
+unfolding openedOf openedRecord openedFront ieeeRecord ieeeIn le leAt
 opened-back o f =
-    let front = openedFront (o .refusal) (markCode (o .mark)) (o .length) in
-    let size = length-front (o .refusal) (markCode (o .mark)) (o .length) in
+    let front = openedFront (o .refusal) (markCode (o .mark)) (o .length) (o .«nonce_ieee») in
+    let size = length-front (o .refusal) (markCode (o .mark)) (o .length) (o .«nonce_ieee») in
     let header = headerRecord (o .header) in
     let aux = optionRecord (o .aux) in
+    let behind-ieee : List ℕ = 0 ∷ 0 ∷ (header ++ aux) in
     λ i. record {
       refusal = o .refusal;
       mark = mark-back (o .mark) i;
-      length = leAt-le 2 (o .length) (tab (λ (i : ℕ). 0) 12 ++ (header ++ aux)) (f .short) i;
+      length = leAt-le 2 (o .length) (0 ∷ (ieeeRecord (o .«nonce_ieee») ++ behind-ieee)) (f .short) i;
+      «nonce_ieee» = ieee-written (o .«nonce_ieee») behind-ieee (f .ieee) i;
       header = (ap headerOf (header-part front header aux size (length-header (o .header))) ∙ header-back (o .header) (f .header) (f .relays)) i;
       aux = (ap optionOf (aux-part front header aux size (length-header (o .header))) ∙ option-back (o .aux) (f .aux)) i;
     }
 
 -- ---- what opening answers
+
+-- of two long addresses in range the one that the nonce uses is in range
+nonce-fits : (a s : OptionEui64) → IeeeFits a → IeeeFits s → IeeeFits (nonceIeee a s)
+nonce-fits OptionEui64.Absent s f g = g
+nonce-fits (OptionEui64.Present x) s f g = f
 
 -- it has all that, for every frame of bytes: where the frame is sealed, and where it is clear
 sealed-fits : (key f o : List ℕ) → Below 256 f → length o < 2 ^ 16 → Openable networkLevel 4 key f (readFrame f) (length o)
@@ -84,7 +94,13 @@ sealed-fits key f o u s p =
     let hf = header-facts f u (facts .header) in
     let af = aux-facts (drop (readHeader f .length) f) (drop-below f (readHeader f .length) 256 u) (facts .aux) in
     let size = payload-length networkLevel 4 key f (readFrame f) in
-    record { short = omega (arith, size, p .fits); header = rw (facts .read) (hf .fits); relays = rw (facts .read) (hf .places); aux = rw (facts .read) (af .fits) }
+    record {
+      short = omega (arith, size, p .fits);
+      ieee = rw (facts .read) (nonce-fits (auxBehind f (readHeader f) .aux .«extended_source») (readHeader f .header .«source_ieee») (af .fits .ieee) (hf .fits .sourceIeee));
+      header = rw (facts .read) (hf .fits);
+      relays = rw (facts .read) (hf .places);
+      aux = rw (facts .read) (af .fits);
+    }
 
 clear-fits : (f o : List ℕ) → Below 256 f → readFrame f .refusal ≡ 0 → isSealed (readFrame f .header) ≡ false
     → AnswerFits (clearGiven f (readFrame f) o .answer)
@@ -93,13 +109,13 @@ clear-fits f o u e off =
     let facts = clear-facts f e off in
     let hf = header-facts f u (facts .header) in
     let size = length-drop (readFrame f .length) f in
-    record { short = omega (arith, size, hf .short); header = rw (facts .read) (hf .fits); relays = rw (facts .read) (hf .places); aux = rw (facts .read) tt }
+    record { short = omega (arith, size, hf .short); ieee = tt; header = rw (facts .read) (hf .fits); relays = rw (facts .read) (hf .places); aux = rw (facts .read) tt }
 
 pub answer-fits : (key f o : List ℕ) → Below 256 f → length o < 2 ^ 16 → AnswerFits (openFrame key f o .answer)
 unfolding openFrame openRefused blankHeader headerBy relaysOf
 answer-fits key f o u s =
     run-either networkLevel 4 key f (readFrame f) o (λ (r : Run). AnswerFits (r .answer)) (sealed-fits key f o u s) (clear-fits f o u)
-    (record { short = omega arith; header = read-fits [] (controlOf 0) (λ i. omega arith); relays = length-tab _ 54; aux = tt })
+    (record { short = omega arith; ieee = tt; header = read-fits [] (controlOf 0) (λ i. omega arith); relays = length-tab _ 54; aux = tt })
 
 -- so its record says it again
 pub answer-back : (key f o : List ℕ) → Below 256 f → length o < 2 ^ 16 → openedOf (openedRecord (openFrame key f o .answer)) ≡ openFrame key f o .answer

@@ -26,7 +26,7 @@ use Rattle.records.specs.AuxiliaryRecord.{counterRecord, auxRecord, secu
 
 -- ---- the optional fields
 
-ieee-written : (o : OptionEui64) (rest : List ℕ) → IeeeFits o → ieeeIn (ieeeRecord o ++ rest) 0 ≡ o
+pub ieee-written : (o : OptionEui64) (rest : List ℕ) → IeeeFits o → ieeeIn (ieeeRecord o ++ rest) 0 ≡ o
 unfolding ieeeIn ieeeRecord le leAt
 ieee-written OptionEui64.Absent rest h = refl
 ieee-written (OptionEui64.Present x) rest h = ap OptionEui64.Present (leAt-le 8 x rest h)

@@ -4,7 +4,6 @@ use mathlib.Core.Path.{_≡_}
 use mathlib.Core.Bool.{Bool, not}
 use Prim.Native.Nat.{ℕ}
 use lib.ListN.{length, length-append}
-use Rattle.octets.proofs.Strings.{length-tab}
 use Rattle.octets.proofs.Numbers.{length-le}
 use Rattle.types.specs.declared.OptionEui64.{OptionEui64}
 use Rattle.header.specs.declared.{optional.OptionMulticast.OptionMulticast, optional.NwkSourceRoute.NwkSourceRoute, nwk.NwkHeader.NwkHeader, auxiliary.NwkAuxHeader.NwkAuxHeader}
@@ -52,9 +51,9 @@ pub length-option : (o : OptionAuxHeader) → length (optionRecord o) ≡ 19
 unfolding optionRecord
 length-option o = length-aux (not (isAbsent o)) (orBlank o)
 
-pub length-front : (refusal mark n : ℕ) → length (openedFront refusal mark n) ≡ 16
+pub length-front : (refusal mark n : ℕ) (ieee : OptionEui64) → length (openedFront refusal mark n ieee) ≡ 16
 unfolding openedFront
-length-front refusal mark n = simp (length-append, length-le, length-tab)
+length-front refusal mark n ieee = simp (length-append, length-le, length-ieee)
 
 pub length-opened : (o : FrameOpened) → length (openedRecord o) ≡ 182
 unfolding openedRecord

@@ -2,9 +2,11 @@
 // header record.
 use crate::auxiliary_record;
 use crate::header_record;
+use crate::optional;
 use frame::FrameOpened;
 use frame::Mark;
 use frame::OptionAuxHeader;
+use types::OptionEui64;
 ghost use mathlib.Core.Path.{_≡_};
 ghost use mathlib.Core.Bool.{not};
 ghost use Prim.Native.Nat.{_≤_};
@@ -15,7 +17,11 @@ ghost use Rattle.records.specs.OpenedRecord.{optionRecord, optionOf, mar
 
 pub const OPENED_RECORD_SIZE: usize = 182;
 
-// Where the header record and the auxiliary record stand in it.
+// Where the nonce's address, the two bytes behind it, the header record and the auxiliary record stand in it.
+const NONCE_IEEE_AT: usize = 5;
+
+const BEHIND_IEEE_AT: usize = 14;
+
 const HEADER_AT: usize = 16;
 
 const AUXILIARY_AT: usize = 163;
@@ -59,15 +65,17 @@ pub fn mark_code(mark: Mark) -> u8
     }
 }
 
-// Write the number, the mark and the length, and zeros up to the header record.
-fn put_front(out: &mut [u8], refusal: u8, mark: u8, n: usize)
+// Write the number, the mark, the length and the nonce's address, and zeros in the other places up to the header record.
+fn put_front(out: &mut [u8], refusal: u8, mark: u8, n: usize, ieee: OptionEui64)
     requires { ⌜ 16 ≤ length (now out) ⌝ }
-    ensures { λ _. ⌜ now (out .exit) ≡ over (now (out .entry)) 0 (openedFront refusal mark n) ⌝ }
+    ensures { λ _. ⌜ now (out .exit) ≡ over (now (out .entry)) 0 (openedFront refusal mark n ieee) ⌝ }
 {
     let low = (n % 256) as u8;
     let high = (n / 256 % 256) as u8;
-    let values = [refusal, mark, low, high, 0, 0, 0, 0, 0, 0, 0, 0, 0, 0, 0, 0];
+    let values = [refusal, mark, low, high, 0];
     octets::copy_at(out, 0, &values);
+    optional::put_ieee(out, NONCE_IEEE_AT, ieee);
+    octets::put_u16(out, BEHIND_IEEE_AT, 0);
 }
 
 // Write the record of an answer to the front of an output that has room for it.
@@ -78,7 +86,8 @@ pub fn put_opened(out: &mut [u8], opened: FrameOpened)
     let header = opened.header;
     let aux = opened.aux;
     let mark = opened.mark;
-    put_front(out, opened.refusal, mark_code(mark), opened.length);
+    let ieee = opened.nonce_ieee;
+    put_front(out, opened.refusal, mark_code(mark), opened.length, ieee);
     header_record::put_header(&mut out[HEADER_AT..], header);
     put_option(&mut out[AUXILIARY_AT..], aux);
 }

@@ -44,22 +44,22 @@ open-frame-requires c κs =
     let e = ap (λ (x : NwkAuxHeader). length (headerBytes (read .read-frame .result .header)) + length (auxBytes x)) (c .before .or-blank .ensures) in
     (r .0, omega (arith, e, r .1), omega (arith, ap length (rest .behind .ensures), r .2), s .tagged, s .fits)
 
-sub-t20 : tie.Need-sub-t20
-sub-t20 c =
+sub-t23 : tie.Need-sub-t23
+sub-t23 c =
     let sealed = c .before .before .before .before .before .before in
     let passed = sealed .before .before in
     omega (arith, ready _ _ _ _ _ (sym (passed .before .open-refusal .ensures) ∙ passed .if1 .left) (not-false _ (sealed .if2 .left)) .tagged)
 
 returns-3 : tie.Need-returns-3
 returns-3 c =
-    let opened = c .before .before .before in
+    let opened = c .before .before .before .before in
     let sealed = opened .before .before .before in
     let passed = sealed .before .before in
     let rest = passed .before .before in
     let o = opened .open-frame .ensures in
     let run =
     opened-valid _ _ _ _ _ _ _ _ _ (rest .before .before .read-frame .ensures) (rest .behind .ensures) (opened .before .before .or-blank .ensures)
-    (passed .before .open-refusal .ensures) (passed .if1 .left) (not-false _ (sealed .if2 .left)) (o .0) (o .1) (c .if3 .taken) in
+    (passed .before .open-refusal .ensures) (passed .if1 .left) (not-false _ (sealed .if2 .left)) (o .0) (o .1) _ (c .nonce-ieee .ensures) (c .before .if3 .taken) in
     (λ key e. ap (λ (r : opening.Run). r .answer) (run key e), λ key e. ap (λ (r : opening.Run). r .out) (run key e))
 
 returns-4 : tie.Need-returns-4
@@ -78,5 +78,5 @@ pub open-under-spec : {M : Type 1} → statement M
 open-under-spec =
     tie.close
     (tie.spec (λ c κs. search needs) (λ c κs. search needs) (λ c κs. search needs) (λ c κs. search needs) returns returns-2
-    (λ c κs. search needs) open-frame-requires sub-t20 (λ c. search needs) returns-3 (λ c κs. search needs)
+    (λ c κs. search needs) open-frame-requires sub-t23 (λ c κs. search needs) (λ c. search needs) returns-3 (λ c κs. search needs)
     (λ c. search needs) returns-4)

@@ -20,8 +20,8 @@ returns c =
     let code = front .before .mark-code in
     let a = front .before .before .before .before .before .args in
     let opened = a .opened in
-    let bytes : ℕ → List ℕ = λ m. openedFront (opened .refusal) m (opened .length) in
-    let size = length-front (opened .refusal) (markCode (opened .mark)) (opened .length) in
+    let bytes : ℕ → List ℕ = λ m. openedFront (opened .refusal) m (opened .length) (opened .«nonce_ieee») in
+    let size = length-front (opened .refusal) (markCode (opened .mark)) (opened .length) (opened .«nonce_ieee») in
     over-three _ _ _ _ 0 16 163 (bytes (markCode (opened .mark))) _ _ (omega arith) (omega (arith, size)) (omega (arith, length-header (opened .header)))
     (front .put-front .ensures ∙ ap (λ (m : ℕ). over (a .out .now) 0 (bytes m)) (code .ensures))
     (part-over _ _ _ 16 (omega arith) (header .put-header .ensures)) (part-over _ _ _ 163 (omega arith) (option .put-option .ensures))
