@@ -12,6 +12,7 @@ const OPENED_RECORD: usize = 182;
 /// Where an opened record has its mark, the payload's length, and the header record with the auxiliary record behind it.
 const OPENED_MARK_AT: usize = 1;
 const OPENED_LENGTH_AT: usize = 2;
+const OPENED_NONCE_IEEE_AT: usize = 5;
 const OPENED_HEADER_AT: usize = 16;
 
 /// The marks of an opened record: that of a refused frame, of a clear one and of a sealed one.
@@ -461,6 +462,11 @@ impl OpenedRecord {
     /// The payload's length, wherever it stands.
     pub(crate) fn length(&self) -> usize {
         usize::from(Taker::new(&self.0, OPENED_LENGTH_AT).word())
+    }
+
+    /// The long address that the nonce used, which a sealed frame alone has.
+    pub(crate) fn nonce_ieee(&self) -> Option<Eui64> {
+        Taker::new(&self.0, OPENED_NONCE_IEEE_AT).optional(Taker::eui64)
     }
 
     /// The two headers, of which a clear frame has the first alone.

@@ -1,5 +1,5 @@
 //! What opening gives of a frame: a sealed one, or a clear one.
-use crate::{NwkAuxHeader, NwkHeader, OpenedRecord, Refusal};
+use crate::{Eui64, NwkAuxHeader, NwkHeader, OpenedRecord, Refusal};
 
 /// A frame as opened, with its mark: whether it was sealed. [`open`](crate::open) gives it, and
 /// [`open_burst`](crate::open_burst) one for each frame.
@@ -23,13 +23,15 @@ pub enum Opened<'a> {
     Clear(ClearFrame<'a>),
 }
 
-/// A sealed frame as opened: its headers, the auxiliary one with the level received, and its payload.
+/// A sealed frame as opened: its headers, the auxiliary one with the level received, the nonce's address and its payload.
 #[derive(Debug, Clone, PartialEq, Eq)]
 pub struct OpenedFrame<'a> {
     /// The NWK header.
     pub header: NwkHeader,
     /// The auxiliary header.
     pub auxiliary: NwkAuxHeader,
+    /// The long address that the nonce used, the sender's: the auxiliary header's, else the header's source.
+    pub nonce_ieee: Eui64,
     /// The bytes that were sealed, at the front of the output. The frame's type says what they are:
     /// [`NwkFrameType::payload`](crate::NwkFrameType::payload).
     pub payload: &'a [u8],
@@ -79,12 +81,12 @@ impl<'a> Opened<'a> {
     pub(crate) fn from_record(record: &OpenedRecord, frame: &'a [u8], out: &'a [u8]) -> Result<Self, Refusal> {
         let is_sealed = record.is_sealed()?;
         let n = record.length();
-        match (is_sealed, record.headers()?) {
-            (true, (header, Some(auxiliary))) => {
+        match (is_sealed, record.headers()?, record.nonce_ieee()) {
+            (true, (header, Some(auxiliary)), Some(nonce_ieee)) => {
                 let payload = out.get(..n).ok_or(Refusal::INTERNAL)?;
-                Ok(Self::Sealed(OpenedFrame { header, auxiliary, payload }))
+                Ok(Self::Sealed(OpenedFrame { header, auxiliary, nonce_ieee, payload }))
             }
-            (false, (header, None)) => {
+            (false, (header, None), None) => {
                 let start = frame.len().checked_sub(n).ok_or(Refusal::INTERNAL)?;
                 Ok(Self::Clear(ClearFrame { header, payload: &frame[start..] }))
             }
@@ -101,6 +103,8 @@ mod tests {
     const REFUSAL: usize = 0;
     const MARK: usize = 1;
     const LENGTH: usize = 2;
+    const HAS_NONCE_IEEE: usize = 5;
+    const NONCE_IEEE: usize = 6;
     const AUXILIARY: usize = 163;
 
     const FRAME: [u8; 9] = [0x08, 0, 0, 0, 0x34, 0x12, 0x1E, 7, 0xAA];
@@ -117,14 +121,16 @@ mod tests {
     #[test]
     fn a_payload_is_taken_from_where_the_mark_says() {
         let out = [0x55; 3];
-        let sealed = made(&[(MARK, 2), (LENGTH, 2), (AUXILIARY, 1)], &out).unwrap().sealed().unwrap();
+        let bytes = [(MARK, 2), (LENGTH, 2), (HAS_NONCE_IEEE, 1), (NONCE_IEEE + 7, 9), (AUXILIARY, 1)];
+        let sealed = made(&bytes, &out).unwrap().sealed().unwrap();
         assert_eq!(sealed.payload.as_ptr_range(), out[..2].as_ptr_range());
+        assert_eq!(sealed.nonce_ieee, Eui64([0, 0, 0, 0, 0, 0, 0, 9]));
         let clear = made(&[(MARK, 1), (LENGTH, 1)], &[]).unwrap().clear().unwrap();
         assert_eq!(clear.payload, [0xAA]);
         assert_eq!(made(&[(REFUSAL, 19)], &out), Err(Refusal::WRONG_MIC));
     }
 
-    /// Marks that do not fit the refusal or the auxiliary header, and lengths past the output or the frame.
+    /// Marks that do not fit the refusal, the nonce's address or the auxiliary header, and lengths past the output or the frame.
     #[test]
     fn records_that_the_codec_never_fills_in() {
         for bytes in [
@@ -134,8 +140,11 @@ mod tests {
             &[(REFUSAL, 19), (MARK, 2)],
             &[(REFUSAL, 2), (MARK, 1)],
             &[(MARK, 2)],
+            &[(MARK, 2), (AUXILIARY, 1)],
+            &[(MARK, 2), (HAS_NONCE_IEEE, 1)],
             &[(MARK, 1), (AUXILIARY, 1)],
-            &[(MARK, 2), (LENGTH, 4), (AUXILIARY, 1)],
+            &[(MARK, 1), (HAS_NONCE_IEEE, 1)],
+            &[(MARK, 2), (LENGTH, 4), (HAS_NONCE_IEEE, 1), (AUXILIARY, 1)],
             &[(MARK, 1), (LENGTH, 10)],
         ] {
             assert_eq!(made(bytes, &[0x55; 3]), Err(Refusal::INTERNAL), "{bytes:?}");

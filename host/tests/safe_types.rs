@@ -11,7 +11,7 @@ use support::calls::{lengths_of, perform, Call, Outcome};
 use support::generate;
 use support::model::{MAX_FRAME, MAX_PAYLOAD};
 use support::operations::{
-    Operation, AUXILIARY_RECORD, COMMAND_RECORD, HEADER_RECORD, MIC, OPENED_HEADER, OPENED_RECORD,
+    Operation, AUXILIARY_RECORD, COMMAND_RECORD, HEADER_RECORD, MIC, OPENED_HEADER, OPENED_NONCE_IEEE, OPENED_RECORD,
 };
 use support::random::Random;
 
@@ -121,7 +121,8 @@ fn frames_read_and_written() {
     assert!(count > ROUNDS / 4, "{count}");
 }
 
-/// A sealed frame's payload is the front of the output, and sealing it writes what the C function writes of its records.
+/// A sealed frame's payload is the front of the output, its nonce's address is the record's and that of its headers, and sealing it
+/// writes what the C function writes of its records.
 #[test]
 fn sealed_frames_opened() {
     let count = accepted(Operation::Open, |call| {
@@ -136,6 +137,8 @@ fn sealed_frames_opened() {
         if let Some(frame) = sealed {
             let (header, auxiliary) = outcome.outputs[0][OPENED_HEADER..].split_at(HEADER_RECORD);
             assert_eq!((frame.payload, frame.payload.as_ptr()), (&outcome.outputs[1][..outcome.length()], place));
+            assert_eq!(frame.nonce_ieee.0[..], outcome.outputs[0][OPENED_NONCE_IEEE]);
+            assert_eq!(Some(frame.nonce_ieee), frame.auxiliary.extended_source.or(frame.header.source_ieee));
             same_written(
                 |out| seal(&key, &frame.header, Some(&frame.auxiliary), frame.payload, out),
                 Operation::Seal,

@@ -8,6 +8,8 @@ pub const AUXILIARY_COUNTER: Range<usize> = 5..9;
 pub const OPENED_RECORD: usize = 182;
 /// Where an opened record has the header record; the auxiliary record is behind it.
 pub const OPENED_HEADER: usize = 16;
+/// Where it has the long address that the nonce used, behind the presence byte.
+pub const OPENED_NONCE_IEEE: Range<usize> = 6..14;
 /// Where it has the mark, and what the mark is of a frame that was opened; 0 beside a refusal.
 pub const OPENED_MARK: usize = 1;
 pub const MARK_CLEAR: u8 = 1;

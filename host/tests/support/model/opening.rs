@@ -1,9 +1,9 @@
-//! Opening (document 01, "Frame"; document 02, request 3): sealed frames, clear ones, and the opened record of
+//! Opening (document 01, "Frame"; document 02, requests 3 and 5): sealed frames, clear ones, and the opened record of
 //! `include/nwk.h`.
 use super::auxiliary::{self, Auxiliary};
 use super::frame::{self, Frame};
 use super::{refuse, Answer, Done};
-use crate::support::operations::{MARK_CLEAR, MARK_SEALED, MIC, OPENED_RECORD};
+use crate::support::operations::{MARK_CLEAR, MARK_SEALED, MIC, OPENED_NONCE_IEEE, OPENED_RECORD};
 
 /// "Opening takes a frame's bytes and first reads them, with reading's refusals." The auxiliary header "is present exactly if
 /// bit 9 of frame control is set", and a frame "whose security bit is off" is clear.
@@ -23,7 +23,7 @@ fn open_sealed(key: &[u8; 16], frame: &Frame, auxiliary: &Auxiliary, behind: &[u
     let length = behind.len() - MIC;
     refuse(&[(18, rooms[0] < OPENED_RECORD || rooms[1] < length)])?;
     let payload = frame::open(key, &frame.header, auxiliary, &ieee, behind).ok_or(19)?;
-    Ok(Done::new(length, vec![record(MARK_SEALED, frame, length), payload]))
+    Ok(Done::new(length, vec![record(MARK_SEALED, frame, length, Some(ieee)), payload]))
 }
 
 /// Opening "marks the answer as clear and does not touch the output. The length given is then the payload's, and no output
@@ -31,7 +31,7 @@ fn open_sealed(key: &[u8; 16], frame: &Frame, auxiliary: &Auxiliary, behind: &[u
 /// which only the C function has.
 fn open_clear(frame: &Frame, length: usize, rooms: &[usize]) -> Answer {
     refuse(&[(18, rooms[0] < OPENED_RECORD)])?;
-    let done = Done::new(length, vec![record(MARK_CLEAR, frame, length), Vec::new()]);
+    let done = Done::new(length, vec![record(MARK_CLEAR, frame, length, None), Vec::new()]);
     Ok(Done { clear: true, ..done })
 }
 
@@ -41,11 +41,13 @@ pub fn clear_payload(bytes: &[u8]) -> Option<&[u8]> {
     frame.auxiliary.is_none().then(|| &bytes[frame.headers_length..])
 }
 
-/// No refusal, the mark, the length, places that hold nothing yet, and the two records.
-fn record(mark: u8, frame: &Frame, length: usize) -> Vec<u8> {
+/// No refusal, the mark, the length, "the long address the nonce used (none for a clear frame)", and the two records.
+fn record(mark: u8, frame: &Frame, length: usize, ieee: Option<[u8; 8]>) -> Vec<u8> {
     let mut record = vec![0; 16];
     record[1] = mark;
     record[2..4].copy_from_slice(&(length as u16).to_le_bytes());
+    record[5] = u8::from(ieee.is_some());
+    record[OPENED_NONCE_IEEE].copy_from_slice(&ieee.unwrap_or_default());
     record.extend(frame.header.record());
     record.extend(auxiliary::record(&frame.auxiliary));
     record
