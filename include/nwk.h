@@ -6,8 +6,9 @@
  * numbers, its first eight bytes in the first, the first byte lowest (nwk_key_of).
  *
  * Every function answers one number: the length in bits 0 to 31 (NWK_LENGTH), the refusal in bits 32 to 39 (NWK_REFUSAL,
- * 0: accepted), in bit 40 of nwk_open's answer whether the frame was clear (NWK_CLEAR), the other bits 0. A refusal has length 0
- * and leaves every lent byte as it was, records included. Where nothing is refused, each result stands at the front of its
+ * 0: accepted), in bit 40 of nwk_open's answer whether the frame was clear (NWK_CLEAR), in bit 41 of that of
+ * nwk_note_inbound_frame_counter whether the sender was known (NWK_KNOWN), the other bits 0. A refusal has length 0 and leaves
+ * every lent byte as it was, records included. Where nothing is refused, each result stands at the front of its
  * buffer (each frame's of a burst at the front of its own part) and the rest of the buffer stays. Refusals are checked in the
  * order in which each function's comment lists those that it can answer, which need not be that of their numbers.
  *
@@ -56,12 +57,19 @@ extern "C" {
 /* Of an answer of nwk_open that is no refusal: 1 if the frame was clear, 0 if it was sealed. */
 #define NWK_CLEAR(answer) NWK_CAST(uint8_t, (answer) >> 40 & 1u)
 
+/* Of an answer of nwk_note_inbound_frame_counter that is no refusal: 1 if the sender was known and the answer has its earlier
+ * counter, 0 if it is new and there is none. */
+#define NWK_KNOWN(answer) NWK_CAST(uint8_t, (answer) >> 41 & 1u)
+
 /* The longest frame, and the longest payload or command. */
 #define NWK_MAX_FRAME 118
 #define NWK_MAX_PAYLOAD 108
 
 /* The most frames of a burst. */
 #define NWK_MAX_BURST 16
+
+/* The most senders whose counters are kept. */
+#define NWK_MAX_SENDERS 64
 
 /* ---- refusals; nwk_refusal_text gives their conditions in words */
 
@@ -87,7 +95,10 @@ enum nwk_refusal {
   NWK_REFUSED_NO_ROOM = 18,
   NWK_REFUSED_WRONG_MIC = 19,
   NWK_REFUSED_BURST = 20,
-  NWK_REFUSED_LAST_COUNTER = 21
+  NWK_REFUSED_LAST_COUNTER = 21,
+  NWK_REFUSED_KEY_SEQUENCE = 22,
+  NWK_REFUSED_FRAME_COUNTER = 23,
+  NWK_REFUSED_NO_PLACE = 24
 };
 
 /* ---- records
@@ -340,6 +351,57 @@ uint64_t nwk_open_burst(uint64_t key_first, uint64_t key_second, const uint8_t *
  * NWK_PAYLOAD_OPAQUE. Refusals: 13 a code that is no frame type: 2 or above 3. */
 uint64_t nwk_payload_kind(uint8_t frame_type);
 
+/* ---- senders: the frame counters of those whose frames arrive, so that none is taken twice
+ *
+ * The caller lends a list of sender records and keeps it from call to call; at first it is all zeros. It has as many places as it
+ * has records, of which only the first NWK_MAX_SENDERS count: those past them are neither looked at nor changed. So 64 senders need
+ * a list of 64 places, 1,024 bytes, and a shorter list keeps as many senders as it has places. Where a list names a sender twice,
+ * the first record counts.
+ *
+ * For each frame that nwk_open marks as sealed: ask for the key, with the IEEE that its nonce used (NWK_OPENED_NONCE_IEEE), its key
+ * sequence number and its counter, and if nothing is refused note the counter and take the payload. Asking changes nothing, so it
+ * may also come before opening; noting may not, since a counter that anyone may have claimed would shut its sender out. */
+
+/* A sender record, 16 bytes; the three behind used are nobody's and may have any value. */
+struct nwk_sender {
+  /* The sender's IEEE as a number, its first byte on the wire lowest (nwk_get64). 0 is an address like others. */
+  uint64_t address;
+  /* The counter that was noted last. */
+  uint32_t counter;
+  /* 0: the place is free and names nobody, whatever address and counter are left in it. Any other value: it is used. */
+  uint8_t used;
+};
+
+/* Does not compile where a record has another layout than the functions were compiled for. */
+typedef char nwk_sender_has_16_bytes[sizeof(struct nwk_sender) == 16 && offsetof(struct nwk_sender, counter) == 8 &&
+                                             offsetof(struct nwk_sender, used) == 12
+                                         ? 1
+                                         : -1];
+
+/* Ask for the key of a frame that arrived: whether its key sequence number is the active one, and whether its counter is new. The
+ * key is the active one, as two numbers. Length: 16. Refusals: 22 key_sequence_number is not active_key_sequence_number; 23
+ * frame_counter is FFFFFFFF, or the list names the sender and frame_counter is not above its stored counter. The counter of an
+ * unknown sender is not compared. Afterwards key holds the active key's 16 bytes. The list is never changed. */
+uint64_t nwk_inbound_network_key(uint64_t key_first, uint64_t key_second, uint8_t active_key_sequence_number,
+                                 const struct nwk_sender *senders, size_t senders_count, uint64_t sender,
+                                 uint8_t key_sequence_number, uint32_t frame_counter, uint8_t key[16]);
+
+/* Note the counter of a frame that was opened. Look at NWK_KNOWN(answer) before you take the earlier counter:
+ *
+ *   1  the sender was known. In place of the length: the counter that was stored, which may be 0.
+ *   0  the sender is new, and has taken the first free place. There is no earlier counter, and 0 in place of the length.
+ *
+ * A lower counter is noted too, and so is FFFFFFFF: all frames of that sender are then refused by 23. Refusals: 24 the sender is
+ * new and none of the places that count is free, as in a list of none.
+ * Afterwards the sender's record has used 1, its address and this counter. No other record has changed. */
+uint64_t nwk_note_inbound_frame_counter(struct nwk_sender *senders, size_t senders_count, uint64_t sender,
+                                        uint32_t frame_counter);
+
+/* Forget a sender: every place that counts and names it becomes free, for the next new one. Length: 0. Nothing is refused: where
+ * the sender is unknown nothing changes. Afterwards address, counter and used are 0 in those places. No other record has
+ * changed, nor what is left in a free one. */
+uint64_t nwk_forget_sender(struct nwk_sender *senders, size_t senders_count, uint64_t sender);
+
 /* ---- commands */
 
 /* Read a command from the whole of bytes into a command record. nwk_payload_kind says whether a payload is one. Bytes
@@ -409,6 +471,9 @@ static inline const char *nwk_refusal_text(uint8_t refusal) {
       "a burst has more than 16 lengths, they do not add up to the bytes lent, the output is shorter than 108 times "
       "their number, or the list for the answers is shorter than their number",
       "the counter to be sealed is FFFFFFFF",
+      "the key sequence number is not the active one",
+      "the frame counter is FFFFFFFF or not above the sender's stored one",
+      "the sender is new and no place is free",
   };
   return refusal < sizeof texts / sizeof texts[0] ? texts[refusal] : "a number that the list does not have";
 }
@@ -437,11 +502,15 @@ static inline const uint8_t *nwk_payload(uint64_t answer, const uint8_t *bytes, 
   return NWK_CLEAR(answer) ? bytes + (bytes_len - NWK_LENGTH(answer)) : out;
 }
 
-/* A number of two or four bytes in a record, which has the least significant byte first. */
+/* A number of two, four or eight bytes in a record, which has the least significant byte first. */
 static inline uint16_t nwk_get16(const uint8_t *at) { return NWK_CAST(uint16_t, at[0] | at[1] << 8); }
 
 static inline uint32_t nwk_get32(const uint8_t *at) {
   return nwk_get16(at) | NWK_CAST(uint32_t, nwk_get16(at + 2)) << 16;
+}
+
+static inline uint64_t nwk_get64(const uint8_t *at) {
+  return nwk_get32(at) | NWK_CAST(uint64_t, nwk_get32(at + 4)) << 32;
 }
 
 static inline void nwk_put16(uint8_t *at, uint16_t number) {
@@ -523,6 +592,30 @@ static inline uint64_t nwk_open_burst_or_null(uint64_t key_first, uint64_t key_s
                         answers_count, nwk_lent(out, out_len), out_len);
 }
 
+static inline uint64_t nwk_inbound_network_key_or_null(uint64_t key_first, uint64_t key_second,
+                                                       uint8_t active_key_sequence_number, const struct nwk_sender *senders,
+                                                       size_t senders_count, uint64_t sender, uint8_t key_sequence_number,
+                                                       uint32_t frame_counter, uint8_t key[16]) {
+  static const struct nwk_sender no_sender = {0, 0, 0};
+  return nwk_inbound_network_key(key_first, key_second, active_key_sequence_number,
+                                 senders_count == 0 ? &no_sender : senders, senders_count, sender, key_sequence_number,
+                                 frame_counter, key);
+}
+
+static inline struct nwk_sender *nwk_lent_senders(struct nwk_sender *senders, size_t count) {
+  static struct nwk_sender none;
+  return count == 0 ? &none : senders;
+}
+
+static inline uint64_t nwk_note_inbound_frame_counter_or_null(struct nwk_sender *senders, size_t senders_count,
+                                                              uint64_t sender, uint32_t frame_counter) {
+  return nwk_note_inbound_frame_counter(nwk_lent_senders(senders, senders_count), senders_count, sender, frame_counter);
+}
+
+static inline uint64_t nwk_forget_sender_or_null(struct nwk_sender *senders, size_t senders_count, uint64_t sender) {
+  return nwk_forget_sender(nwk_lent_senders(senders, senders_count), senders_count, sender);
+}
+
 static inline uint64_t nwk_read_command_or_null(const uint8_t *bytes, size_t bytes_len, uint8_t *command,
                                                 size_t command_len) {
   return nwk_read_command(nwk_given(bytes, bytes_len), bytes_len, nwk_lent(command, command_len), command_len);
@@ -559,6 +652,9 @@ static inline uint64_t nwk_split_mic_or_null(const uint8_t *bytes, size_t bytes_
 #define nwk_seal nwk_seal_or_null
 #define nwk_open nwk_open_or_null
 #define nwk_open_burst nwk_open_burst_or_null
+#define nwk_inbound_network_key nwk_inbound_network_key_or_null
+#define nwk_note_inbound_frame_counter nwk_note_inbound_frame_counter_or_null
+#define nwk_forget_sender nwk_forget_sender_or_null
 #define nwk_read_command nwk_read_command_or_null
 #define nwk_write_command nwk_write_command_or_null
 #define nwk_encrypt_ccm nwk_encrypt_ccm_or_null

@@ -1,5 +1,5 @@
-/* What nwk.h adds to the functions: names, texts, the key's two numbers, where a payload is, and NULL for an empty slice. It is
- * C and C++, and host/tests/c_header.rs compares what it prints.
+/* What nwk.h adds to the functions: names, texts, the key's two numbers, where a payload is, a list of senders, and NULL for an
+ * empty slice. It is C and C++, and host/tests/c_header.rs compares what it prints.
  *
  *   cc -std=c11 -Wall -Wextra -Iinclude tests/header.c target/staticlib/libnwk.a -o header && ./header
  *   g++ -x c++ -Wall -Wextra -Wold-style-cast -Iinclude tests/header.c -x none target/staticlib/libnwk.a -o header && ./header
@@ -11,7 +11,7 @@
 #include <string.h>
 
 static void print_texts(void) {
-  for (unsigned number = 0; number <= 22; number++) {
+  for (unsigned number = 0; number <= 25; number++) {
     printf("%u %s\n", number, nwk_refusal_text(NWK_CAST(uint8_t, number)));
   }
 }
@@ -26,10 +26,11 @@ static void print_key(void) {
 }
 
 static void print_numbers(void) {
-  uint8_t bytes[4];
+  uint8_t bytes[8];
   nwk_put32(bytes, 0xA1B2C3D4u);
-  printf("put %02X%02X%02X%02X get %" PRIX32 " %X\n", bytes[0], bytes[1], bytes[2], bytes[3], nwk_get32(bytes),
-         nwk_get16(bytes + 2));
+  nwk_put32(bytes + 4, 0xE5F60718u);
+  printf("put %02X%02X%02X%02X get %" PRIX32 " %X %" PRIX64 "\n", bytes[0], bytes[1], bytes[2], bytes[3], nwk_get32(bytes),
+         nwk_get16(bytes + 2), nwk_get64(bytes));
 }
 
 static const char *kind_of(uint8_t frame_type) {
@@ -106,6 +107,40 @@ static void print_answer(const char *name, uint64_t answer) {
   printf("%s %u %u\n", name, NWK_REFUSAL(answer), NWK_LENGTH(answer));
 }
 
+/* An answer about a sender, and the two places of the list afterwards. */
+static void print_senders(const char *name, uint64_t answer, const struct nwk_sender *list) {
+  printf("%s %u %" PRIu32 " known %u:", name, NWK_REFUSAL(answer), NWK_LENGTH(answer), NWK_KNOWN(answer));
+  for (size_t i = 0; i < 2; i++) {
+    printf(" %u %" PRIX64 " %" PRIX32, list[i].used, list[i].address, list[i].counter);
+  }
+  printf("\n");
+}
+
+/* The record's layout, the mark of a known sender, and the three functions over a list of two places. */
+static void print_inbound(void) {
+  const uint64_t known = NWK_CAST(uint64_t, 1) << 41;
+  printf("sender %zu %zu %zu %zu of %d known %u %" PRIu32 " %u %u\n", sizeof(struct nwk_sender),
+         offsetof(struct nwk_sender, address), offsetof(struct nwk_sender, counter), offsetof(struct nwk_sender, used),
+         NWK_MAX_SENDERS, NWK_KNOWN(known | 16), NWK_LENGTH(known | 16), NWK_CLEAR(known), NWK_KNOWN(~known));
+  const uint64_t probe = UINT64_C(0x00124B001CA1B2C3);
+  struct nwk_sender list[2] = {{0, 0, 0}, {0, 0, 0}};
+  print_senders("note_new", nwk_note_inbound_frame_counter(list, 2, probe, 0), list);
+  print_senders("note_known", nwk_note_inbound_frame_counter(list, 2, probe, 0xFFFFFFFEu), list);
+  print_senders("note_lower", nwk_note_inbound_frame_counter(list, 2, probe, 7), list);
+  print_senders("note_other", nwk_note_inbound_frame_counter(list, 2, 0, 1), list);
+  print_senders("note_full", nwk_note_inbound_frame_counter(list, 2, 1, 1), list);
+  uint8_t key[16] = {0};
+  const uint64_t first = UINT64_C(0xC7C6C5C4C3C2C1C0), second = UINT64_C(0xCFCECDCCCBCAC9C8);
+  print_senders("ask_number", nwk_inbound_network_key(first, second, 3, list, 2, probe, 4, 8, key), list);
+  print_senders("ask_again", nwk_inbound_network_key(first, second, 3, list, 2, probe, 3, 7, key), list);
+  printf("no key %02X %02X\n", key[0], key[15]);
+  print_senders("ask", nwk_inbound_network_key(first, second, 3, list, 2, probe, 3, 8, key), list);
+  printf("key %02X %02X %02X %02X\n", key[0], key[7], key[8], key[15]);
+  print_senders("forget", nwk_forget_sender(list, 2, probe), list);
+  print_senders("forget_again", nwk_forget_sender(list, 2, probe), list);
+  print_senders("note_freed", nwk_note_inbound_frame_counter(list, 2, 1, 1), list);
+}
+
 /* Bursts without frames, lengths or answers, and one whose only frame has no bytes. */
 static void print_empty_bursts(void) {
   const uint8_t bytes[1] = {0};
@@ -137,6 +172,10 @@ static void print_empty(void) {
   print_answer("write_command", nwk_write_command(command, sizeof command, NULL, 0));
   print_answer("open", nwk_open(0, 0, NULL, 0, NULL, 0, NULL, 0));
   print_empty_bursts();
+  uint8_t key[16] = {0};
+  print_answer("inbound_network_key", nwk_inbound_network_key(0, 0, 0, NULL, 0, 0, 0, 0, key));
+  print_answer("note_inbound_frame_counter", nwk_note_inbound_frame_counter(NULL, 0, 0, 0));
+  print_answer("forget_sender", nwk_forget_sender(NULL, 0, 0));
   uint8_t nonce[13] = {0};
   uint8_t mic[4] = {0};
   print_answer("encrypt_ccm", nwk_encrypt_ccm(0, 0, nonce, NULL, 0, NULL, 0, NULL, 0, mic));
@@ -151,6 +190,7 @@ int main(void) {
   print_kinds();
   print_marks();
   print_payloads();
+  print_inbound();
   print_empty();
   print_texts();
   return 0;

@@ -1,13 +1,16 @@
-//! The gateway's loop: the frames that the radio hands over at once are opened in one call, the counter of each sealed one is
-//! compared with its sender's last one, and what does not pass is counted by its reason. Clear frames, for which nobody
-//! vouches, go another way than authenticated ones.
+//! The gateway's loop: the frames that the radio hands over at once are opened in one call, each sealed one is asked for by its
+//! sender's last counter and noted, and what does not pass is counted by its number. Clear frames, for which nobody vouches, go
+//! another way than authenticated ones.
 //!
 //!   cargo run --release --example gateway
 use std::collections::BTreeMap;
 use store_reader::{
-    hex, open_burst, ClearFrame, Eui64, Key, NwkCommand, NwkPayload, Opened, OpenedFrame, OpenedRecord, Refusal,
+    hex, open_burst, ClearFrame, Key, NwkCommand, NwkPayload, Opened, OpenedFrame, OpenedRecord, Refusal, Senders,
     MAX_BURST, MAX_BURST_OUTPUT, MAX_FRAME,
 };
+
+/// The number of the network key in use.
+const ACTIVE_KEY_SEQUENCE_NUMBER: u8 = 0;
 
 /// What the radio handed over: records 2, 3, 8, 3 again, 10 and 16 of `samples/store.pcap`, without their MAC headers.
 const HEARD: [&str; 6] = [
@@ -22,9 +25,8 @@ const HEARD: [&str; 6] = [
 /// Each sender's last counter, why frames did not pass, and how many were clear.
 #[derive(Default)]
 struct Gateway {
-    counters: BTreeMap<Eui64, u32>,
+    senders: Senders,
     refused: BTreeMap<Refusal, u64>,
-    repeated: u64,
     clear: u64,
 }
 
@@ -33,45 +35,45 @@ impl Gateway {
     fn receive(&mut self, key: &Key, frames: &[u8], lengths: &[u16]) -> Result<(), Refusal> {
         let mut answers = [OpenedRecord::new(); MAX_BURST];
         let mut out = [0; MAX_BURST_OUTPUT];
-        open_burst(key, frames, lengths, &mut answers, &mut out)?.try_for_each(|answer| self.take(answer))
+        open_burst(key, frames, lengths, &mut answers, &mut out)?.try_for_each(|answer| self.take(key, answer))
     }
 
     /// Takes what was answered of a frame.
-    fn take(&mut self, answer: Result<Opened<'_>, Refusal>) -> Result<(), Refusal> {
+    fn take(&mut self, key: &Key, answer: Result<Opened<'_>, Refusal>) -> Result<(), Refusal> {
         match answer {
-            Ok(Opened::Sealed(frame)) if self.is_new(&frame) => deliver(&frame),
-            Ok(Opened::Sealed(_)) => {
-                self.repeated += 1;
-                Ok(())
-            }
+            Ok(Opened::Sealed(frame)) => match self.note(key, &frame) {
+                Ok(()) => deliver(&frame),
+                Err(refusal) => self.refuse(refusal),
+            },
             Ok(Opened::Clear(frame)) => {
                 self.clear += 1;
                 show_to_staff(&frame)
             }
-            // The archive is not the one of this crate: nothing it says can be used.
-            Err(Refusal::INTERNAL) => Err(Refusal::INTERNAL),
-            Err(refusal) => {
-                *self.refused.entry(refusal).or_default() += 1;
-                match refusal {
-                    Refusal::WRONG_MIC => println!("damaged, or under another network's key"),
-                    other => println!("{other}"),
-                }
-                Ok(())
-            }
+            Err(refusal) => self.refuse(refusal),
         }
     }
 
-    /// Whether the counter is above the sender's last one, whose place it then takes. A clear frame has no counter.
-    fn is_new(&mut self, frame: &OpenedFrame<'_>) -> bool {
-        let Some(sender) = frame.auxiliary.extended_source.or(frame.header.source_ieee) else {
-            return false;
-        };
-        let counter = frame.auxiliary.frame_counter;
-        if self.counters.get(&sender).is_some_and(|last| counter <= *last) {
-            return false;
+    /// Asks whether a frame's key is the active one and its counter above its sender's last one, whose place it then takes. A
+    /// clear frame has no counter.
+    fn note(&mut self, key: &Key, frame: &OpenedFrame<'_>) -> Result<(), Refusal> {
+        let (sender, counter) = (frame.nonce_ieee, frame.auxiliary.frame_counter);
+        let number = frame.auxiliary.key_sequence_number;
+        self.senders.inbound_network_key(key, ACTIVE_KEY_SEQUENCE_NUMBER, sender, number, counter)?;
+        self.senders.note_inbound_frame_counter(sender, counter)?;
+        Ok(())
+    }
+
+    /// Counts a frame that does not pass.
+    fn refuse(&mut self, refusal: Refusal) -> Result<(), Refusal> {
+        *self.refused.entry(refusal).or_default() += 1;
+        match refusal {
+            // The archive is not the one of this crate: nothing it says can be used.
+            Refusal::INTERNAL => return Err(refusal),
+            Refusal::WRONG_MIC => println!("damaged, or under another network's key"),
+            Refusal::FRAME_COUNTER => println!("heard before"),
+            other => println!("{other}"),
         }
-        self.counters.insert(sender, counter);
-        true
+        Ok(())
     }
 }
 
@@ -110,6 +112,6 @@ fn main() -> Result<(), Box<dyn std::error::Error>> {
     for (refusal, count) in &gateway.refused {
         println!("{count} {refusal}");
     }
-    println!("{} heard before, {} clear", gateway.repeated, gateway.clear);
+    println!("{} clear", gateway.clear);
     Ok(())
 }

@@ -132,6 +132,11 @@ impl Key {
         &self.0
     }
 
+    /// The key's bytes, for a C function to fill in.
+    pub(crate) fn bytes_mut(&mut self) -> &mut [u8; 16] {
+        &mut self.0
+    }
+
     /// The two numbers that the C functions take, the first byte lowest.
     pub(crate) fn halves(&self) -> (u64, u64) {
         let whole = u128::from_le_bytes(self.0);

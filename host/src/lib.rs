@@ -29,7 +29,8 @@
 //!
 //! [`open`] takes clear frames too, whose security bit is off and whose payload nobody vouches for. So what it gives has a
 //! mark, [`Opened`], and there is no way to a payload but through it. The frames that a radio hands over at once are opened in
-//! one call by [`open_burst`].
+//! one call by [`open_burst`]. That no frame is taken twice is for [`Senders`] to see to, which keeps the counters of up to
+//! [`MAX_SENDERS`] senders.
 #![no_std]
 #![deny(missing_docs)]
 #![warn(clippy::missing_errors_doc, clippy::must_use_candidate)]
@@ -45,6 +46,7 @@ mod list;
 mod opened;
 mod record;
 mod refusal;
+mod senders;
 #[doc(hidden)]
 #[allow(missing_docs, clippy::missing_safety_doc)]
 pub mod sys;
@@ -65,6 +67,7 @@ pub use header::{
 pub use list::{Full, List};
 pub use opened::{ClearFrame, Opened, OpenedFrame};
 pub use refusal::Refusal;
+pub use senders::{SenderRecord, Senders};
 
 /// The most bytes that a frame has.
 pub const MAX_FRAME: usize = 118;
@@ -74,6 +77,9 @@ pub const MAX_PAYLOAD: usize = 108;
 
 /// The most frames of a burst.
 pub const MAX_BURST: usize = 16;
+
+/// The most senders whose counters are kept.
+pub const MAX_SENDERS: usize = 64;
 
 /// The bytes of output that the longest burst needs: a part of [`MAX_PAYLOAD`] for each frame.
 pub const MAX_BURST_OUTPUT: usize = MAX_BURST * MAX_PAYLOAD;

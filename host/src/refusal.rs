@@ -39,6 +39,9 @@ refusals! {
     WRONG_MIC = 19, "the MIC is not the one computed";
     BURST = 20, "a burst has more than 16 lengths, they do not add up to the bytes lent, the output is shorter than 108 times their number, or the list for the answers is shorter than their number";
     LAST_COUNTER = 21, "the counter to be sealed is FFFFFFFF";
+    KEY_SEQUENCE = 22, "the key sequence number is not the active one";
+    FRAME_COUNTER = 23, "the frame counter is FFFFFFFF or not above the sender's stored one";
+    NO_PLACE = 24, "the sender is new and no place is free";
 }
 
 /// A refusal. Nothing that was lent to the operation has changed.
@@ -49,7 +52,7 @@ refusals! {
 /// let refusal = read(&[0x08, 0x00, 0x00]).unwrap_err();
 /// assert_eq!(refusal.number(), 2);
 /// assert_eq!(refusal.to_string(), "refused by 2: a header has fewer than 8 bytes");
-/// assert_eq!(Refusal::all().count(), 21);
+/// assert_eq!(Refusal::all().count(), 24);
 ///
 /// let why = match refusal {
 ///     Refusal::WRONG_MIC => "damaged, or another key",
@@ -128,6 +131,11 @@ pub(crate) fn length(answer: u64) -> Result<usize, Refusal> {
 /// Whether an answer of opening has the mark of a clear frame: bit 40.
 pub(crate) fn is_clear(answer: u64) -> bool {
     answer >> 40 & 1 == 1
+}
+
+/// Whether an answer of noting has the mark of a known sender: bit 41.
+pub(crate) fn is_known(answer: u64) -> bool {
+    answer >> 41 & 1 == 1
 }
 
 /// The refusal with a number that the codec gave; 0 is none.

@@ -1,4 +1,6 @@
 //! The C functions of `include/nwk.h`, as they stand there.
+use crate::SenderRecord;
+
 extern "C" {
     pub fn nwk_read_header(bytes: *const u8, bytes_len: usize, header: *mut u8, header_len: usize) -> u64;
     pub fn nwk_write_header(header: *const u8, header_len: usize, out: *mut u8, out_len: usize) -> u64;
@@ -55,6 +57,24 @@ extern "C" {
         out_len: usize,
     ) -> u64;
     pub fn nwk_payload_kind(frame_type: u8) -> u64;
+    pub fn nwk_inbound_network_key(
+        key_first: u64,
+        key_second: u64,
+        active_key_sequence_number: u8,
+        senders: *const SenderRecord,
+        senders_count: usize,
+        sender: u64,
+        key_sequence_number: u8,
+        frame_counter: u32,
+        key: *mut [u8; 16],
+    ) -> u64;
+    pub fn nwk_note_inbound_frame_counter(
+        senders: *mut SenderRecord,
+        senders_count: usize,
+        sender: u64,
+        frame_counter: u32,
+    ) -> u64;
+    pub fn nwk_forget_sender(senders: *mut SenderRecord, senders_count: usize, sender: u64) -> u64;
     pub fn nwk_read_command(bytes: *const u8, bytes_len: usize, command: *mut u8, command_len: usize) -> u64;
     pub fn nwk_write_command(command: *const u8, command_len: usize, out: *mut u8, out_len: usize) -> u64;
     pub fn nwk_timeout_seconds(code: u8) -> u64;

@@ -79,6 +79,18 @@ frame 4: 6 bytes, clear, said to be from 0x1234: 22.0 C
     assert_eq!(output("burst", &root().join("examples/burst.c")), expected);
 }
 
+/// The counters and the probe's label are those that `samples/capture.py` put in. By document 02 a counter that is not above the
+/// stored one is refused by 23, noting gives the earlier one, and a sender that was forgotten is new.
+#[test]
+fn the_example_that_refuses_a_replay() {
+    let expected = "00124B001CA1B2C3, counter 74565: taken, of a new sender
+00124B001CA1B2C3, counter 74565: refused by 23: the frame counter is FFFFFFFF or not above the sender's stored one
+00124B001CA1B2C3, counter 74571: taken, after 74565
+00124B001CA1B2C3, counter 74571: taken, of a new sender
+";
+    assert_eq!(output("replay", &root().join("examples/replay.c")), expected);
+}
+
 /// The payloads are the reports that `samples/capture.py` put in: the neighbour's second with 1990 hundredths of a degree, the
 /// probe's sixth with 2200. The clear one needs no output, the sealed one does.
 #[test]

@@ -1,5 +1,5 @@
 //! What `include/nwk.h` adds to the functions, from C and from C++: names, texts, offsets, numbers of a key, marks, where a
-//! payload is, NULL for an empty slice.
+//! payload is, the list of senders, NULL for an empty slice.
 #[allow(dead_code)]
 mod support;
 
@@ -49,10 +49,11 @@ fn c_and_cpp_print_the_same() {
         let number = parts.iter().fold(0, |number, part| number << 8 | part);
         assert_eq!(lines.next(), Some(format!("version {version} {number:06X}").as_str()));
         assert_eq!(lines.next(), Some("key C7C6C5C4C3C2C1C0 CFCECDCCCBCAC9C8"));
-        assert_eq!(lines.next(), Some("put D4C3B2A1 get A1B2C3D4 A1B2"));
+        assert_eq!(lines.next(), Some("put D4C3B2A1 get A1B2C3D4 A1B2 E5F60718A1B2C3D4"));
         // A plaintext is a command if the type is 1, else opaque; 2 and 4 are no types.
         assert_eq!(lines.next(), Some("payloads opaque command refused opaque refused"));
         check_payloads(&mut lines);
+        check_senders(&mut lines);
         check_empty(&mut lines);
         check_texts(lines);
     }
@@ -75,10 +76,36 @@ fn check_payloads<'a>(lines: &mut impl Iterator<Item = &'a str>) {
     }
 }
 
+/// A sender record has 16 bytes and a list counts 64 of them; bit 41 of an answer with a length of 16, and every bit but that one. By
+/// document 02, request 5: a new sender takes the first free place, noting gives the earlier counter, also 0, and takes a lower
+/// one, a full list is 24; asking is 22 for another key number, 23 for the stored counter, else it gives the key; forgetting
+/// leaves zeros for the next.
+fn check_senders<'a>(lines: &mut impl Iterator<Item = &'a str>) {
+    for expected in [
+        "sender 16 0 8 12 of 64 known 1 16 0 0",
+        "note_new 0 0 known 0: 1 124B001CA1B2C3 0 0 0 0",
+        "note_known 0 0 known 1: 1 124B001CA1B2C3 FFFFFFFE 0 0 0",
+        "note_lower 0 4294967294 known 1: 1 124B001CA1B2C3 7 0 0 0",
+        "note_other 0 0 known 0: 1 124B001CA1B2C3 7 1 0 1",
+        "note_full 24 0 known 0: 1 124B001CA1B2C3 7 1 0 1",
+        "ask_number 22 0 known 0: 1 124B001CA1B2C3 7 1 0 1",
+        "ask_again 23 0 known 0: 1 124B001CA1B2C3 7 1 0 1",
+        "no key 00 00",
+        "ask 0 16 known 0: 1 124B001CA1B2C3 7 1 0 1",
+        "key C0 C7 C8 CF",
+        "forget 0 0 known 0: 0 0 0 1 0 1",
+        "forget_again 0 0 known 0: 0 0 0 1 0 1",
+        "note_freed 0 0 known 0: 1 1 1 1 0 1",
+    ] {
+        assert_eq!(lines.next(), Some(expected));
+    }
+}
+
 /// The answers to empty slices, by document 01: a header of no bytes 2, an auxiliary header of none 9, no room 18. A record of
 /// no bytes is refused by 13, and one without an auxiliary header by 14. A header of zeros has 8 bytes, no bytes are an unparsed
 /// command, and nothing sealed opens again to nothing. By document 02 a burst of no frames is accepted with 0, and bytes
-/// without lengths and lengths without answers are refused by 20; a frame of no bytes is a frame, whose own answer is 2.
+/// without lengths and lengths without answers are refused by 20; a frame of no bytes is a frame, whose own answer is 2. A list
+/// without places names nobody, and has no place for a new sender.
 fn check_empty<'a>(lines: &mut impl Iterator<Item = &'a str>) {
     for expected in [
         "read_header 2 0",
@@ -97,6 +124,9 @@ fn check_empty<'a>(lines: &mut impl Iterator<Item = &'a str>) {
         "open_burst_no_answers 20 0",
         "open_burst_empty_frame 0 1",
         "its record 2 0",
+        "inbound_network_key 0 16",
+        "note_inbound_frame_counter 24 0",
+        "forget_sender 0 0",
         "encrypt_ccm 0 0",
         "decrypt_ccm 0 0",
         "split_mic 16 0",
@@ -110,7 +140,7 @@ fn check_texts<'a>(mut lines: impl Iterator<Item = &'a str>) {
     for refusal in Refusal::all() {
         assert_eq!(lines.next(), Some(format!("{} {}", refusal.number(), refusal.condition()).as_str()));
     }
-    assert_eq!(lines.next(), Some("22 a number that the list does not have"));
+    assert_eq!(lines.next(), Some("25 a number that the list does not have"));
     assert_eq!(lines.next(), None);
 }
 

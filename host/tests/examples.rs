@@ -8,17 +8,20 @@ fn run(name: &str) -> Output {
     cargo.current_dir(env!("CARGO_MANIFEST_DIR")).output().expect("cargo starts")
 }
 
-/// Of the six frames heard one is damaged, one is heard twice and one is clear: it is shown and not handed on.
+/// Of the six frames heard one is damaged, one is heard twice, which is refused by 23, and one is clear: it is shown and not
+/// handed on.
 #[test]
 fn the_gateways_loop() {
     let ran = run("gateway");
     let expected = "0x0000: Some(LinkStatus)
 0x7A10: 16 bytes for the layer above
 damaged, or under another network's key
+heard before
 clear, from 0x9C44: 16 bytes of a probe that has yet to join
 0x7A10: 16 bytes for the layer above
 1 refused by 19: the MIC is not the one computed
-1 heard before, 1 clear
+1 refused by 23: the frame counter is FFFFFFFF or not above the sender's stored one
+1 clear
 ";
     assert_eq!(String::from_utf8_lossy(&ran.stdout), expected);
     assert!(ran.status.success(), "{}", String::from_utf8_lossy(&ran.stderr));

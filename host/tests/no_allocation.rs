@@ -3,8 +3,8 @@ use std::alloc::{GlobalAlloc, Layout, System};
 use std::cell::Cell;
 use store_reader::{
     decrypt_ccm, encrypt_block, encrypt_ccm, hex, open, open_burst, read, seal, split_mic, timeout_seconds, write,
-    Eui64, Key, Nwk, NwkAuxHeader, NwkCommand, NwkFrameType, NwkHeader, NwkSourceRoute, OpenedRecord, Refusal,
-    MAX_BURST, MAX_BURST_OUTPUT, MAX_FRAME, MAX_PAYLOAD,
+    Eui64, Key, Nwk, NwkAuxHeader, NwkCommand, NwkFrameType, NwkHeader, NwkSourceRoute, OpenedFrame, OpenedRecord,
+    Refusal, SenderRecord, Senders, MAX_BURST, MAX_BURST_OUTPUT, MAX_FRAME, MAX_PAYLOAD, MAX_SENDERS,
 };
 
 struct Counting;
@@ -49,6 +49,7 @@ fn everything() -> Result<(), Refusal> {
     let opened = open(&key, &frame[..n], &mut out)?.sealed().ok_or(Refusal::INTERNAL)?;
     opened.header.frame_control.frame_type.payload()?;
     NwkCommand::read(opened.payload)?;
+    inbound(&key, &opened)?;
     read(&frame[..n])?;
     burst(&key, &frame[..n])?;
     header.frame_control.security = false;
@@ -64,6 +65,24 @@ fn everything() -> Result<(), Refusal> {
     timeout_seconds(14)?;
     hex("08 00", &mut out).map_err(|_| Refusal::INTERNAL)?;
     assert_eq!(open(&key, &[0; 3], &mut out).map(|_| ()), Err(Refusal::SHORT_HEADER));
+    Ok(())
+}
+
+/// A frame asked for and noted, and as many senders as there are places for.
+fn inbound(key: &Key, frame: &OpenedFrame<'_>) -> Result<(), Refusal> {
+    let (mut senders, mut list) = (Senders::new(), [SenderRecord::FREE; MAX_SENDERS + 1]);
+    let counter = frame.auxiliary.frame_counter;
+    senders.inbound_network_key(key, 0, frame.nonce_ieee, frame.auxiliary.key_sequence_number, counter)?;
+    senders.note_inbound_frame_counter(frame.nonce_ieee, counter)?;
+    let again = senders.inbound_network_key(key, 0, frame.nonce_ieee, frame.auxiliary.key_sequence_number, counter);
+    assert_eq!(again, Err(Refusal::FRAME_COUNTER));
+    let mut lent = Senders::lent(&mut list);
+    for sender in 0..MAX_SENDERS {
+        lent.note_inbound_frame_counter(Eui64::from(sender as u64), counter)?;
+    }
+    assert_eq!(lent.note_inbound_frame_counter(frame.nonce_ieee, counter), Err(Refusal::NO_PLACE));
+    lent.forget(Eui64::from(0));
+    lent.note_inbound_frame_counter(frame.nonce_ieee, counter)?;
     Ok(())
 }
 
