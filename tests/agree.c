@@ -1,4 +1,5 @@
-/* Calls all seventeen functions of nwk.h with generated inputs, from a fixed seed, and prints one line for each call:
+/* Calls the seventeen functions of nwk.h that take and give bytes with generated inputs, from a fixed seed, and prints one line for
+ * each call:
  *
  *   name [key_first key_second] inputs = answer outputs
  *

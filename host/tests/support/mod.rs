@@ -14,4 +14,6 @@ pub mod model;
 pub mod nettle;
 pub mod operations;
 pub mod random;
+pub mod sender_tally;
+pub mod senders;
 pub mod tally;

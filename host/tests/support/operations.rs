@@ -1,4 +1,5 @@
-//! The seventeen operations of `include/nwk.h`: their buffers, and the refusals each of them can answer.
+//! The seventeen operations of `include/nwk.h` on bytes: their buffers, and the refusals each of them can answer. `senders` has the
+//! three over a list of senders.
 use std::ops::Range;
 
 pub const HEADER_RECORD: usize = 147;

@@ -4,6 +4,7 @@ pub mod commands;
 pub mod damage;
 pub mod headers;
 pub mod sealed;
+pub mod senders;
 
 use super::calls::Call;
 use super::model::{self, opening};

@@ -9,6 +9,7 @@ pub mod commands;
 pub mod frame;
 pub mod header;
 pub mod opening;
+pub mod senders;
 
 use super::calls::{Call, Outcome, CLEAR_BIT};
 use super::operations::{Operation, AUXILIARY_RECORD, COMMAND_RECORD, HEADER_RECORD, MIC};
