@@ -16,7 +16,7 @@ _store_reader() {
   --key | --source | --ieee | --counter | --key-sequence) return ;;
   esac
   case $command in
-  open) options="--key --key-file --full --json --csv --by-sender --summary-only --refused --source" ;;
+  open) options="--key --key-file --full --json --csv --by-sender --summary-only --refused --source --replay --key-sequence" ;;
   read) options="--full --json --csv --by-sender --summary-only --refused --source" ;;
   seal) options="--key --key-file --counter --ieee --key-sequence --json" ;;
   command) options="--full --json --csv --summary-only --refused" ;;

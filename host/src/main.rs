@@ -13,6 +13,7 @@ mod cli {
     pub mod pcapng;
     pub mod progress;
     pub mod protocol;
+    pub mod replay;
     pub mod run;
     pub mod seal;
     pub mod senders;

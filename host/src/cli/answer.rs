@@ -1,6 +1,7 @@
 //! What is said of an input: the codec's answer, and the headers as far as they can be read.
 use super::describe;
 use super::keys::{open_with, Accepted, NumberedKey};
+use super::replay::{was_opened, Replays};
 use super::value::{digits, line, Fields, Value};
 use store_reader::{read, NwkAuxHeader, NwkCommand, NwkFrameType, NwkHeader, NwkPayload, Refusal, MAX_FRAME};
 
@@ -48,6 +49,12 @@ impl Answer {
             answer.header = Some(header);
         }
         answer
+    }
+
+    /// Whether the frame's addresses are more than claimed: it was opened, or read without a key. Anyone may have sent a clear
+    /// frame, or one that was refused before it was opened.
+    pub fn shows_addresses(&self) -> bool {
+        self.refusal.is_none_or(was_opened) && self.mark != Some(Mark::Clear)
     }
 
     /// The answer on one line, without the refusal.
@@ -119,11 +126,15 @@ fn kind(header: &NwkHeader) -> &'static str {
     }
 }
 
-/// A frame opened with one of the keys, or a clear one.
-pub fn opened(keys: &[NumberedKey], bytes: &[u8]) -> Answer {
+/// A frame opened with one of the keys, or a clear one. Where replays are refused, an opened one is also asked for and noted.
+pub fn opened(keys: &[NumberedKey], replays: Option<&mut Replays>, bytes: &[u8]) -> Answer {
     match open_with(keys, bytes) {
         Err(refusal) => Answer::refused(bytes, refusal),
-        Ok(Accepted::Sealed { header, auxiliary, payload, key }) => {
+        Ok(Accepted::Sealed { header, auxiliary, nonce_ieee, payload, key }) => {
+            let taken = replays.map(|replays| replays.take(&keys[key - 1].key, nonce_ieee, &auxiliary));
+            if let Some(Err(refusal)) = taken {
+                return Answer::refused(bytes, refusal);
+            }
             let key = (keys.len() > 1).then_some(key);
             let answer = Answer { auxiliary: Some(auxiliary), key, ..Answer::default() };
             answer.accepted(Mark::Sealed, header, &payload)

@@ -21,9 +21,17 @@ pub struct Sealing {
     pub key_sequence: u8,
 }
 
+/// What frames are opened with.
+#[derive(Debug, Clone, PartialEq)]
+pub struct Opening {
+    pub keys: Vec<NumberedKey>,
+    /// The active key sequence number, where replays are refused.
+    pub replay: Option<u8>,
+}
+
 #[derive(Debug, PartialEq)]
 pub enum Task {
-    Open(Vec<NumberedKey>),
+    Open(Opening),
     Read,
     Seal(Sealing),
     Command,
@@ -63,7 +71,7 @@ pub enum Parsed {
 const COMMANDS: [&str; 5] = ["open", "read", "seal", "command", "refusals"];
 
 /// The options: the commands that have them, whether they take a value, and whether they may be given more than once.
-const OPTIONS: [(&str, &[&str], bool, bool); 14] = [
+const OPTIONS: [(&str, &[&str], bool, bool); 15] = [
     ("--key", &["open", "seal"], true, true),
     ("--key-file", &["open", "seal"], true, true),
     ("--full", &["open", "read", "command"], false, false),
@@ -73,9 +81,10 @@ const OPTIONS: [(&str, &[&str], bool, bool); 14] = [
     ("--summary-only", &["open", "read", "command"], false, false),
     ("--refused", &["open", "read", "command"], false, false),
     ("--source", &["open", "read"], true, true),
+    ("--replay", &["open"], false, false),
     ("--ieee", &["seal"], true, false),
     ("--counter", &["seal"], true, false),
-    ("--key-sequence", &["seal"], true, false),
+    ("--key-sequence", &["open", "seal"], true, false),
     ("--help", &COMMANDS, false, true),
     ("--version", &COMMANDS, false, true),
 ];
@@ -167,7 +176,7 @@ fn known(name: &str, option: &str) -> Result<(&'static str, bool, bool), String>
 
 fn arguments_of(name: &str, given: Given) -> Result<Arguments, String> {
     let task = match name {
-        "open" => Task::Open(keys(&given)?),
+        "open" => Task::Open(opening(&given)?),
         "seal" => Task::Seal(sealing(&given)?),
         "read" => Task::Read,
         "command" => Task::Command,
@@ -214,6 +223,21 @@ fn keys(given: &Given) -> Result<Vec<NumberedKey>, String> {
     }
 }
 
+fn opening(given: &Given) -> Result<Opening, String> {
+    let (keys, sequence) = (keys(given)?, key_sequence(given)?);
+    let active = sequence.or(keys[0].sequence).unwrap_or(0);
+    match (given.has("--replay"), sequence) {
+        (false, Some(_)) => {
+            Err("open has --key-sequence only beside --replay: else no key sequence number is active".to_string())
+        }
+        (asked, _) => Ok(Opening { keys, replay: asked.then_some(active) }),
+    }
+}
+
+fn key_sequence(given: &Given) -> Result<Option<u8>, String> {
+    given.value("--key-sequence").map(|text| number("--key-sequence", text)).transpose()
+}
+
 fn sealing(given: &Given) -> Result<Sealing, String> {
     let mut keys = keys(given)?;
     let key = keys.remove(0);
@@ -223,7 +247,7 @@ fn sealing(given: &Given) -> Result<Sealing, String> {
     let counter = given
         .value("--counter")
         .ok_or("--counter N is missing: a counter sealed twice under one key repeats the key stream")?;
-    let sequence = given.value("--key-sequence").map(|text| number("--key-sequence", text)).transpose()?;
+    let sequence = key_sequence(given)?;
     if let (Some(given), Some(of_key)) = (sequence, key.sequence.filter(|of_key| Some(*of_key) != sequence)) {
         return Err(format!("--key-sequence {given} for a key of number {of_key}"));
     }

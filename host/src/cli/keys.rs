@@ -1,5 +1,5 @@
 //! The network keys that frames are tried with.
-use store_reader::{open, read, Key, NwkAuxHeader, NwkHeader, Opened, Refusal, MAX_PAYLOAD};
+use store_reader::{open, read, Eui64, Key, NwkAuxHeader, NwkHeader, Opened, OpenedFrame, Refusal, MAX_PAYLOAD};
 
 /// A key, and the key sequence number that it goes with if one was given.
 #[derive(Debug, Clone, PartialEq)]
@@ -45,7 +45,7 @@ pub fn of_file(path: &str) -> Result<Vec<NumberedKey>, String> {
 /// A frame that was accepted.
 pub enum Accepted {
     /// It was sealed, and this key opened it: its place among the keys, counted from 1.
-    Sealed { header: NwkHeader, auxiliary: NwkAuxHeader, payload: Vec<u8>, key: usize },
+    Sealed { header: NwkHeader, auxiliary: NwkAuxHeader, nonce_ieee: Eui64, payload: Vec<u8>, key: usize },
     /// It was clear, and no key was used.
     Clear { header: NwkHeader, payload: Vec<u8> },
 }
@@ -55,8 +55,8 @@ impl Accepted {
     fn new(opened: Opened<'_>, place: usize) -> Self {
         match opened {
             Opened::Sealed(frame) => {
-                let payload = frame.payload.to_vec();
-                Self::Sealed { header: frame.header, auxiliary: frame.auxiliary, payload, key: place + 1 }
+                let OpenedFrame { header, auxiliary, nonce_ieee, payload } = frame;
+                Self::Sealed { header, auxiliary, nonce_ieee, payload: payload.to_vec(), key: place + 1 }
             }
             Opened::Clear(frame) => Self::Clear { header: frame.header, payload: frame.payload.to_vec() },
         }

@@ -4,6 +4,7 @@ use super::arguments::{Arguments, Show, Task};
 use super::csv;
 use super::progress::Progress;
 use super::protocol::is_inter_pan;
+use super::replay::Replays;
 use super::seal::seal_each;
 use super::senders::{csv_table, table, Senders};
 use super::show::{complain, note_offset, Printer};
@@ -33,9 +34,10 @@ pub fn run(arguments: &Arguments, colour: bool, out: &mut impl Write) -> Result<
     let mut printer = Printer { out, show: arguments.show, filter: &arguments.filter, colour };
     match &arguments.task {
         Task::Refusals => refusals(arguments.show, printer.out),
-        Task::Open(keys) => {
-            let run = Run::new(arguments, Summary::of_opening(), true);
-            run.over(source(arguments)?, &mut printer, |bytes| opened(keys, bytes))
+        Task::Open(opening) => {
+            let run = Run::new(arguments, Summary::of_opening(opening.replay.is_some()), true);
+            let mut replays = opening.replay.map(Replays::new);
+            run.over(source(arguments)?, &mut printer, |bytes| opened(&opening.keys, replays.as_mut(), bytes))
         }
         Task::Read => {
             let run = Run::new(arguments, Summary::new("frame", "read", "read"), true);
@@ -106,7 +108,7 @@ impl Run {
         mut self,
         mut source: Source,
         printer: &mut Printer<'_, W>,
-        operation: impl Fn(&[u8]) -> Answer,
+        mut operation: impl FnMut(&[u8]) -> Answer,
     ) -> Result<u8, Failure> {
         let mut progress = Progress::new(source.extent(), self.lines_come);
         let mut noted_offset = false;
@@ -118,7 +120,7 @@ impl Run {
                 note_offset(line);
                 noted_offset = true;
             }
-            self.entry(&entry, printer, &operation)?;
+            self.entry(&entry, printer, &mut operation)?;
             progress.step(self.summary.inputs());
         }
         progress.clear();
@@ -129,7 +131,7 @@ impl Run {
         &mut self,
         entry: &Entry,
         printer: &mut Printer<'_, W>,
-        operation: impl Fn(&[u8]) -> Answer,
+        mut operation: impl FnMut(&[u8]) -> Answer,
     ) -> io::Result<()> {
         match &entry.content {
             Content::Frame(bytes) if self.of_frames && is_inter_pan(bytes) => {

@@ -5,6 +5,7 @@
 use super::answer::{Answer, Mark};
 use super::csv;
 use super::mac::{MacAddress, MacHeader};
+use super::replay::was_opened;
 use super::summary::Names;
 use super::time::Time;
 use super::value::{Fields, Value};
@@ -120,13 +121,12 @@ impl Senders {
         if let (Some(auxiliary), Some(device)) = (&answer.auxiliary, sealed_by) {
             self.counters.entry(device).or_default().note(auxiliary, answer.refusal.is_none());
         }
-        // Anyone may have sent a clear frame: it claims its addresses as a refused one does.
-        if answer.refusal.is_none() && answer.mark != Some(Mark::Clear) {
+        if answer.shows_addresses() {
             self.learn(header, answer.auxiliary.as_ref(), mac, short);
         }
     }
 
-    /// Learns long addresses from an accepted frame: the source's from the header, and from the auxiliary header that of the
+    /// Learns long addresses from a frame that shows them: the source's from the header, and from the auxiliary header that of the
     /// device that sent it. Without a MAC header that is taken to be the source.
     fn learn(&mut self, header: &NwkHeader, auxiliary: Option<&NwkAuxHeader>, mac: Option<&MacHeader>, source: Short) {
         if let Some(long) = header.source_ieee {
@@ -304,14 +304,17 @@ pub fn table(rows: &[Row], names: Names) -> String {
 }
 
 /// The refusals that have a column: document 01's, since the command opens each frame alone and a counter is refused to sealing
-/// only. Those that opening into room enough never answers stay 0.
-fn columns() -> impl Iterator<Item = Refusal> {
-    Refusal::all().filter(|refusal| !matches!(*refusal, Refusal::BURST | Refusal::LAST_COUNTER))
+/// only; and those of opened frames where replays are refused. Those that opening into room enough never answers stay 0.
+fn columns(names: Names) -> impl Iterator<Item = Refusal> {
+    Refusal::all().filter(move |refusal| match *refusal {
+        Refusal::BURST | Refusal::LAST_COUNTER => false,
+        other => names.replay || !was_opened(other),
+    })
 }
 
 /// The table as comma-separated values, a column for each refusal.
 pub fn csv_table(rows: &[Row], names: Names) -> String {
-    let numbers: Vec<String> = columns().map(|refusal| format!("refused_by_{}", refusal.number())).collect();
+    let numbers: Vec<String> = columns(names).map(|refusal| format!("refused_by_{}", refusal.number())).collect();
     let mut heads = vec!["ieee", "short", names.done];
     heads.extend(names.clear.then_some("clear"));
     heads.push("refused");
@@ -323,7 +326,7 @@ pub fn csv_table(rows: &[Row], names: Names) -> String {
             vec![row.ieee.map_or(String::new(), |address| address.to_string()), row.shorts(), row.accepted.to_string()];
         cells.extend(names.clear.then(|| row.clear.to_string()));
         cells.push(row.refusals().to_string());
-        cells.extend(columns().map(|refusal| row.refused.get(&refusal).copied().unwrap_or(0).to_string()));
+        cells.extend(columns(names).map(|refusal| row.refused.get(&refusal).copied().unwrap_or(0).to_string()));
         cells.extend([shown(row.first), shown(row.last)]);
         cells.extend(match row.counters {
             Some((first, last, never)) => [first.to_string(), last.to_string(), never.to_string()],

@@ -1,6 +1,7 @@
 //! What a run met, counted: frames by refusal number, and what was no frame.
 use super::answer::{condition, Answer, Mark};
 use super::csv;
+use super::replay::was_opened;
 use super::source::Kind;
 use super::value::{Fields, Value};
 use std::collections::BTreeMap;
@@ -14,6 +15,8 @@ pub struct Names {
     pub done: &'static str,
     /// Whether clear frames are counted apart.
     pub clear: bool,
+    /// Whether replays are refused.
+    pub replay: bool,
 }
 
 impl Names {
@@ -38,6 +41,8 @@ pub struct Summary {
     others: BTreeMap<Kind, u64>,
     wrong_fcs: u64,
     pub broken: u64,
+    /// Replays are refused.
+    replay: bool,
     /// What the inputs are called, what is done with them, and the same of those to come.
     noun: &'static str,
     done: &'static str,
@@ -50,12 +55,12 @@ impl Summary {
     }
 
     /// The summary of `open`, which counts clear frames apart from those that a key opened.
-    pub fn of_opening() -> Self {
-        Self { clear: Some(0), ..Self::new("frame", "opened", "open") }
+    pub fn of_opening(replay: bool) -> Self {
+        Self { clear: Some(0), replay, ..Self::new("frame", "opened", "open") }
     }
 
     pub fn names(&self) -> Names {
-        Names { done: self.done, clear: self.clear.is_some() }
+        Names { done: self.done, clear: self.clear.is_some(), replay: self.replay }
     }
 
     /// Counts a frame or command, and whether the frame check sequence around it is wrong.
@@ -91,7 +96,8 @@ impl Summary {
 
     /// How many frames were sealed and not opened, where none was. Clear frames say nothing of the keys.
     fn keys_look_wrong(&self) -> Option<u64> {
-        self.refused.get(&Refusal::WRONG_MIC).copied().filter(|_| self.accepted == 0)
+        let any_opened = self.accepted > 0 || self.refused.keys().any(|refusal| was_opened(*refusal));
+        self.refused.get(&Refusal::WRONG_MIC).copied().filter(|_| !any_opened)
     }
 
     /// What is said where the keys look wrong.
