@@ -32,6 +32,7 @@ static int software(void) {
   compare_with_peers("software AES");
   compare_with_kept_keys("software AES");
   times_alone();
+  times_of_senders();
   compare_bursts_with_calls();
   print_spread();
   return 0;

@@ -4,6 +4,7 @@
 #include "bursts.h"
 #include "codecs.h"
 #include "readings.h"
+#include "senders.h"
 
 #include <stdio.h>
 #include <string.h>
@@ -121,6 +122,18 @@ static size_t over_bursts(call *run) {
   return larger(most, touched(run, &b));
 }
 
+/* Lists of 64 senders that name the sender last, do not name it, and have their last place free. */
+static size_t over_senders(call *run) {
+  static struct senders s;
+  void (*const makes[])(struct senders *) = {make_senders, make_unknown_sender, make_new_sender};
+  size_t most = 0;
+  for (size_t i = 0; i < sizeof makes / sizeof makes[0]; i++) {
+    makes[i](&s);
+    most = larger(most, touched(run, &s));
+  }
+  return most;
+}
+
 /* Every second byte of frame control, which has the presence bits. */
 static size_t over_headers(call *run) {
   size_t most = 0;
@@ -174,6 +187,9 @@ void print_stack_use(void) {
       {"nwk_seal", over_messages, seal_frame},
       {"nwk_open", over_messages, open_frame},
       {"nwk_open_burst", over_bursts, open_burst},
+      {"nwk_inbound_network_key", over_senders, ask_key},
+      {"nwk_note_inbound_frame_counter", over_senders, note_known},
+      {"nwk_forget_sender", over_senders, forget_sender},
       {"nwk_payload_kind", over_messages, payload_kind},
       {"nwk_read_command", over_commands, read_command},
       {"nwk_write_command", over_commands, write_command},
@@ -184,9 +200,9 @@ void print_stack_use(void) {
       {"nwk_encrypt_block", over_messages, ours.block},
   };
   printf("\n### Stack, the most that a call touched\n\n");
-  printf("| %-19s | bytes |\n|---------------------|------:|\n", "function");
+  printf("| %-30s | bytes |\n|--------------------------------|------:|\n", "function");
   for (size_t i = 0; i < sizeof uses / sizeof uses[0]; i++) {
-    printf("| %-19s | %5zu |\n", uses[i].name, uses[i].over(uses[i].run));
+    printf("| %-30s | %5zu |\n", uses[i].name, uses[i].over(uses[i].run));
   }
   compare_burst_with_two_calls();
 }

@@ -3,6 +3,7 @@
 #include "bursts.h"
 #include "codecs.h"
 #include "readings.h"
+#include "senders.h"
 #include "tables.h"
 
 #include <stdio.h>
@@ -157,6 +158,27 @@ void times_alone(void) {
   frames_alone("nwk_seal, a whole frame", seal_frame);
   frames_alone("nwk_open, a whole frame", open_frame);
   alone("nwk_read_header and nwk_read_command", "read", rows, sizeof rows / sizeof rows[0]);
+}
+
+/* A row of a call on a list of senders. */
+static struct row sender_row(const char *label, call *run, void (*make)(struct senders *), struct senders *s) {
+  struct row row = {.jobs = {{.run = run, .input = s}}};
+  make(s);
+  snprintf(row.label, sizeof row.label, "%s", label);
+  return row;
+}
+
+void times_of_senders(void) {
+  static struct senders s[5];
+  check_senders();
+  struct row rows[] = {
+      sender_row("nwk_inbound_network_key, the last of 64", ask_key, make_senders, &s[0]),
+      sender_row("nwk_inbound_network_key, unknown", ask_key, make_unknown_sender, &s[1]),
+      sender_row("nwk_note_inbound_frame_counter, the last of 64", note_known, make_senders, &s[2]),
+      sender_row("the same, new in the 64th place, and nwk_forget_sender", note_and_forget, make_new_sender, &s[3]),
+      sender_row("nwk_forget_sender, unknown", forget_sender, make_unknown_sender, &s[4]),
+  };
+  alone("A list of 64 senders", "call, sender", rows, sizeof rows / sizeof rows[0]);
 }
 
 /* A row of a burst, opened both ways. */

@@ -11,6 +11,9 @@ void compare_with_kept_keys(const char *way);
 /* Whole frames, headers and commands, by the codec alone. */
 void times_alone(void);
 
+/* Asking, noting and forgetting in a list of 64 senders. */
+void times_of_senders(void);
+
 /* Bursts of 16 frames beside 16 calls of opening. */
 void compare_bursts_with_calls(void);
 
