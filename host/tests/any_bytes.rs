@@ -139,7 +139,8 @@ fn the_command_takes_any_file() {
         if random.percent(20) {
             file.truncate(random.below(file.len()));
         }
-        for arguments in [&["open", "--key", KEY, "--by-sender"][..], &["read", "--json"], &["read", "--full"]] {
+        let open = ["open", "--key", KEY, "--by-sender"];
+        for arguments in [&open[..], &["open", "--key", KEY, "--replay"], &["read", "--json"], &["read", "--full"]] {
             let ran = run(arguments, &file);
             assert!((0..=2).contains(&ran.status), "{arguments:?} ended with {}: {}", ran.status, ran.err);
             assert!(!ran.err.contains("panicked"), "{}", ran.err);
