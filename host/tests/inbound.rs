@@ -1,18 +1,17 @@
 //! The inbound counters: asking for a key, noting a counter and forgetting a sender, over generated lists between guard bytes and
-//! compared with the model; document 02's request 5 sentence by sentence; and the Rust's own answers.
+//! compared with the model; document 02's request 5 sentence by sentence; and the same calls from C.
 #[allow(dead_code)]
 mod support;
 
-use std::fs;
 use store_reader::{Eui64, Key, Refusal, SenderRecord, Senders, MAX_SENDERS};
-use support::command::root;
+use support::command::{scratch, tool};
 use support::generate::senders as generate;
 use support::header_comments;
 use support::hex::unhex;
 use support::model::senders::{run, COUNTED};
 use support::random::Random;
 use support::sender_tally::{SenderTally, LONGEST};
-use support::senders::{line, perform, Done, Record, Request};
+use support::senders::{line, perform, Done, Record, Request, FIELDS};
 
 const SEED: u64 = 0x5E4D_E125;
 /// For each length of a list from 0 to 70, so many lists, where places past the 64th are to be met more, and so many calls one after
@@ -329,107 +328,67 @@ fn a_list_of_ones_own_has_64_places() {
     assert_eq!(format!("{:?}", senders.records()[0]), "SenderRecord(free)");
 }
 
-// ---- the Rust's answers
+// ---- the same from C
 
-/// What `security.rs` answered, compiled as it is: the head of the file says how.
-const RECORDED: &str = "host/tests/data/security_rs.txt";
+/// `LISTS` times `CALLS` of `tests/agree_senders.c`, and what it filled the key with.
+const FROM_C: usize = 150 * 8;
+const FILL: u8 = 0xA5;
 
-/// The bytes of an address, a key or a number in hexadecimal digits.
-fn bytes<const N: usize>(text: &str) -> [u8; N] {
-    unhex(text).and_then(|bytes| bytes.try_into().ok()).unwrap_or_else(|| panic!("{text}: not {N} bytes"))
+/// What `tests/agree_senders.c` prints, compiled without a warning.
+fn printed_from_c() -> String {
+    let program = scratch("agree_senders");
+    let program = program.to_str().expect("UTF-8");
+    let flags = ["-std=c11", "-Wall", "-Wextra", "-Wpedantic", "-Werror", "-Iinclude"];
+    let files = ["tests/agree_senders.c", "target/staticlib/libnwk.a", "-o", program];
+    let compiled = tool("cc", &[&flags[..], &files].concat()).expect("a C compiler called cc is needed");
+    assert!(compiled.status.success(), "{}", String::from_utf8_lossy(&compiled.stderr));
+    let ran = tool(program, &[]).expect("the program");
+    assert!(ran.status.success(), "ended with {}", ran.status);
+    String::from_utf8(ran.stdout).expect("UTF-8")
 }
 
-/// The Rust gives `None` for 22 and 23 alike; by the text that it told, the number is one of them.
-fn number_of(text: &str) -> u8 {
-    match text {
-        "unknown-key-sequence-number" => 22,
-        "maximum" | "duplicate" | "backward" => 23,
-        other => panic!("{other}: no reason"),
-    }
+/// A number in hexadecimal digits.
+fn number<T: TryFrom<u64>>(text: &str) -> Option<T> {
+    T::try_from(u64::from_str_radix(text, 16).ok()?).ok()
 }
 
-/// How many calls were repeated, by what the Rust answered.
-#[derive(Default, Debug)]
-struct Repeated {
-    given: usize,
-    unknown: usize,
-    by_22: usize,
-    by_23: usize,
-    new: usize,
-    noted: usize,
+fn list_of(text: &str) -> Option<Vec<Record>> {
+    Some(unhex(text)?.chunks(FIELDS).map(Record::of_bytes).collect())
 }
 
-/// A sequence of recorded calls on one list.
-struct Recorded {
-    senders: Senders,
-    key: Key,
-    active: u8,
-}
-
-impl Recorded {
-    /// Asks as the Rust was asked, and compares what it gave.
-    fn ask(&self, words: &[&str], repeated: &mut Repeated) {
-        let [sender, number, counter, "=", answer, text] = words else {
-            panic!("{words:?}");
-        };
-        let (sender, [number]) = (Eui64(bytes(sender)), bytes(number));
-        let counter = u32::from_be_bytes(bytes(counter));
-        let found = self.senders.inbound_network_key(&self.key, self.active, sender, number, counter);
-        let expected = match *answer {
-            "key" => Ok(self.key.clone()),
-            "none" => Err(number_of(text)),
-            other => panic!("{other}: no answer"),
-        };
-        assert_eq!(found.map_err(Refusal::number), expected, "ask {words:?}");
-        match (expected, *text) {
-            (Ok(_), "unknown-sender") => repeated.unknown += 1,
-            (Ok(_), text) => {
-                assert_eq!(text, "-");
-                repeated.given += 1;
-            }
-            (Err(22), _) => repeated.by_22 += 1,
-            (Err(_), _) => repeated.by_23 += 1,
+/// A printed line: the request, the list before it, and what was answered from C.
+fn parsed(line: &str) -> Option<(Request, Vec<Record>, Done)> {
+    let (called, answered) = line.split_once(" = ")?;
+    let words: Vec<&str> = called.split(' ').collect();
+    let (request, list) = match words[..] {
+        ["nwk_inbound_network_key", first, second, active, sender, given, counter, list] => {
+            let key = u128::from(number::<u64>(second)?) << 64 | u128::from(number::<u64>(first)?);
+            let (active, sender) = (number(active)?, number(sender)?);
+            let (number, counter) = (number(given)?, number(counter)?);
+            (Request::Ask { key: key.to_le_bytes(), active, sender, number, counter }, list)
         }
-    }
-
-    fn note(&mut self, words: &[&str], repeated: &mut Repeated) {
-        let [sender, counter, "=", earlier] = words else {
-            panic!("{words:?}");
-        };
-        let counter = u32::from_be_bytes(bytes(counter));
-        let expected = (*earlier != "none").then(|| u32::from_be_bytes(bytes(earlier)));
-        let found = self.senders.note_inbound_frame_counter(Eui64(bytes(sender)), counter);
-        assert_eq!(found, Ok(expected), "note {words:?}");
-        match expected {
-            None => repeated.new += 1,
-            Some(_) => repeated.noted += 1,
+        ["nwk_note_inbound_frame_counter", sender, counter, list] => {
+            (Request::Note { sender: number(sender)?, counter: number(counter)? }, list)
         }
-    }
+        ["nwk_forget_sender", sender, list] => (Request::Forget { sender: number(sender)? }, list),
+        _ => return None,
+    };
+    let mut answered = answered.split(' ');
+    let (answer, after) = (number(answered.next()?)?, list_of(answered.next()?)?);
+    let key = answered.next().and_then(|key| unhex(key)?.try_into().ok()).filter(|key| *key != [FILL; 16]);
+    Some((request, list_of(list)?, Done { answer, list: after, key }))
 }
 
 #[test]
-fn the_rusts_answers_are_given() {
-    let text = fs::read_to_string(root().join(RECORDED)).expect(RECORDED);
-    let mut recorded: Option<Recorded> = None;
-    let (mut repeated, mut most) = (Repeated::default(), 0);
-    for line in text.lines().filter(|line| !line.starts_with('#')) {
-        let words: Vec<&str> = line.split(' ').collect();
-        match (&words[..], &mut recorded) {
-            (["new", key, active], _) => {
-                let [active] = bytes(active);
-                recorded = Some(Recorded { senders: Senders::new(), key: Key::new(bytes(key)), active });
-            }
-            (["ask", words @ ..], Some(recorded)) => recorded.ask(words, &mut repeated),
-            (["note", words @ ..], Some(recorded)) => {
-                recorded.note(words, &mut repeated);
-                most = most.max(recorded.senders.records().iter().filter_map(SenderRecord::noted).count());
-            }
-            _ => panic!("{line}: no call"),
-        }
+fn c_gets_the_same_answers() {
+    let printed = printed_from_c();
+    let mut numbers = [0; 25];
+    for line in printed.lines() {
+        let (request, list, from_c) = parsed(line).unwrap_or_else(|| panic!("a line that says no call: {line}"));
+        assert_eq!(compare(&request, &list, 0x69), from_c, "{line}");
+        numbers[usize::from(from_c.refusal())] += 1;
     }
-    println!("{repeated:?}, {most} senders at most");
-    let Repeated { given, unknown, by_22, by_23, new, noted } = repeated;
-    assert!([given, unknown, by_22, by_23, new, noted].iter().all(|count| *count >= 200), "{repeated:?}");
-    assert!(given + unknown + by_22 + by_23 + new + noted >= 2_000);
-    assert_eq!(most, 64);
+    println!("{} lines, by refusal {numbers:?}", printed.lines().count());
+    assert_eq!(printed.lines().count(), FROM_C);
+    assert!([0, 22, 23, 24].iter().all(|&number| numbers[number] >= 50), "{numbers:?}");
 }

@@ -3,9 +3,9 @@ use super::guarded::Guarded;
 use super::hex::hex;
 use store_reader::sys;
 
-/// How many bytes a record has in C; the last three are nobody's.
+/// How many bytes a record has in C, and how many of them are fields; the others are nobody's.
 const SIZE: usize = 16;
-const FIELDS: usize = 13;
+pub const FIELDS: usize = 13;
 
 /// The bit of noting's answer that marks a known sender.
 pub const KNOWN_BIT: u32 = 41;
@@ -28,7 +28,8 @@ impl Record {
         bytes
     }
 
-    fn of_bytes(bytes: &[u8]) -> Self {
+    /// The record of its fields' bytes.
+    pub fn of_bytes(bytes: &[u8]) -> Self {
         Self {
             address: u64::from_le_bytes(std::array::from_fn(|i| bytes[i])),
             counter: u32::from_le_bytes(std::array::from_fn(|i| bytes[8 + i])),
