@@ -353,14 +353,14 @@ uint64_t nwk_payload_kind(uint8_t frame_type);
 
 /* ---- senders: the frame counters of those whose frames arrive, so that none is taken twice
  *
- * The caller lends a list of sender records and keeps it from call to call; at first it is all zeros. It has as many places as it
- * has records, of which only the first NWK_MAX_SENDERS count: those past them are neither looked at nor changed. So 64 senders need
- * a list of 64 places, 1,024 bytes, and a shorter list keeps as many senders as it has places. Where a list names a sender twice,
- * the first record counts.
+ * The caller lends a list of sender records and keeps it from call to call; at first it is all zeros. It has as many places as
+ * it has records, of which only the first NWK_MAX_SENDERS count: those past them are neither looked at nor changed. So 64
+ * senders need a list of 64 places, 1,024 bytes, and a shorter list keeps as many senders as it has places. Where a list names a
+ * sender twice, the first record counts.
  *
- * For each frame that nwk_open marks as sealed: ask for the key, with the IEEE that its nonce used (NWK_OPENED_NONCE_IEEE), its key
- * sequence number and its counter, and if nothing is refused note the counter and take the payload. Asking changes nothing, so it
- * may also come before opening; noting may not, since a counter that anyone may have claimed would shut its sender out. */
+ * For each frame that nwk_open marks as sealed: ask for the key, with the IEEE that its nonce used (NWK_OPENED_NONCE_IEEE), its
+ * key sequence number and its counter, and if nothing is refused note the counter and take the payload. Asking changes nothing,
+ * so it may also come before opening; noting may not, since a counter that anyone may have claimed would shut its sender out. */
 
 /* A sender record, 16 bytes; the three behind used are nobody's and may have any value. */
 struct nwk_sender {
@@ -391,8 +391,8 @@ uint64_t nwk_inbound_network_key(uint64_t key_first, uint64_t key_second, uint8_
  *   1  the sender was known. In place of the length: the counter that was stored, which may be 0.
  *   0  the sender is new, and has taken the first free place. There is no earlier counter, and 0 in place of the length.
  *
- * A lower counter is noted too, and so is FFFFFFFF: all frames of that sender are then refused by 23. Refusals: 24 the sender is
- * new and none of the places that count is free, as in a list of none.
+ * A lower counter is noted too. So is FFFFFFFF, after which no counter of that sender is above the stored one. Refusals: 24 the
+ * sender is new and none of the places that count is free, as in a list of none.
  * Afterwards the sender's record has used 1, its address and this counter. No other record has changed. */
 uint64_t nwk_note_inbound_frame_counter(struct nwk_sender *senders, size_t senders_count, uint64_t sender,
                                         uint32_t frame_counter);
