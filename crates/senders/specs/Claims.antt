@@ -1,0 +1,95 @@
+-- What document 02, 5 promises of the inbound counters, each one claim over all lists, senders and counters. They are proved in
+-- `proofs/Claims.antt`.
+-- Assumes nothing.
+use Prim.Native.Nat.{ℕ, _≤_, _<_}
+use mathlib.Core.Path.{_≡_}
+use mathlib.Core.Bool.{true, false, cond}
+use mathlib.Core.List.{List, [], _++_}
+use lib.ListN.{length, getD, set}
+use Rattle.types.specs.declared.Key.{Key}
+use Rattle.senders.specs.declared.{SenderRecord.SenderRecord, OptionCounter.OptionCounter}
+use Rattle.senders.specs.Records.{isFree, names, recordOf}
+use Rattle.senders.specs.Senders.{countedPlaces, lastCounter, stored, knows, inboundNetworkKey, askRefused, note, noteNothing, forget}
+
+-- ---- 1: a call changes the list only at records of the sender named
+
+-- the list keeps its length, and a record that names s neither before nor after the call is as it was
+abbrev pub OnlyAt : ℕ → List SenderRecord → List SenderRecord → Type 0
+OnlyAt s before after =
+    (length after ≡ length before)
+    × ((i : ℕ) (d : SenderRecord) → names s (getD before i d) ≡ false → names s (getD after i d) ≡ false → getD after i d ≡ getD before i d)
+
+-- every other sender is answered as before
+abbrev pub OthersAsBefore : ℕ → List SenderRecord → List SenderRecord → Type 0
+OthersAsBefore s before after =
+    (key : Key) (active t k x : ℕ) → (t ≡ s → ⊥) → inboundNetworkKey key active after t k x ≡ inboundNetworkKey key active before t k x
+
+abbrev pub NotingChangesOnlyTheSender : Type 0
+NotingChangesOnlyTheSender =
+    (s c : ℕ) (l : List SenderRecord) → OnlyAt s l (note s c l .list) × OthersAsBefore s l (note s c l .list)
+
+abbrev pub ForgettingChangesOnlyTheSender : Type 0
+ForgettingChangesOnlyTheSender =
+    (s : ℕ) (l : List SenderRecord) → OnlyAt s l (forget s l) × OthersAsBefore s l (forget s l)
+
+-- noting that is accepted puts one record in one counted place, the sender's before or, where it had none, a free one
+abbrev pub NotingTakesOnePlace : Type 0
+NotingTakesOnePlace =
+    (s c : ℕ) (l : List SenderRecord) → note s c l .answer .refusal ≡ 0
+    → (i : ℕ) × ((i < countedPlaces) × (i < length l))
+    × ((d : SenderRecord) → cond (knows s l) (names s (getD l i d)) (isFree (getD l i d)) ≡ true)
+    × (note s c l .list ≡ set l i (recordOf s c))
+
+-- ---- 2: after noting c
+
+-- every counter up to c is refused by 23; every one above it but the last gives the key; noting again gives c
+abbrev pub AfterNoting : Type 0
+AfterNoting =
+    (key : Key) (active s c x : ℕ) (l : List SenderRecord) → note s c l .answer .refusal ≡ 0
+    → (x ≤ c → inboundNetworkKey key active (note s c l .list) s active x ≡ askRefused 23)
+    × ((c < x → x < lastCounter → inboundNetworkKey key active (note s c l .list) s active x ≡ record { refusal = 0; key = key })
+    × (note s x (note s c l .list) .answer ≡ record { refusal = 0; earlier = OptionCounter.Present c }))
+
+-- ---- 3: after forgetting s
+
+-- its counter is not compared, and noting gives no earlier one
+abbrev pub AfterForgetting : Type 0
+AfterForgetting =
+    (key : Key) (active s x : ℕ) (l : List SenderRecord)
+    → (x < lastCounter → inboundNetworkKey key active (forget s l) s active x ≡ record { refusal = 0; key = key })
+    × (note s x (forget s l) .answer .earlier ≡ OptionCounter.Absent)
+
+abbrev pub ForgettingTwice : Type 0
+ForgettingTwice = (s : ℕ) (l : List SenderRecord) → forget s (forget s l) ≡ forget s l
+
+-- an unknown sender changes nothing
+abbrev pub ForgettingTheUnknown : Type 0
+ForgettingTheUnknown = (s : ℕ) (l : List SenderRecord) → stored s l ≡ OptionCounter.Absent → forget s l ≡ l
+
+-- the next new sender can use the place
+abbrev pub ForgettingFrees : Type 0
+ForgettingFrees = (s t c : ℕ) (l : List SenderRecord) → knows s l ≡ true → note t c (forget s l) .answer .refusal ≡ 0
+
+-- ---- 4: places past the 64th never matter and never change
+
+abbrev pub OnlyTheFirst64 : Type 0
+OnlyTheFirst64 =
+    (key : Key) (active s k c : ℕ) (l past : List SenderRecord) → length l ≡ countedPlaces
+    → (inboundNetworkKey key active (l ++ past) s k c ≡ inboundNetworkKey key active l s k c)
+    × ((note s c (l ++ past) ≡ record { answer = note s c l .answer; list = note s c l .list ++ past })
+    × (forget s (l ++ past) ≡ forget s l ++ past))
+
+-- ---- 5: 24 exactly if all counted places are used and none names the sender
+
+abbrev pub FullOf : ℕ → List SenderRecord → Type 0
+FullOf s l =
+    (i : ℕ) (d : SenderRecord) → i < countedPlaces → i < length l → (isFree (getD l i d) ≡ false) × (names s (getD l i d) ≡ false)
+
+abbrev pub RefusedExactlyIfFull : Type 0
+RefusedExactlyIfFull =
+    (s c : ℕ) (l : List SenderRecord)
+    → ((FullOf s l → note s c l ≡ noteNothing 24 l) × ((FullOf s l → ⊥) → note s c l .answer .refusal ≡ 0))
+    × (note s c l .answer .refusal ≡ 24 → FullOf s l)
+
+abbrev pub EmptyListRefuses : Type 0
+EmptyListRefuses = (s c : ℕ) → note s c [] ≡ noteNothing 24 []
