@@ -1,7 +1,7 @@
 -- What it means that sealing, reading or opening a frame is accepted: no condition of its list holds.
 -- Assumes nothing.
 use mathlib.Core.Path.{_≡_, refl, sym, ap, _∙_}
-use mathlib.Core.Bool.{Bool, true, false, true≢false, cond, not, _&&_}
+use mathlib.Core.Bool.{Bool, true, false, true≢false, cond, not, _&&_, _||_}
 use mathlib.Core.List.{List}
 use Prim.Native.Nat.{ℕ, _-_, _≤_}
 use native.Mathlib.Omega.{arith}
@@ -13,12 +13,14 @@ use Rattle.octets.specs.Writing.{written}
 use Rattle.octets.proofs.Strings.{take-over}
 use Rattle.octets.proofs.Writing.{write-accepted}
 use Rattle.octets.proofs.Conditions.{accepted, refused, answer-number, unless-either, none, none-refuse, or-false}
+use Rattle.types.specs.declared.OptionEui64.{OptionEui64}
+use Rattle.types.specs.Optional.{hasIeee}
 use Rattle.header.specs.declared.{auxiliary.NwkSecurityLevel.NwkSecurityLevel, auxiliary.AuxRead.AuxRead, nwk.HeaderRead.HeaderRead, nwk.NwkHeader.NwkHeader}
 use Rattle.header.specs.Writing.{badHeader, fieldRefusal}
 use Rattle.ccm.specs.Verification.{Verified}
 use Rattle.frame.specs.declared.{OptionAuxHeader.OptionAuxHeader, FrameRead.FrameRead, Mark.Mark}
 use Rattle.frame.specs.Reading.{frameRefused, frameGiven, frameNumber, frameBy}
-use Rattle.frame.specs.Security.{isAbsent, orBlank, noIeee}
+use Rattle.frame.specs.Security.{isAbsent, orBlank, ieeeOf, nonceIeee, noIeee}
 use Rattle.frame.specs.Writing.{frameBytes, frameWriteRefusal}
 use Rattle.frame.specs.Sealing.{sealedLength, lengthRefusals, counterOf, lastCounter, sealRefusal}
 use Rattle.frame.specs.SealingLaw.{bytesWritten}
@@ -126,6 +128,12 @@ counts false x e = absurd (true≢false (sym e))
 pub counts-not : (b x : Bool) → b ≡ false → (b && x) ≡ false
 counts-not true x e = absurd (true≢false e)
 counts-not false x e = refl
+
+-- where there is an address, it is the one that the nonce uses
+pub ieee-there : (a s : OptionEui64) → not (hasIeee a || hasIeee s) ≡ false → nonceIeee a s ≡ OptionEui64.Present (ieeeOf a s)
+ieee-there (OptionEui64.Present x) s e = refl
+ieee-there OptionEui64.Absent (OptionEui64.Present x) e = refl
+ieee-there OptionEui64.Absent OptionEui64.Absent e = absurd (true≢false e)
 
 -- a frame that is not refused, sealed or clear
 given-either : (P : Run → Type 0) (f : List ℕ) (r : FrameRead) (v : Verified) (o : List ℕ)

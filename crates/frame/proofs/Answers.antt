@@ -11,7 +11,7 @@ use native.Mathlib.Nat.{zero-add}
 use native.Mathlib.Omega.{arith}
 use borrow.Author.Tests.{lt-ltb, le-ltb, ltb-false}
 use Rattle.octets.specs.Strings.{over, Below}
-use Rattle.octets.proofs.Strings.{over-then, drop-below}
+use Rattle.octets.proofs.Strings.{take-over, over-then, drop-below}
 use Rattle.octets.specs.Refusals.{Condition, on, firstOf, unless}
 use Rattle.octets.proofs.Conditions.{refused-by, unless-number, none, stop, skip, stop-by, skip-by, empty}
 use Rattle.header.specs.declared.{auxiliary.AuxRead.AuxRead, nwk.HeaderRead.HeaderRead, auxiliary.NwkSecurityLevel.NwkSecurityLevel, auxiliary.NwkAuxHeader.NwkAuxHeader, nwk.NwkHeader.NwkHeader}
@@ -24,10 +24,10 @@ use Rattle.ccm.specs.declared.Split.{Split}
 use Rattle.ccm.specs.Verification.{Verified}
 use Rattle.ccm.specs.Operations.{micLength, sealedBy, openedBy, Under, splitMic, givenIf}
 use Rattle.frame.specs.declared.{OptionAuxHeader.OptionAuxHeader, FrameRead.FrameRead, Mark.Mark}
-use Rattle.frame.specs.Security.{networkLevel, sentLevel, atLevel, orBlank, nonceIeee, nonce, authenticated}
+use Rattle.frame.specs.Security.{networkLevel, sentLevel, atLevel, orBlank, ieeeOf, noIeee, nonce, authenticated}
 use Rattle.frame.specs.Sealing.{generated, sealedBytes}
 use Rattle.frame.specs.Opening.{isSealed, behind, ciphertextOf, micOf, verified, openRefusals, openRefusal, Run, sealedGiven, clearGiven, openNothing, openBy, openFrame}
-use Rattle.frame.proofs.Accepted.{counts, counts-not, openable, sealed-run, clear-run}
+use Rattle.frame.proofs.Accepted.{counts, counts-not, ieee-there, openable, sealed-run, clear-run}
 use Rattle.frame.proofs.Levels.{level-length}
 use Rattle.frame.proofs.SecondHalf.{secured-facts, payload-length}
 use Rattle.frame.specs.Reading.{secured, auxBehind, frameRefusal, frameNumber, frameBy, readFrame}
@@ -73,6 +73,12 @@ pub auth-length : (l : NwkSecurityLevel) (h : NwkHeader) (x : NwkAuxHeader) → 
 unfolding authenticated
 auth-length l h x = length-append (headerBytes h) (auxBytes (atLevel l x)) ∙ ap (λ (n : ℕ). length (headerBytes h) + n) (level-length l l x)
 
+-- the front of an array that the two headers were put to
+pub front-taken : (h : NwkHeader) (y : NwkAuxHeader) (o b : List ℕ) → b ≡ over o 0 (headerBytes h ++ auxBytes y)
+    → take (length (headerBytes h) + length (auxBytes y)) b ≡ headerBytes h ++ auxBytes y
+front-taken h y o b e =
+    (λ i. take (sym (length-append (headerBytes h) (auxBytes y)) i) (e i)) ∙ take-over o (headerBytes h ++ auxBytes y)
+
 -- the first n bytes of the local array, n being the headers' length
 pub auth-taken : (l : NwkSecurityLevel) (h : NwkHeader) (x y : NwkAuxHeader) (b : List ℕ) (n : ℕ) → y ≡ atLevel l x
     → take (length (headerBytes h) + length (auxBytes y)) b ≡ headerBytes h ++ auxBytes y
@@ -101,17 +107,23 @@ module _ (h : NwkHeader) (n : ℕ) (x : Bool) (cs : List Condition) where
   skip-clear off = skip n _ cs (counts-not (isSealed h) x off)
 
 -- no refusal of a sealed frame that needs no key
-pub record Ready (number : ℕ) (part room : ℕ) : Type 0 where
+pub record Ready (number : ℕ) (h : NwkHeader) (a : OptionAuxHeader) (part room : ℕ) : Type 0 where
   pub read : number ≡ 0
+  pub ieee : noIeee h (orBlank a) ≡ false
   pub tagged : 4 ≤ part
   pub fits : part - 4 ≤ room
 
 pub ready : (number : ℕ) (h : NwkHeader) (a : OptionAuxHeader) (part room : ℕ) → firstOf (openRefusals 4 number h a part room) ≡ 0
-    → isSealed h ≡ true → Ready number part room
+    → isSealed h ≡ true → Ready number h a part room
 unfolding openRefusals
 ready number h a part room e s =
     let n = none _ e in
-    record { read = n .0; tagged = ltb-false part 4 (sym (counts (isSealed h) _ s) ∙ n .1 .1 .0); fits = ltb-false room (part - 4) (sym (counts (isSealed h) _ s) ∙ n .1 .1 .1 .0) }
+    record {
+      read = n .0;
+      ieee = sym (counts (isSealed h) _ s) ∙ n .1 .0;
+      tagged = ltb-false part 4 (sym (counts (isSealed h) _ s) ∙ n .1 .1 .0);
+      fits = ltb-false room (part - 4) (sym (counts (isSealed h) _ s) ∙ n .1 .1 .1 .0);
+    }
 
 -- what opening needs of a frame that was read and is sealed
 pub open-facts : (f : List ℕ) → Below 256 f → readFrame f .refusal ≡ 0 → isSealed (readFrame f .header) ≡ true
@@ -208,14 +220,15 @@ module _ (w : List (List (List ℕ))) (f part o o′ : List ℕ) (r : FrameRead)
     (sealed : isSealed (r .header) ≡ true)
     (valid : Under w (λ (key : List ℕ). b ≡ made key (r .header) x part .valid))
     (given : Under w (λ (key : List ℕ). o′ ≡ givenIf b (made key (r .header) x part) o)) where
-  pub opened-valid : (ieee : OptionEui64) → ieee ≡ nonceIeee (x .«extended_source») (r .header .«source_ieee») → b ≡ true → Under w (λ (key : List ℕ).
+  pub opened-valid : (ieee : ℕ) → ieee ≡ ieeeOf (x .«extended_source») (r .header .«source_ieee») → b ≡ true → Under w (λ (key : List ℕ).
       _≡_ {A = Run}
-      (record { answer = record { refusal = 0; mark = Mark.Sealed; length = length part - 4; «nonce_ieee» = ieee; header = r .header; aux = r .aux }; out = o′ })
+      (record { answer = record { refusal = 0; mark = Mark.Sealed; length = length part - 4; «nonce_ieee» = OptionEui64.Present ieee; header = r .header; aux = r .aux }; out = o′ })
       (openFrame key f o))
   unfolding givenIf
   opened-valid ieee address t key e =
       let v = verified-is key f part r x present rest in
-      let named = address ∙ ap (λ (y : NwkAuxHeader). nonceIeee (y .«extended_source») (r .header .«source_ieee»)) present in
+      let own = address ∙ ap (λ (y : NwkAuxHeader). ieeeOf (y .«extended_source») (r .header .«source_ieee»)) present in
+      let named = ap OptionEui64.Present own ∙ sym (ieee-there (orBlank (r .aux) .«extended_source») (r .header .«source_ieee») (ready _ _ _ _ _ (sym number ∙ passed) sealed .ieee)) in
       (λ i. record {
         answer = record { refusal = 0; mark = Mark.Sealed; length = payload-size key f part r rest i; «nonce_ieee» = named i; header = r .header; aux = r .aux };
         out = (rw (t, v) at (given key e)) i;

@@ -9,3 +9,4 @@ pub mod Opened
 pub mod ClearFrames
 pub mod Marks
 pub mod LastCounter
+pub mod NonceIeee

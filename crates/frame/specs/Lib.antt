@@ -1,4 +1,5 @@
--- NWK frames: reading, writing without a key, sealing and opening, the sealing law, the marks, and the last counter.
+-- NWK frames: reading, writing without a key, sealing and opening, the sealing law, the marks, the last counter, and the address that the
+-- nonce used.
 pub mod Reading
 pub mod Writing
 pub mod Security
@@ -7,3 +8,4 @@ pub mod Opening
 pub mod SealingLaw
 pub mod Marks
 pub mod LastCounter
+pub mod NonceIeee

@@ -94,7 +94,12 @@ fn open_frame(
     ensures buffer { λ r. ⌜ Under (now (keys .entry)) (λ (key : List ℕ). now (out .exit) ≡ givenIf r (openedBy micLength key (nonce networkLevel h aux) (authenticated networkLevel h aux) (ciphertextOf micLength (now (part .entry))) (micOf micLength (now (part .entry)))) (now (out .entry))) ⌝ }
 {
     let nonce = security::nonce_of(h, aux, NwkSecurityLevel::EncMic32);
-    let auth = security::both_headers(h, security::at_level(aux, NwkSecurityLevel::EncMic32));
+    let mut auth = [0u8; 118];
+    security::put_headers(
+        h,
+        security::at_level(aux, NwkSecurityLevel::EncMic32),
+        &mut auth,
+    );
     let start = h.size() + aux.size();
     open_part(keys, nonce, &auth[..start], part, out)
 }
@@ -130,7 +135,7 @@ pub fn open_under(keys: &[[[u8; 4]; 4]; 11], frame: &[u8], out: &mut [u8]) -> Fr
             refusal: 0,
             mark: Mark::Sealed,
             length: part.len() - ccm::MIC_LENGTH,
-            nonce_ieee: security::nonce_ieee(extended_source, source_ieee),
+            nonce_ieee: OptionEui64::Present(security::source_ieee(extended_source, source_ieee)),
             header,
             aux,
         };

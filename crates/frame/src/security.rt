@@ -13,7 +13,7 @@ ghost use Rattle.octets.specs.Numbers.{le};
 ghost use Rattle.types.specs.Optional.{hasIeee};
 ghost use Rattle.header.specs.Auxiliary.{auxBytes};
 ghost use Rattle.header.specs.Writing.{badHeader, headerBytes};
-ghost use Rattle.frame.specs.Security.{atLevel, ieeeOf, nonceIeee, noIeee, nonce};
+ghost use Rattle.frame.specs.Security.{atLevel, ieeeOf, noIeee, nonce};
 
 // The auxiliary header with another level.
 pub fn at_level(aux: NwkAuxHeader, level: NwkSecurityLevel) -> NwkAuxHeader
@@ -30,7 +30,7 @@ pub fn at_level(aux: NwkAuxHeader, level: NwkSecurityLevel) -> NwkAuxHeader
 }
 
 // The nonce's IEEE: the auxiliary one, else the header's source, else 0.
-fn source_ieee(aux: OptionEui64, header: OptionEui64) -> u64
+pub fn source_ieee(aux: OptionEui64, header: OptionEui64) -> u64
     ensures { λ r. ⌜ r ≡ ieeeOf aux header ⌝ }
 {
     match aux {
@@ -39,16 +39,6 @@ fn source_ieee(aux: OptionEui64, header: OptionEui64) -> u64
             OptionEui64::Present(x) => x,
             OptionEui64::Absent => 0,
         },
-    }
-}
-
-// The long address that the nonce uses, if there is one: the auxiliary one, else the header's source.
-pub fn nonce_ieee(aux: OptionEui64, header: OptionEui64) -> OptionEui64
-    ensures { λ r. ⌜ r ≡ nonceIeee aux header ⌝ }
-{
-    match aux {
-        OptionEui64::Present(_) => aux,
-        OptionEui64::Absent => header,
     }
 }
 

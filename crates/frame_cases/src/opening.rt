@@ -1,10 +1,11 @@
 // The cases of opening.
-//   open KEY FRAME ROOM REFUSAL MARK PAYLOAD HEADERS
+//   open KEY FRAME ROOM REFUSAL MARK PAYLOAD HEADERS NONCE_IEEE
 //   split BYTES REFUSAL LENGTH MIC
 // MARK is clear, sealed, or "-" beside a refusal. PAYLOAD is the payload handed back. Of a sealed frame it is what the output's
 // front must be, the rest must stay; of a clear frame, whose last bytes it is, and after a refusal, the whole output must stay.
-// HEADERS is what the headers that come back are written as, the level as received; of a clear frame the header alone. LENGTH
-// is how many bytes stand before the MIC.
+// HEADERS is what the headers that come back are written as, the level as received; of a clear frame the header alone.
+// NONCE_IEEE is the long address that the nonce used, in wire order; "-" for a clear frame and beside a refusal. LENGTH is how
+// many bytes stand before the MIC.
 use casefile::fields::field;
 use casefile::fields::whole;
 use casefile::file;
@@ -18,6 +19,7 @@ use frame::Mark;
 use frame::OptionAuxHeader;
 use header::nwk::NwkHeader;
 use types::Key;
+use types::OptionEui64;
 
 // Whether word k of a line says a mark.
 fn is_mark(line: &[u8], k: usize) -> bool {
@@ -68,7 +70,20 @@ fn has_headers(o: FrameOpened, headers: &[u8]) -> bool {
     written_as(header, aux, headers, &mut written)
 }
 
-// Whether opening to an output of the room given leaves the number, the mark that the line says, the payload and the headers.
+// Whether an address is the eight bytes expected, in wire order, or there is none and none is expected.
+fn is_address(o: OptionEui64, expected: &[u8]) -> bool {
+    match o {
+        OptionEui64::Absent => expected.len() == 0,
+        OptionEui64::Present(x) => {
+            let mut bytes = [0u8; 8];
+            octets::put_u64(&mut bytes, 0, x);
+            check::same(&bytes, expected)
+        }
+    }
+}
+
+// Whether opening to an output of the room given leaves the number, the mark that the line says, the payload, the headers and the
+// nonce's address.
 fn opens(
     line: &[u8],
     key: [u8; 16],
@@ -77,6 +92,7 @@ fn opens(
     refusal: usize,
     payload: &[u8],
     headers: &[u8],
+    ieee: &[u8],
     out: &mut [u8],
 ) -> bool {
     let r = file::within(room, out);
@@ -97,6 +113,10 @@ fn opens(
     if !check::same(frame::opening::payload(o, bytes, out), payload) {
         return false;
     }
+    let nonce_ieee = o.nonce_ieee;
+    if !is_address(nonce_ieee, ieee) {
+        return false;
+    }
     has_headers(o, headers)
 }
 
@@ -104,19 +124,23 @@ fn opens(
 fn check_opened(line: &[u8], key: [u8; 16], bytes: &[u8]) -> Line {
     let mut payload = [0u8; 128];
     let mut headers = [0u8; 128];
+    let mut ieee = [0u8; 8];
     let mut out = [FILLER; 128];
     let room = words::number(line, 3);
     let refusal = words::number(line, 4);
     let p = field(line, 6, &mut payload);
     let h = field(line, 7, &mut headers);
+    let i = field(line, 8, &mut ieee);
     let n = p.n;
     let m = h.n;
-    let good = words::is_last(line, 7)
+    let k = i.n;
+    let good = words::is_last(line, 8)
         && room <= 128
         && refusal < 1000
         && is_mark(line, 5)
         && p.good
-        && h.good;
+        && h.good
+        && (whole(i, 0) || whole(i, 8));
     shown(
         good,
         opens(
@@ -127,6 +151,7 @@ fn check_opened(line: &[u8], key: [u8; 16], bytes: &[u8]) -> Line {
             refusal,
             &payload[..n],
             &headers[..m],
+            &ieee[..k],
             &mut out,
         ),
     )

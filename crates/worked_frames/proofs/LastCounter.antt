@@ -96,7 +96,7 @@ unfolding over unless firstOf written tab le packed controlWord relayBytes fixed
 seals-before =
     ap (λ (g : Generated). written 0 ((headerBytes probe ++ auxBytes (atLevel sentLevel (orBlank (counted probeIeee 0xFFFFFFFE)))) ++ (g .ciphertext ++ g .tag)) lent) sealed
 
-opens-last : Holds (opens sealedLast (counted probeIeee 0xFFFFFFFF) (0xAA ∷ []))
+opens-last : Holds (opens sealedLast (counted probeIeee 0xFFFFFFFF) probeIeee (0xAA ∷ []))
 unfolding tab over le leAt fields packed unless firstOf controlOf sourceAt multicastAt routeAt relaysAnnounced headerEnd optionalRefusals
     headerRefusal relaysOf headerBy blankHeader readHeader securityOf withLevel keySequenceAt auxRefusal auxBy readAux
     frameRefusal frameRefused frameNumber frameBy readFrame

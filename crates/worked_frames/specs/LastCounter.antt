@@ -24,8 +24,8 @@ pub data Case : Type 0 where
   seals : OptionAuxHeader → List ℕ → List ℕ → Case
   -- with this auxiliary header sealing refuses a payload by a number
   refuses : OptionAuxHeader → List ℕ → ℕ → Case
-  -- a frame opens to this auxiliary header and payload
-  opens : List ℕ → OptionAuxHeader → List ℕ → Case
+  -- a frame opens to this auxiliary header, this address that the nonce used, and this payload
+  opens : List ℕ → OptionAuxHeader → OptionEui64 → List ℕ → Case
 
 unfoldable pub key : List ℕ
 key = hex 16 0x01030507090B0D0F00020406080A0C0D
@@ -56,10 +56,10 @@ lent = replicate 30 0xA5
 abbrev pub Holds : Case → Type 0
 Holds (seals a p f) = sealFrame key probe a p lent ≡ record { answer = record { refusal = 0; length = length f }; out = f ++ drop (length f) lent }
 Holds (refuses a p n) = sealFrame key probe a p lent ≡ record { answer = record { refusal = n; length = 0 }; out = lent }
-Holds (opens f a p) =
+Holds (opens f a ieee p) =
     openFrame key f lent
     ≡ record {
-      answer = record { refusal = 0; mark = Mark.Sealed; length = length p; header = probe; aux = a };
+      answer = record { refusal = 0; mark = Mark.Sealed; length = length p; «nonce_ieee» = ieee; header = probe; aux = a };
       out = p ++ drop (length p) lent;
     }
 
@@ -104,5 +104,5 @@ cases =
     -- a payload of 93 bytes, which makes a frame of 119: 21 is before 17
     ∷ refuses (counted probeIeee 0xFFFFFFFF) (replicate 93 0xAA) 21
     ∷ refuses (counted probeIeee 0xFFFFFFFE) (replicate 93 0xAA) 17
-    ∷ opens sealedLast (counted probeIeee 0xFFFFFFFF) (0xAA ∷ [])
+    ∷ opens sealedLast (counted probeIeee 0xFFFFFFFF) probeIeee (0xAA ∷ [])
     ∷ []

@@ -10,25 +10,25 @@ use Rattle.header.specs.Auxiliary.{auxBytes}
 use Rattle.header.specs.declared.auxiliary.NwkAuxHeader.{NwkAuxHeader}
 use Rattle.frame.proofs.Levels.{level-length}
 use Rattle.frame.specs.Security.{networkLevel, authenticated}
-use Rattle.frame.proofs.Answers.{auth-length, auth-taken}
+use Rattle.frame.proofs.Answers.{auth-length, front-taken, auth-taken}
 
-both-headers-requires : tie.Need-both-headers-requires
-both-headers-requires c κs =
-    let args = c .before .before .before .before .args in
-    let pre = c .before .before .before .before .pre in
-    let e = ap (λ (z : NwkAuxHeader). length (auxBytes z)) (c .at-level .ensures) ∙ level-length networkLevel networkLevel (args .aux) in
+put-headers-requires : tie.Need-put-headers-requires
+put-headers-requires c κs =
+    let args = c .before .before .before .before .before .args in
+    let pre = c .before .before .before .before .before .pre in
+    let e = ap (λ (z : NwkAuxHeader). length (auxBytes z)) (c .before .at-level .ensures) ∙ level-length networkLevel networkLevel (args .aux) in
     (pre .0, omega (arith, e, pre .1))
 
 -- where the function begins
 abbrev start : tie.After-size2 → tie.Start
-start s = s .before .before .before .before .before .before .before
+start s = s .before .before .before .before .before .before .before .before .before
 
 -- the first bytes of the local array, as many as the sizes say, are the authenticated ones
-taken : (s : tie.After-size2) → take (s .before .size .result + s .size2 .result) (s .before .before .both-headers .result)
+taken : (s : tie.After-size2) → take (s .before .size .result + s .size2 .result) (s .before .before .before .put-headers .last .1 .1 .0)
     ≡ authenticated networkLevel (start s .args .h) (start s .args .aux)
 taken s =
-    let made = s .before .before in
-    auth-taken _ _ _ _ _ _ (made .before .at-level .ensures) (made .both-headers .ensures) (λ i. s .before .size .ensures .0 i + s .size2 .ensures .0 i)
+    let made = s .before .before .before in
+    auth-taken _ _ _ _ _ _ (made .before .before .at-level .ensures) (front-taken _ _ _ _ (made .put-headers .ensures)) (λ i. s .before .size .ensures .0 i + s .size2 .ensures .0 i)
 
 slice-aggregate-open-part : tie.Need-slice-aggregate-open-part
 slice-aggregate-open-part c =
@@ -45,12 +45,12 @@ returns : tie.Need-returns
 returns c =
     let part = c .before .before .open-part .ensures in
     let s = c .before .before .before .before .before in
-    let n = s .before .before .before .before .nonce-of .ensures in
+    let n = s .before .before .before .before .before .before .nonce-of .ensures in
     (λ key k. part .0 key k ∙ rw (n, taken s), λ key k. part .1 key k ∙ rw (n, taken s))
 
 pub open-frame-spec : {M : Type 1} → statement M
 open-frame-spec =
     tie.close
-    (tie.spec (λ c κs. search needs) (λ c κs. search needs) both-headers-requires (λ c κs. search needs)
+    (tie.spec (λ c κs. search needs) (λ c κs. search needs) (λ c. search needs) put-headers-requires (λ c κs. search needs)
     (λ c κs. search needs) (λ c. search needs) (λ c. search needs) slice-aggregate-open-part open-part-requires
     (λ c. search needs) returns)

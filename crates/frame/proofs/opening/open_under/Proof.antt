@@ -59,7 +59,7 @@ returns-3 c =
     let o = opened .open-frame .ensures in
     let run =
     opened-valid _ _ _ _ _ _ _ _ _ (rest .before .before .read-frame .ensures) (rest .behind .ensures) (opened .before .before .or-blank .ensures)
-    (passed .before .open-refusal .ensures) (passed .if1 .left) (not-false _ (sealed .if2 .left)) (o .0) (o .1) _ (c .nonce-ieee .ensures) (c .before .if3 .taken) in
+    (passed .before .open-refusal .ensures) (passed .if1 .left) (not-false _ (sealed .if2 .left)) (o .0) (o .1) _ (c .source-ieee .ensures) (c .before .if3 .taken) in
     (λ key e. ap (λ (r : opening.Run). r .answer) (run key e), λ key e. ap (λ (r : opening.Run). r .out) (run key e))
 
 returns-4 : tie.Need-returns-4
