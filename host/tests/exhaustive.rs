@@ -12,7 +12,7 @@ use support::model::header::{self, Header, SourceRoute};
 use support::model::{frame, LAST_COUNTER};
 use support::operations::{
     Operation, AUXILIARY_COUNTER, AUXILIARY_RECORD, COMMAND_RECORD, HEADER_RECORD, MARK_CLEAR, MARK_SEALED,
-    OPENED_MARK, OPENED_RECORD, PART,
+    OPENED_MARK, OPENED_NONCE_IEEE, OPENED_RECORD, PART,
 };
 use support::random::Random;
 
@@ -136,6 +136,7 @@ fn every_security_control_opened() {
             bytes[front.len()] = control;
             let opened = opened(&bytes, 2);
             assert_eq!((opened.answer, opened.outputs[0][OPENED_MARK]), (2, MARK_SEALED), "{control:02X}");
+            assert_eq!(opened.outputs[0][OPENED_NONCE_IEEE], ieee, "{control:02X}");
         }
     }
 }
