@@ -4,3 +4,4 @@ pub mod Answer
 pub mod Headers
 pub mod Frames
 pub mod Commands
+pub mod Inbound

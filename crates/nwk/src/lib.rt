@@ -6,3 +6,4 @@ mod cipher;
 mod command;
 mod frames;
 mod headers;
+mod inbound;
