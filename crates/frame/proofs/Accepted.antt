@@ -13,6 +13,7 @@ use Rattle.octets.specs.Writing.{written}
 use Rattle.octets.proofs.Strings.{take-over}
 use Rattle.octets.proofs.Writing.{write-accepted}
 use Rattle.octets.proofs.Conditions.{accepted, refused, answer-number, unless-either, none, none-refuse, or-false}
+use Rattle.types.specs.Counters.{lastCounter}
 use Rattle.types.specs.declared.OptionEui64.{OptionEui64}
 use Rattle.types.specs.Optional.{hasIeee}
 use Rattle.header.specs.declared.{auxiliary.NwkSecurityLevel.NwkSecurityLevel, auxiliary.AuxRead.AuxRead, nwk.HeaderRead.HeaderRead, nwk.NwkHeader.NwkHeader}
@@ -22,7 +23,7 @@ use Rattle.frame.specs.declared.{OptionAuxHeader.OptionAuxHeader, FrameR
 use Rattle.frame.specs.Reading.{frameRefused, frameGiven, frameNumber, frameBy}
 use Rattle.frame.specs.Security.{isAbsent, orBlank, ieeeOf, nonceIeee, noIeee}
 use Rattle.frame.specs.Writing.{frameBytes, frameWriteRefusal}
-use Rattle.frame.specs.Sealing.{sealedLength, lengthRefusals, counterOf, lastCounter, sealRefusal}
+use Rattle.frame.specs.Sealing.{sealedLength, lengthRefusals, counterOf, sealRefusal}
 use Rattle.frame.specs.SealingLaw.{bytesWritten}
 use Rattle.frame.specs.LastCounter.{refusalWithout21}
 use Rattle.frame.specs.Marks.{Openable}

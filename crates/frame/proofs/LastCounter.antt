@@ -12,6 +12,7 @@ use Rattle.octets.specs.Refusals.{unless, Condition, on, by, firstOf}
 use Rattle.octets.specs.Writing.{wroteNothing, written}
 use Rattle.octets.proofs.Conditions.{none, none-refuse, skip, stop-by, skip-by}
 use Rattle.octets.proofs.Writing.{write-refused, written-number}
+use Rattle.types.specs.Counters.{lastCounter}
 use Rattle.header.specs.declared.nwk.NwkHeader.{NwkHeader}
 use Rattle.header.specs.Reading.{readHeader}
 use Rattle.header.specs.Auxiliary.{auxBy, blankAux}
@@ -21,7 +22,7 @@ use Rattle.ccm.specs.Operations.{micLength}
 use Rattle.frame.specs.declared.OptionAuxHeader.{OptionAuxHeader}
 use Rattle.frame.specs.Reading.{auxBehind}
 use Rattle.frame.specs.Security.{networkLevel, orBlank, noIeee}
-use Rattle.frame.specs.Sealing.{sealedBytes, lengthRefusals, counterOf, lastCounter, sealRefusal, sealFrame}
+use Rattle.frame.specs.Sealing.{sealedBytes, lengthRefusals, counterOf, sealRefusal, sealFrame}
 use Rattle.frame.specs.Opening as opening
 use Rattle.frame.specs.LastCounter.{sealWithout21, SealableCounters, NothingElseChanged, LastRefused, OnlyTheLast, StillOpened, LeftOut}
 use Rattle.frame.proofs.Accepted.{bytes-written, sealable-without, number-without, not-last}

@@ -7,6 +7,7 @@ use Prim.Native.Nat.{ℕ, zero, suc, _≤_, _<_}
 use native.Mathlib.Omega.{arith}
 use lib.ListN.{length, getD, take}
 use Rattle.octets.proofs.Strings.{take-over}
+use Rattle.types.specs.Counters.{lastCounter}
 use Rattle.header.specs.declared.nwk.NwkHeader.{NwkHeader}
 use Rattle.octets.specs.declared.Written.{Written}
 use Rattle.header.specs.Reading.{readHeader}
@@ -21,7 +22,7 @@ use Rattle.ccm.specs.Operations.{micLength}
 use Rattle.frame.specs.declared.{OptionAuxHeader.OptionAuxHeader, FrameRead.FrameRead, Mark.Mark, FrameOpened.FrameOpened}
 use Rattle.frame.specs.Reading.{readFrame}
 use Rattle.frame.specs.Security.{networkLevel, orBlank}
-use Rattle.frame.specs.Sealing.{counterOf, lastCounter, sealRefusal, sealedBytes, sealFrame}
+use Rattle.frame.specs.Sealing.{counterOf, sealRefusal, sealedBytes, sealFrame}
 use Rattle.frame.specs.Opening as opening
 use Rattle.frame.specs.Opening.{verified, openRefused, sealedGiven, openFrame, payloadIn}
 use Rattle.frame.specs.Marks.{Openable}

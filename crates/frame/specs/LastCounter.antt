@@ -9,13 +9,14 @@ use lib.ListN.{length}
 use Rattle.octets.specs.Strings.{Below}
 use Rattle.octets.specs.Refusals.{on, by, firstOf}
 use Rattle.octets.specs.Writing.{Run, wroteNothing, written}
+use Rattle.types.specs.Counters.{lastCounter}
 use Rattle.header.specs.declared.{auxiliary.NwkAuxHeader.NwkAuxHeader, nwk.NwkHeader.NwkHeader}
 use Rattle.header.specs.Writing.{fieldRefusal}
 use Rattle.header.specs.Same.{Agrees, HeaderFits}
 use Rattle.ccm.specs.Operations.{micLength}
 use Rattle.frame.specs.declared.{OptionAuxHeader.OptionAuxHeader, Mark.Mark}
 use Rattle.frame.specs.Security.{networkLevel, isAbsent, orBlank, noIeee}
-use Rattle.frame.specs.Sealing.{sealedBytes, lengthRefusals, counterOf, lastCounter, sealFrame}
+use Rattle.frame.specs.Sealing.{sealedBytes, lengthRefusals, counterOf, sealFrame}
 use Rattle.frame.specs.Opening.{openFrame}
 use Rattle.frame.specs.SealingLaw.{bytesWritten, AuxOptionFits, AuxOptionAgrees, Reopened, openThenSeal}
 

@@ -7,6 +7,7 @@ use lib.ListN.{length}
 use lib.Dec.{eqb, ltb}
 use Rattle.octets.specs.Refusals.{Condition, on, by, firstOf}
 use Rattle.octets.specs.Writing.{Run, written}
+use Rattle.types.specs.Counters.{lastCounter}
 use Rattle.header.specs.declared.{auxiliary.NwkSecurityLevel.NwkSecurityLevel, auxiliary.NwkAuxHeader.NwkAuxHeader, nwk.NwkHeader.NwkHeader}
 use Rattle.header.specs.Auxiliary.{auxBytes}
 use Rattle.header.specs.Writing.{headerBytes, fieldRefusal}
@@ -35,12 +36,9 @@ lengthRefusals t h a p room =
     ∷ on 18 (ltb room (sealedLength t h a p))
     ∷ []
 
--- the counter to be sealed, and the last one, before which a sender stops: receivers throw its frames away
+-- the counter to be sealed
 abbrev pub counterOf : OptionAuxHeader → ℕ
 counterOf a = orBlank a .«frame_counter»
-
-abbrev pub lastCounter : ℕ
-lastCounter = 0xFFFFFFFF
 
 -- document 01's numbers 13, 14 and 15, document 02's 21, then those
 unfoldable pub sealRefusal : ℕ → NwkHeader → OptionAuxHeader → List ℕ → ℕ → ℕ

@@ -18,13 +18,14 @@ use mathlib.Core.Bool.{true}
 use mathlib.Core.List.{List}
 use lib.ListN.{length, getD, take}
 use Rattle.octets.specs.Strings.{Below}
+use Rattle.types.specs.Counters.{lastCounter}
 use Rattle.header.specs.declared.nwk.NwkHeader.{NwkHeader}
 use Rattle.header.specs.Reading.{readHeader}
 use Rattle.header.specs.Same.{Agrees, AuxAgrees, SameHeader, HeaderFits, AuxFits}
 use Rattle.octets.specs.Writing as writing
 use Rattle.frame.specs.declared.{OptionAuxHeader.OptionAuxHeader, Mark.Mark}
 use Rattle.frame.specs.Security.{sentLevel, atLevel}
-use Rattle.frame.specs.Sealing.{counterOf, lastCounter, sealFrame}
+use Rattle.frame.specs.Sealing.{counterOf, sealFrame}
 use Rattle.frame.specs.Opening as opening
 use Rattle.frame.specs.Opening.{openFrame}
 

@@ -12,9 +12,10 @@ ghost use mathlib.Core.Path.{_≡_};
 ghost use mathlib.Core.Bool.{true};
 ghost use Prim.Native.Nat.{_≤_};
 ghost use lib.ListN.{length};
+ghost use Rattle.types.specs.Counters.{lastCounter};
 ghost use Rattle.header.specs.Same.{Agrees};
 ghost use Rattle.frame.specs.declared.Mark.{Mark};
-ghost use Rattle.frame.specs.Sealing.{counterOf, lastCounter, sealFrame};
+ghost use Rattle.frame.specs.Sealing.{counterOf, sealFrame};
 ghost use Rattle.frame.specs.Opening.{openFrame};
 ghost use Rattle.frame.specs.SealingLaw.{AuxOptionAgrees, sealThenOpen, Reopened, PlainControl, openThenSeal, Resealed};
 

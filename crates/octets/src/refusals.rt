@@ -63,11 +63,11 @@ pub const BURST: u8 = 20;
 // 21: the counter to be sealed is FFFFFFFF
 pub const LAST_COUNTER: u8 = 21;
 
-// 22: the key sequence number asked with is not the active one
+// 22: the key sequence number is not the active one
 pub const KEY_SEQUENCE: u8 = 22;
 
-// 23: the counter asked with is FFFFFFFF or not above the sender's stored one
+// 23: the frame counter is FFFFFFFF or not above the sender's stored one
 pub const FRAME_COUNTER: u8 = 23;
 
-// 24: the sender to note is new and no place is free
+// 24: the sender is new and no place is free
 pub const NO_PLACE: u8 = 24;

@@ -51,10 +51,6 @@ use Rattle.senders.proofs.asked_by as asked-by′
 pub nowhere-is : Is F.the-row nowhere (F′.lowered nowhere ∷ [])
 nowhere-is = LL.owes F.the-type F′.the-laws nowhere (refl, ((refl, lit< tt), ((refl, lit< tt), tt)))
 
--- a state that is related to a machine value is related to its own
-pub told : (f : Found) (v : Val) → Is F.the-row f (v ∷ []) → Is F.the-row f (F′.lowered f ∷ [])
-told f v is = subst (Is F.the-row f) (LL.tells F.the-type F′.the-laws f (v ∷ []) is) is
-
 module _ {M : Type 1} (𝓤 : URA M) (H : Heap 𝓤) (A : Atoms 𝓤) (mem : Memory → SProp 𝓤) (run : Routine → Fun 𝓤) where
   abbrev pub Counted : Contract 𝓤
   Counted = tripleOf 𝓤 H A counted′.signature (counted′.spec 𝓤 H A mem run)
@@ -91,7 +87,8 @@ module _ {M : Type 1} (𝓤 : URA M) (H : Heap 𝓤) (A : Atoms 𝓤) (mem : Mem
 
   -- a key's machine value is vk
   abbrev pub to-asked-by : Key → Val → ℕ → Found → ℕ → ℕ → AskedBy .Ghost
-  to-asked-by ak vk active f k c = ((tt, tt, tt, (ak, (active, (f, (k, (c, tt))))), (vk ∷ [], (vint w8 active ∷ [], (F′.lowered f ∷ [], (vint w8 k ∷ [], (vint w32 c ∷ [], tt)))))), tt)
+  to-asked-by ak vk active f k c =
+      ((tt, tt, tt, (ak, (active, (f, (k, (c, tt))))), (vk ∷ [], (vint w8 active ∷ [], (F′.lowered f ∷ [], (vint w8 k ∷ [], (vint w32 c ∷ [], tt)))))), tt)
 
   module _ (W : Given 𝓤 H A) where
     pub goes-counted : (n : ℕ) → n < 2 ^ 64 → ent 𝓤 (emp 𝓤) (Counted .pre (to-counted n))
@@ -100,8 +97,10 @@ module _ {M : Type 1} (𝓤 : URA M) (H : Heap 𝓤) (A : Atoms 𝓤) (mem : Mem
     pub gives-counted : (n : ℕ) (v : Val) → ent 𝓤 (Counted .post (to-counted n) v) (H .⇛ (fact 𝓤 (Is usize (counted n) (v ∷ []))))
     gives-counted n v =
         qed W (raw (Counted .post (to-counted n) v) ∷ []) ∵ updating ! $
-        use1 W (later (some (λ (r : ℕ). (‵ ftrue ⊛ ‵ (usize .own r (v ∷ []))) ⊛ raw (ensured 𝓤 H A counted′.ended (counted′.clauses 𝓤 H A mem run) tt (n, tt) tt r)))) (id⊢ 𝓤 _) $ await ! tt $ pick ! (λ r.
-        split ! $ move ! (1 ∷ []) $ use1 W (raw (fact 𝓤 (r ≡ counted n))) (exE 𝓤 _ (λ ws. snd∗ 𝓤 (sem 𝓤 H A (lasts counted′.ended tt (n, tt) ws)) (fact 𝓤 (r ≡ counted n)))) $
+        use1 W (later (some (λ (r : ℕ). (‵ ftrue ⊛ ‵ (usize .own r (v ∷ []))) ⊛ raw (ensured 𝓤 H A counted′.ended (counted′.clauses 𝓤 H A mem run) tt (n, tt) tt r))))
+        (id⊢ 𝓤 _) $ await ! tt $ pick ! (λ r.
+        split ! $ move ! (1 ∷ []) $
+        use1 W (raw (fact 𝓤 (r ≡ counted n))) (exE 𝓤 _ (λ ws. snd∗ 𝓤 (sem 𝓤 H A (lasts counted′.ended tt (n, tt) ws)) (fact 𝓤 (r ≡ counted n)))) $
         heard ! (r ≡ counted n) (λ e. split ! $ drop ! $ peeks ! usize (Is usize) (shows 𝓤 H A usize) r (v ∷ []) (λ is.
         at-once ! $ check ! (subst (λ (m : ℕ). Is usize m (v ∷ [])) e is) $ keep ! [] $ done !)))
 
@@ -113,8 +112,10 @@ module _ {M : Type 1} (𝓤 : URA M) (H : Heap 𝓤) (A : Atoms 𝓤) (mem : Mem
     pub gives-kept : (s : ℕ) (r : SenderRecord) (v : Val) → ent 𝓤 (Kept .post (to-kept s r) v) (H .⇛ (fact 𝓤 (Is T.the-row (kept s r) (v ∷ []))))
     gives-kept s r v =
         qed W (raw (Kept .post (to-kept s r) v) ∷ []) ∵ updating ! $
-        use1 W (later (some (λ (y : SenderRecord). (‵ ftrue ⊛ ‵ (T.the-row .own y (v ∷ []))) ⊛ raw (ensured 𝓤 H A kept′.ended (kept′.clauses 𝓤 H A mem run) tt (r, (s, tt)) tt y)))) (id⊢ 𝓤 _) $ await ! tt $ pick ! (λ y.
-        split ! $ move ! (1 ∷ []) $ use1 W (raw (fact 𝓤 (y ≡ kept s r))) (exE 𝓤 _ (λ ws. snd∗ 𝓤 (sem 𝓤 H A (lasts kept′.ended tt (r, (s, tt)) ws)) (fact 𝓤 (y ≡ kept s r)))) $
+        use1 W (later (some (λ (y : SenderRecord). (‵ ftrue ⊛ ‵ (T.the-row .own y (v ∷ []))) ⊛ raw
+        (ensured 𝓤 H A kept′.ended (kept′.clauses 𝓤 H A mem run) tt (r, (s, tt)) tt y)))) (id⊢ 𝓤 _) $ await ! tt $ pick ! (λ y.
+        split ! $ move ! (1 ∷ []) $
+        use1 W (raw (fact 𝓤 (y ≡ kept s r))) (exE 𝓤 _ (λ ws. snd∗ 𝓤 (sem 𝓤 H A (lasts kept′.ended tt (r, (s, tt)) ws)) (fact 𝓤 (y ≡ kept s r)))) $
         heard ! (y ≡ kept s r) (λ e. split ! $ drop ! $ peeks ! T.the-row (Is T.the-row) (shows 𝓤 H A T.the-row) y (v ∷ []) (λ is.
         at-once ! $ check ! (subst (λ (z : SenderRecord). Is T.the-row z (v ∷ [])) e is) $ keep ! [] $ done !)))
 
@@ -122,14 +123,18 @@ module _ {M : Type 1} (𝓤 : URA M) (H : Heap 𝓤) (A : Atoms 𝓤) (mem : Mem
         → ent 𝓤 (emp 𝓤) (Seen .pre (to-seen s f i r))
     goes-seen s f i r gs isf gi is =
         qed W [] ∵ nothing ! $ owned ! u64 (Is u64) (uint-makes 𝓤 H A W w64) s _ (refl, gs) $ fjoin ! $
-        owned ! T.the-row (Is T.the-row) (LL.makes T.the-type T′.the-plain 𝓤 H A) r _ is $ fjoin ! $ owned ! usize (Is usize) (uint-makes 𝓤 H A W w64) i _ (refl, gi) $ fjoin ! $
+        owned ! T.the-row (Is T.the-row) (LL.makes T.the-type T′.the-plain 𝓤 H A) r _ is $ fjoin ! $ owned ! usize (Is usize) (uint-makes 𝓤 H A W w64) i _ (refl, gi) $
+        fjoin ! $
         owned ! F.the-row (Is F.the-row) (LL.makes F.the-type F′.the-plain 𝓤 H A) f _ isf $ fjoin ! $ nothing ! $ join ! $ frame ! $ done !
 
-    pub gives-seen : (s : ℕ) (f : Found) (i : ℕ) (r : SenderRecord) (v : Val) → ent 𝓤 (Seen .post (to-seen s f i r) v) (H .⇛ (fact 𝓤 (Is F.the-row (seen s f i r) (v ∷ []))))
+    pub gives-seen : (s : ℕ) (f : Found) (i : ℕ) (r : SenderRecord) (v : Val)
+        → ent 𝓤 (Seen .post (to-seen s f i r) v) (H .⇛ (fact 𝓤 (Is F.the-row (seen s f i r) (v ∷ []))))
     gives-seen s f i r v =
         qed W (raw (Seen .post (to-seen s f i r) v) ∷ []) ∵ updating ! $
-        use1 W (later (some (λ (y : Found). (‵ ftrue ⊛ ‵ (F.the-row .own y (v ∷ []))) ⊛ raw (ensured 𝓤 H A seen′.ended (seen′.clauses 𝓤 H A mem run) tt (f, (i, (r, (s, tt)))) tt y)))) (id⊢ 𝓤 _) $ await ! tt $ pick ! (λ y.
-        split ! $ move ! (1 ∷ []) $ use1 W (raw (fact 𝓤 (y ≡ seen s f i r))) (exE 𝓤 _ (λ ws. snd∗ 𝓤 (sem 𝓤 H A (lasts seen′.ended tt (f, (i, (r, (s, tt)))) ws)) (fact 𝓤 (y ≡ seen s f i r)))) $
+        use1 W (later (some (λ (y : Found). (‵ ftrue ⊛ ‵ (F.the-row .own y (v ∷ []))) ⊛ raw
+        (ensured 𝓤 H A seen′.ended (seen′.clauses 𝓤 H A mem run) tt (f, (i, (r, (s, tt)))) tt y)))) (id⊢ 𝓤 _) $ await ! tt $ pick ! (λ y.
+        split ! $ move ! (1 ∷ []) $
+        use1 W (raw (fact 𝓤 (y ≡ seen s f i r))) (exE 𝓤 _ (λ ws. snd∗ 𝓤 (sem 𝓤 H A (lasts seen′.ended tt (f, (i, (r, (s, tt)))) ws)) (fact 𝓤 (y ≡ seen s f i r)))) $
         heard ! (y ≡ seen s f i r) (λ e. split ! $ drop ! $ peeks ! F.the-row (Is F.the-row) (shows 𝓤 H A F.the-row) y (v ∷ []) (λ is.
         at-once ! $ check ! (subst (λ (z : Found). Is F.the-row z (v ∷ [])) e is) $ keep ! [] $ done !)))
 
@@ -141,8 +146,10 @@ module _ {M : Type 1} (𝓤 : URA M) (H : Heap 𝓤) (A : Atoms 𝓤) (mem : Mem
     pub gives-record-of : (s c : ℕ) (v : Val) → ent 𝓤 (RecordOf .post (to-record-of s c) v) (H .⇛ (fact 𝓤 (Is T.the-row (recordOf s c) (v ∷ []))))
     gives-record-of s c v =
         qed W (raw (RecordOf .post (to-record-of s c) v) ∷ []) ∵ updating ! $
-        use1 W (later (some (λ (y : SenderRecord). (‵ ftrue ⊛ ‵ (T.the-row .own y (v ∷ []))) ⊛ raw (ensured 𝓤 H A record-of′.ended (record-of′.clauses 𝓤 H A mem run) tt (s, (c, tt)) tt y)))) (id⊢ 𝓤 _) $ await ! tt $ pick ! (λ y.
-        split ! $ move ! (1 ∷ []) $ use1 W (raw (fact 𝓤 (y ≡ recordOf s c))) (exE 𝓤 _ (λ ws. snd∗ 𝓤 (sem 𝓤 H A (lasts record-of′.ended tt (s, (c, tt)) ws)) (fact 𝓤 (y ≡ recordOf s c)))) $
+        use1 W (later (some (λ (y : SenderRecord). (‵ ftrue ⊛ ‵ (T.the-row .own y (v ∷ []))) ⊛ raw
+        (ensured 𝓤 H A record-of′.ended (record-of′.clauses 𝓤 H A mem run) tt (s, (c, tt)) tt y)))) (id⊢ 𝓤 _) $ await ! tt $ pick ! (λ y.
+        split ! $ move ! (1 ∷ []) $
+        use1 W (raw (fact 𝓤 (y ≡ recordOf s c))) (exE 𝓤 _ (λ ws. snd∗ 𝓤 (sem 𝓤 H A (lasts record-of′.ended tt (s, (c, tt)) ws)) (fact 𝓤 (y ≡ recordOf s c)))) $
         heard ! (y ≡ recordOf s c) (λ e. split ! $ drop ! $ peeks ! T.the-row (Is T.the-row) (shows 𝓤 H A T.the-row) y (v ∷ []) (λ is.
         at-once ! $ check ! (subst (λ (z : SenderRecord). Is T.the-row z (v ∷ [])) e is) $ keep ! [] $ done !)))
 
@@ -153,24 +160,31 @@ module _ {M : Type 1} (𝓤 : URA M) (H : Heap 𝓤) (A : Atoms 𝓤) (mem : Mem
     pub gives-noted-by : (f : Found) (v : Val) → ent 𝓤 (NotedBy .post (to-noted-by f) v) (H .⇛ (fact 𝓤 (Is N.the-row (notedBy f) (v ∷ []))))
     gives-noted-by f v =
         qed W (raw (NotedBy .post (to-noted-by f) v) ∷ []) ∵ updating ! $
-        use1 W (later (some (λ (y : Noted). (‵ ftrue ⊛ ‵ (N.the-row .own y (v ∷ []))) ⊛ raw (ensured 𝓤 H A noted-by′.ended (noted-by′.clauses 𝓤 H A mem run) tt (f, tt) tt y)))) (id⊢ 𝓤 _) $ await ! tt $ pick ! (λ y.
-        split ! $ move ! (1 ∷ []) $ use1 W (raw (fact 𝓤 (y ≡ notedBy f))) (exE 𝓤 _ (λ ws. snd∗ 𝓤 (sem 𝓤 H A (lasts noted-by′.ended tt (f, tt) ws)) (fact 𝓤 (y ≡ notedBy f)))) $
+        use1 W (later (some (λ (y : Noted). (‵ ftrue ⊛ ‵ (N.the-row .own y (v ∷ []))) ⊛ raw
+        (ensured 𝓤 H A noted-by′.ended (noted-by′.clauses 𝓤 H A mem run) tt (f, tt) tt y)))) (id⊢ 𝓤 _) $ await ! tt $ pick ! (λ y.
+        split ! $ move ! (1 ∷ []) $
+        use1 W (raw (fact 𝓤 (y ≡ notedBy f))) (exE 𝓤 _ (λ ws. snd∗ 𝓤 (sem 𝓤 H A (lasts noted-by′.ended tt (f, tt) ws)) (fact 𝓤 (y ≡ notedBy f)))) $
         heard ! (y ≡ notedBy f) (λ e. split ! $ drop ! $ peeks ! N.the-row (Is N.the-row) (shows 𝓤 H A N.the-row) y (v ∷ []) (λ is.
         at-once ! $ check ! (subst (λ (z : Noted). Is N.the-row z (v ∷ [])) e is) $ keep ! [] $ done !)))
 
-    pub goes-asked-by : (ak : Key) (vk : Val) (active : ℕ) (f : Found) (k c : ℕ) → Is K.the-row ak (vk ∷ []) → active < 2 ^ 8 → Is F.the-row f (F′.lowered f ∷ []) → k < 2 ^ 8 → c < 2 ^ 32
+    pub goes-asked-by : (ak : Key) (vk : Val) (active : ℕ) (f : Found) (k c : ℕ) → Is K.the-row ak (vk ∷ []) → active < 2 ^ 8 → Is F.the-row f (F′.lowered f ∷ [])
+        → k < 2 ^ 8 → c < 2 ^ 32
         → ent 𝓤 (emp 𝓤) (AskedBy .pre (to-asked-by ak vk active f k c))
     goes-asked-by ak vk active f k c isk ga is gk gc =
-        qed W [] ∵ nothing ! $ owned ! u32 (Is u32) (uint-makes 𝓤 H A W w32) c _ (refl, gc) $ fjoin ! $ owned ! u8 (Is u8) (uint-makes 𝓤 H A W w8) k _ (refl, gk) $ fjoin ! $
-        owned ! F.the-row (Is F.the-row) (LL.makes F.the-type F′.the-plain 𝓤 H A) f _ is $ fjoin ! $ owned ! u8 (Is u8) (uint-makes 𝓤 H A W w8) active _ (refl, ga) $ fjoin ! $
+        qed W [] ∵ nothing ! $ owned ! u32 (Is u32) (uint-makes 𝓤 H A W w32) c _ (refl, gc) $ fjoin ! $ owned ! u8 (Is u8) (uint-makes 𝓤 H A W w8) k _ (refl, gk) $
+        fjoin ! $
+        owned ! F.the-row (Is F.the-row) (LL.makes F.the-type F′.the-plain 𝓤 H A) f _ is $ fjoin ! $ owned ! u8 (Is u8) (uint-makes 𝓤 H A W w8) active _ (refl, ga) $
+        fjoin ! $
         owned ! K.the-row (Is K.the-row) (LL.makes K.the-type K′.the-plain 𝓤 H A) ak _ isk $ fjoin ! $ nothing ! $ join ! $ frame ! $ done !
 
     pub gives-asked-by : (ak : Key) (vk : Val) (active : ℕ) (f : Found) (k c : ℕ) (v : Val)
         → ent 𝓤 (AskedBy .post (to-asked-by ak vk active f k c) v) (H .⇛ (fact 𝓤 (Is Q.the-row (askedBy ak active (counterIf (f .named) (f .counter)) k c) (v ∷ []))))
     gives-asked-by ak vk active f k c v =
         qed W (raw (AskedBy .post (to-asked-by ak vk active f k c) v) ∷ []) ∵ updating ! $
-        use1 W (later (some (λ (y : Asked). (‵ ftrue ⊛ ‵ (Q.the-row .own y (v ∷ []))) ⊛ raw (ensured 𝓤 H A asked-by′.ended (asked-by′.clauses 𝓤 H A mem run) tt (ak, (active, (f, (k, (c, tt))))) tt y)))) (id⊢ 𝓤 _) $ await ! tt $ pick ! (λ y.
-        split ! $ move ! (1 ∷ []) $ use1 W (raw (fact 𝓤 (y ≡ r))) (exE 𝓤 _ (λ ws. snd∗ 𝓤 (sem 𝓤 H A (lasts asked-by′.ended tt (ak, (active, (f, (k, (c, tt))))) ws)) (fact 𝓤 (y ≡ r)))) $
+        use1 W (later (some (λ (y : Asked). (‵ ftrue ⊛ ‵ (Q.the-row .own y (v ∷ []))) ⊛ raw
+        (ensured 𝓤 H A asked-by′.ended (asked-by′.clauses 𝓤 H A mem run) tt (ak, (active, (f, (k, (c, tt))))) tt y)))) (id⊢ 𝓤 _) $ await ! tt $ pick ! (λ y.
+        split ! $ move ! (1 ∷ []) $
+        use1 W (raw (fact 𝓤 (y ≡ r))) (exE 𝓤 _ (λ ws. snd∗ 𝓤 (sem 𝓤 H A (lasts asked-by′.ended tt (ak, (active, (f, (k, (c, tt))))) ws)) (fact 𝓤 (y ≡ r)))) $
         heard ! (y ≡ r) (λ e. split ! $ drop ! $ peeks ! Q.the-row (Is Q.the-row) (shows 𝓤 H A Q.the-row) y (v ∷ []) (λ is.
         at-once ! $ check ! (subst (λ (z : Asked). Is Q.the-row z (v ∷ [])) e is) $ keep ! [] $ done !)))
       where

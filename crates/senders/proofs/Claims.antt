@@ -13,10 +13,11 @@ use lib.Seq.{getD-set-same, getD-set-other}
 use borrow.Author.Tests.{eq-eqb, ne-eqb, le-leb, lt-leb}
 use borrow.Table.Steps.{cases}
 use Rattle.octets.specs.Refusals.{unless, firstOf}
+use Rattle.types.specs.Counters.{lastCounter}
 use Rattle.types.specs.declared.Key.{Key}
 use Rattle.senders.specs.declared.{SenderRecord.SenderRecord, OptionCounter.OptionCounter}
 use Rattle.senders.specs.Records.{isFree, names, recordOf}
-use Rattle.senders.specs.Senders.{lastCounter, someOf, stored, knows, hasFree, askRefused, askRefusal, askedBy, inboundNetworkKey, Run, note, forget}
+use Rattle.senders.specs.Senders.{someOf, stored, knows, hasFree, askRefused, askRefusal, askedBy, inboundNetworkKey, Run, note, forget}
 use Rattle.senders.specs.Claims as claims
 use Rattle.senders.proofs.Naming.{names-its-sender, names-no-other, names-one, free-names-none, unknown-stored, known-stored}
 use Rattle.senders.proofs.Firsts.{first, first-below, first-meets, first-set, stored-other, stored-new, stored-own}

@@ -8,4 +8,6 @@ pub mod Walks
 pub mod Claims
 pub mod WorkedCases
 pub mod Turns
+pub mod Steps
+pub mod Rows
 pub mod Calls

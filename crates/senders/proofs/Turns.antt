@@ -7,7 +7,7 @@ use mathlib.Core.Bool.{Bool, true, false, cond}
 use mathlib.Core.List.{List, [], _∷_, _++_}
 use lib.Dec.{ltb}
 use lib.ListN.{length, getD, set}
-use borrow.Author.Tests.{lt-ltb, le-ltb, ltb-true, ltb-false}
+use borrow.Author.Tests.{ltb-true, ltb-false}
 use Rattle.senders.specs.declared.{SenderRecord.SenderRecord, Found.Found}
 use Rattle.senders.specs.Records.{freeRecord, kept}
 use Rattle.senders.specs.Senders.{forgottenIn, forget}

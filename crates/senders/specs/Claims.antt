@@ -6,10 +6,11 @@ use mathlib.Core.Path.{_≡_}
 use mathlib.Core.Bool.{true, false, cond}
 use mathlib.Core.List.{List, [], _++_}
 use lib.ListN.{length, getD, set}
+use Rattle.types.specs.Counters.{lastCounter}
 use Rattle.types.specs.declared.Key.{Key}
 use Rattle.senders.specs.declared.{SenderRecord.SenderRecord, OptionCounter.OptionCounter}
 use Rattle.senders.specs.Records.{isFree, names, recordOf}
-use Rattle.senders.specs.Senders.{countedPlaces, lastCounter, stored, knows, inboundNetworkKey, askRefused, note, noteNothing, forget}
+use Rattle.senders.specs.Senders.{countedPlaces, stored, knows, inboundNetworkKey, askRefused, note, noteNothing, forget}
 
 -- ---- 1: a call changes the list only at records of the sender named
 

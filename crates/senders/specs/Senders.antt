@@ -9,16 +9,13 @@ use lib.Dec.{eqb, leb}
 use Rattle.octets.specs.Strings.{tab}
 use Rattle.octets.specs.Refusals.{unless, on, firstOf}
 use Rattle.types.specs.declared.Key.{Key}
+use Rattle.types.specs.Counters.{lastCounter}
 use Rattle.types.specs.Keys.{key}
 use Rattle.senders.specs.declared.{SenderRecord.SenderRecord, OptionCounter.OptionCounter, Asked.Asked, Noted.Noted}
 use Rattle.senders.specs.Records.{isFree, names, recordOf, kept}
 
 abbrev pub countedPlaces : ℕ
 countedPlaces = 64
-
--- the last frame counter, which no receiver takes (Zigbee Specification 4.3.1.2)
-abbrev pub lastCounter : ℕ
-lastCounter = 0xFFFFFFFF
 
 -- the counter c if it is there
 abbrev pub counterIf : Bool → ℕ → OptionCounter

@@ -2,3 +2,4 @@
 pub mod Addresses
 pub mod Keys
 pub mod Optional
+pub mod Counters

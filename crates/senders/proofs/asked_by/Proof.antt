@@ -7,10 +7,11 @@ use native.Mathlib.Omega.{arith}
 use lib.Dec.{eqb, leb}
 use borrow.Author.Tests.{eq-eqb, ne-eqb, le-leb, lt-leb}
 use Rattle.octets.proofs.Conditions.{accepted-by, refused-by, stop, skip, empty}
+use Rattle.types.specs.Counters.{lastCounter}
 use Rattle.senders.proofs.asked_by.Statement.{statement}
 use Rattle.senders.proofs.asked_by.Tie as tie
 use Rattle.senders.specs.declared.OptionCounter.{OptionCounter}
-use Rattle.senders.specs.Senders.{lastCounter, counterIf, notAbove, askRefused, askRefusal, askedBy}
+use Rattle.senders.specs.Senders.{counterIf, notAbove, askRefused, askRefusal, askedBy}
 
 module _ (active : ℕ) (o : OptionCounter) (k c : ℕ) where
   wrong-key : (k ≡ active → ⊥) → askRefusal active o k c ≡ 22

@@ -25,9 +25,9 @@ use contract.Monad.{Fun, fact}
 use contract.Running.{givenOf, tables, tablesOf}
 use sound.Loop.{loop-rule}
 use sound.WpLaws.{fmOf, WpFn-mono}
-use types.Kit.{Given, Item, ‵, raw, _⊛_, later, ⋆, anyQ, atRet, _$_, _∵_, !, qed, by, move, keep, use0, use1, split, join, rewrite, fsplit, fjoin, suffices, frame, await, done}
+use types.Kit.{Given, Item, ‵, _⊛_, ⋆, anyQ, atRet, _$_, _∵_, !, qed, by, move, keep, split, join, rewrite, fsplit, fjoin, suffices, frame, done}
 use types.Part.{whole, sub, look-in, agg}
-use types.Run.{look, look-raw, store, init, forget, stop, hop, fld, from, load, lit, false-lit, of-opd, bin, and-then, no-more, assigns, assigns-last, land, stays, leaves-loop, returns, enter, alloc1, alloc0, params1, pass1, pass0, free1, free0, exec}
+use types.Run.{look, look-raw, store, init, forget, stop, hop, fld, from, load, lit, false-lit, of-opd, bin, and-then, no-more, assigns-last, stays, leaves-loop, returns, enter, alloc1, alloc0, params1, pass1, pass0, free1, free0, exec}
 use types.Share.{arr-parts}
 use denote.Exit.{yes}
 use denote.RattleType.{owns}
@@ -37,23 +37,23 @@ use denote.Memory.{pointee, shares}
 use denote.Plain.{uint-vals, uint-tells, uint-makes, uint-lawful}
 use denote.Ref.{RefT}
 use denote.Slice.{sliceTy, sliceVal, ShrSlice, heres, Room, slice-vals, shr-slice-tells, at-slice, codedHoleys}
-use denote.Index.{place-is, row, elem-out, elem-back, looks-slice, shuts-slice}
+use denote.Index.{place-is, row, looks-slice, shuts-slice}
 use denote.Signature.{plain}
 use denote.Builtin.{u64, usize}
-use denote.Steps.{owned, heard, nothing, only}
+use denote.Steps.{owned, nothing, only}
 use denote.Struct.Laws as LL
 use denote.Triple.Statement.{Triple}
-use denote.Triple.Call.{calls-at}
 use denote.Triple.Entry.{onEntry}
 use denote.Triple.Spec.{Meets, tripleOf}
 use denote.Triple.Table.{entered, cited}
 use denote.Triple.Walked.{says, Stays, stay-none-slice, stay-none, walkOf, goes-none-slice, goes-none, Walks, ends-at, walked, walk-meets}
 use Rattle.senders.specs.declared.{SenderRecord.SenderRecord, Found.Found}
-use Rattle.senders.specs.Records.{freeRecord}
 use Rattle.senders.specs.Walks.{counted, nowhere, seen, found}
 use Rattle.senders.proofs.Turns.{at, gathered, gathered-is}
 use Rattle.senders.proofs.Walks.{counted-within, counted-64}
-use Rattle.senders.proofs.Calls.{Counted, to-counted, goes-counted, gives-counted, Seen, to-seen, goes-seen, gives-seen, nowhere-is, told}
+use Rattle.senders.proofs.Steps.{local, sets, keeps, calls-value}
+use Rattle.senders.proofs.Rows.{found-told, record-typed, found-typed, record-out, record-back}
+use Rattle.senders.proofs.Calls.{Counted, to-counted, goes-counted, gives-counted, Seen, to-seen, goes-seen, gives-seen, nowhere-is}
 use Rattle.senders.proofs.SenderRecord as T
 use Rattle.senders.proofs.SenderRecord.Laws as T′
 use Rattle.senders.proofs.Found as F
@@ -85,7 +85,8 @@ state = spell pieces.table (pointee (F.the-row .written))
 abbrev slice : Ty
 slice = sliceTy (tyRef (named 0) imm (pointee (T.the-row .written)))
 
-module _ {M : Type 1} (𝓤 : URA M) (H : Heap 𝓤) (A : Atoms 𝓤) (W : Given 𝓤 H A) (mem : Memory → SProp 𝓤) (run : Routine → Fun 𝓤) (κ : Lft) (q : Share) (b o : ℕ) (γ : GName) (xs : List SenderRecord) (s : ℕ) (gn : Room T.the-row (length xs)) (gs : s < 2 ^ 64) where
+module _ {M : Type 1} (𝓤 : URA M) (H : Heap 𝓤) (A : Atoms 𝓤) (W : Given 𝓤 H A) (mem : Memory → SProp 𝓤) (run : Routine → Fun 𝓤) (κ : Lft) (q : Share) (b o : ℕ)
+    (γ : GName) (xs : List SenderRecord) (s : ℕ) (gn : Room T.the-row (length xs)) (gs : s < 2 ^ 64) where
   abbrev n : ℕ
   n = counted (length xs)
 
@@ -118,13 +119,15 @@ module _ {M : Type 1} (𝓤 : URA M) (H : Heap 𝓤) (A : Atoms 𝓤) (W : Given
   exits : (f : Found) → Is F.the-row f (F′.lowered f ∷ []) → f ≡ found s xs → ent 𝓤 (⋆ 𝓤 H A (‵ (flft κ q) ∷ lent ∷ said ∷ [])) (Post (F′.lowered f))
   exits f is e =
       qed W (‵ (flft κ q) ∷ lent ∷ said ∷ []) ∵
-      suffices ! _ (ends-at 𝓤 H A find′.ended stayed (find′.clauses 𝓤 H A mem run) W (((κ, tt), (q, tt), tt, a, vals), tt) (F′.lowered f) f (tt, (tt, tt)) (tt, (tt, tt))) $ says ! e $
+      suffices ! _ (ends-at 𝓤 H A find′.ended stayed (find′.clauses 𝓤 H A mem run) W (((κ, tt), (q, tt), tt, a, vals), tt) (F′.lowered f) f (tt, (tt, tt))
+      (tt, (tt, tt))) $ says ! e $
       nothing ! $ move ! (1 ∷ 0 ∷ []) $ join ! $ frame ! $
       move ! (1 ∷ 0 ∷ []) $ fjoin ! $ pureI ! (at-slice T.the-row x (here ∷ [])) (tt, (tt, tt)) (refl, gn) $ fjoin ! $
       nothing ! $ owned ! u64 (Is u64) (uint-makes 𝓤 H A W w64) s _ (refl, gs) $ fjoin ! $ move ! (1 ∷ 0 ∷ []) $ fjoin ! $
       frame ! $ owned ! F.the-row (Is F.the-row) (LL.makes F.the-type F′.the-plain 𝓤 H A) f _ is $ done !
 
-  module _ (𝓣 : Tables 𝓤 H) (known-counted : Triple 𝓤 (𝓣 .C #senders·counted) (Counted 𝓤 H A mem run)) (known-seen : Triple 𝓤 (𝓣 .C #senders·seen) (Seen 𝓤 H A mem run)) where
+  module _ (𝓣 : Tables 𝓤 H) (known-counted : Triple 𝓤 (𝓣 .C #senders·counted) (Counted 𝓤 H A mem run))
+      (known-seen : Triple 𝓤 (𝓣 .C #senders·seen) (Seen 𝓤 H A mem run)) where
     abbrev C : Calls 𝓤 H
     C = 𝓣 .C
 
@@ -142,7 +145,8 @@ module _ {M : Type 1} (𝓤 : URA M) (H : Heap 𝓤) (A : Atoms 𝓤) (W : Given
 
       -- what no turn touches: the parameters' locals, the result's, and the open borrow
       abbrev Frame : List (Item 𝓤)
-      Frame = ‵ (fat fullShare slice l₁ 0 here) ∷ ‵ (fat fullShare word l₂ 0 (vint w64 s)) ∷ ‵ (fat fullShare word l₃ 0 (vint w64 n)) ∷ ‵ (froom state l₀ 0) ∷ ‵ (froom word l₆ 0)
+      Frame = ‵ (fat fullShare slice l₁ 0 here) ∷ ‵ (fat fullShare word l₂ 0 (vint w64 s)) ∷ ‵ (fat fullShare word l₃ 0 (vint w64 n)) ∷ ‵ (froom state l₀ 0)
+          ∷ ‵ (froom word l₆ 0)
           ∷ ‵ (fobor κ q (arr-parts (shares T.the-row) (length xs) .part p xs b o)) ∷ lent ∷ said
           ∷ ‵ (fdies state l₀) ∷ ‵ (fdies slice l₁) ∷ ‵ (fdies word l₂) ∷ ‵ (fdies word l₃) ∷ ‵ (fdies state l₄) ∷ ‵ (fdies word l₅) ∷ ‵ (fdies word l₆)
           ∷ ‵ (fdies tyBool l₇) ∷ ‵ (fdies word l₈) ∷ ‵ (fdies tyPtr l₉) ∷ ‵ (fdies entry l₁₀) ∷ []
@@ -173,25 +177,25 @@ module _ {M : Type 1} (𝓤 : URA M) (H : Heap 𝓤) (A : Atoms 𝓤) (W : Given
       unfolding afterTurn
       more i f X small isf k =
           qed W (At i f) ∵ exec ! C Λ En pieces.turn-1 (anyQ (afterTurn 𝓤 H X Left)) $
-          assigns ! (bin ! (load ! (from ! (stop !)) (look ! 1 refl)) (load ! (from ! (stop !)) (look ! 9 refl)) tt) (from ! (stop !)) (init ! 3 refl (tt, tt)) $
+          sets ! (bin ! (local ! 1 refl) (local ! 9 refl) tt) (init ! 3 refl (tt, tt)) $
           rewrite ! 3 (λ (t : Bool). ‵ (fat fullShare tyBool l₇ 0 (vbool t))) (lt-ltb i n small) refl $
-          stays ! (load ! (from ! (stop !)) (look ! 3 refl)) $
-          assigns ! (bin ! (load ! (from ! (stop !)) (look ! 1 refl)) (lit ! tt) (record { fits = far })) (from ! (stop !)) (init ! 4 refl (tt, record { fits = far })) $
-          assigns ! (bin ! (load ! (from ! (fld ! refl (stop !))) (look-in ! 7 (sub ! 0 refl (whole !)))) (load ! (from ! (stop !)) (look ! 4 refl)) tt) (from ! (stop !)) (init ! 5 refl (tt, tt)) $
+          stays ! (local ! 3 refl) $
+          sets ! (bin ! (local ! 1 refl) (lit ! tt) (record { fits = far })) (init ! 4 refl (tt, record { fits = far })) $
+          sets ! (bin ! (load ! (from ! (fld ! refl (stop !))) (look-in ! 7 (sub ! 0 refl (whole !)))) (local ! 4 refl) tt) (init ! 5 refl (tt, tt)) $
           rewrite ! 5 (λ (m : ℕ). ‵ (fat fullShare tyPtr l₉ 0 (vptr b m))) (sym (place-is 16 o i)) refl $
-          elem-out ! T.the-row (Is T.the-row) (shows 𝓤 H A T.the-row) (LL.vals T.the-type T′.the-laws) (LL.tells T.the-type T′.the-laws) p xs i freeRecord b o within (λ is.
+          record-out ! p xs i b o within (λ is.
           -- [the record; what it owns; the others; _5; _4; _7; _8; _9; _10; …]
-          assigns ! (of-opd ! (load ! (from ! (hop ! (look ! 7 refl) (stop !))) (look-raw ! 0 refl))) (from ! (stop !)) (init ! 8 refl (LL.lawful T.the-type T′.the-laws 𝓤 H A W .typed _ _ is .0)) $
-          elem-back ! T.the-row p xs i freeRecord (T′.lowered r ∷ []) b o within $
-          use0 W (raw (Seen 𝓤 H A mem run .pre (to-seen 𝓤 H A mem run s f i r))) (goes-seen 𝓤 H A mem run W s f i r gs isf (omega (arith, next)) is) $
-          calls-at ! (fmOf 𝓤 H (W .laws) 𝓣) (Seen 𝓤 H A mem run) known-seen (to-seen 𝓤 H A mem run s f i r)
-          (and-then ! (load ! (from ! (stop !)) (look ! 3 refl)) (and-then ! (load ! (from ! (stop !)) (look ! 2 refl)) (and-then ! (load ! (from ! (stop !)) (look ! 7 refl)) (and-then ! (load ! (from ! (stop !)) (look ! 9 refl)) (no-more !))))) (λ v.
-          use1 W (later (raw (fact 𝓤 (Is F.the-row g (v ∷ []))))) (gives-seen 𝓤 H A mem run W s f i r v) $ await ! tt $ heard ! (Is F.the-row g (v ∷ [])) (λ isg.
-          land ! (from ! (stop !)) (store ! 2 refl (LL.lawful F.the-type F′.the-laws 𝓤 H A W .typed _ _ isg .0)) $
+          sets ! (of-opd ! (load ! (from ! (hop ! (look ! 7 refl) (stop !))) (look-raw ! 0 refl))) (init ! 8 refl (record-typed W _ _ is)) $
+          record-back ! p xs i b o within $
+          calls-value ! (fmOf 𝓤 H (W .laws) 𝓣) (Seen 𝓤 H A mem run) known-seen (to-seen 𝓤 H A mem run s f i r)
+          (goes-seen 𝓤 H A mem run W s f i r gs isf (omega (arith, next)) is)
+          (and-then ! (local ! 3 refl) (and-then ! (local ! 2 refl) (and-then ! (local ! 7 refl) (and-then ! (local ! 9 refl) (no-more !)))))
+          (λ (v : Val). Is F.the-row g (v ∷ [])) (gives-seen 𝓤 H A mem run W s f i r) (λ v isg.
+          keeps ! (store ! 2 refl (found-typed W _ _ isg)) $
           rewrite ! 2 (λ (u : Val). ‵ (fat fullShare state l₄ 0 u)) (ap only (LL.tells F.the-type F′.the-laws g (v ∷ []) isg)) refl $
-          assigns-last ! (bin ! (load ! (from ! (stop !)) (look ! 1 refl)) (lit ! tt) (record { fits = next })) (from ! (stop !)) (store ! 1 refl (tt, record { fits = next })) $
+          assigns-last ! (bin ! (local ! 1 refl) (lit ! tt) (record { fits = next })) (from ! (stop !)) (store ! 1 refl (tt, record { fits = next })) $
           forget ! 3 refl $ forget ! 4 refl $ forget ! 5 refl $ forget ! 6 refl $
-          rewrite ! 1 (λ (j : ℕ). ‵ (fat fullShare word l₅ 0 (vint w64 j))) (omega arith) refl $ by ! (k (told g v isg)))))
+          rewrite ! 1 (λ (j : ℕ). ‵ (fat fullShare word l₅ 0 (vint w64 j))) (omega arith) refl $ by ! (k (found-told g v isg))))
         where
           r : SenderRecord
           r = at xs i
@@ -209,18 +213,20 @@ module _ {M : Type 1} (𝓤 : URA M) (H : Heap 𝓤) (A : Atoms 𝓤) (W : Given
           next = omega (arith, small, counted-64 (length xs))
 
       -- the turn that leaves the loop, and the rest of the body: the list is shut
-      ends : (f : Found) (X : SProp 𝓤) → Is F.the-row f (F′.lowered f ∷ []) → f ≡ found s xs → ent 𝓤 (⋆ 𝓤 H A (At n f)) (Wp 𝓤 H C Λ En pieces.turn-1 (afterTurn 𝓤 H X Left))
+      ends : (f : Found) (X : SProp 𝓤) → Is F.the-row f (F′.lowered f ∷ []) → f ≡ found s xs
+          → ent 𝓤 (⋆ 𝓤 H A (At n f)) (Wp 𝓤 H C Λ En pieces.turn-1 (afterTurn 𝓤 H X Left))
       unfolding afterTurn
       ends f X is e =
           qed W (At n f) ∵ exec ! C Λ En pieces.turn-1 (anyQ (afterTurn 𝓤 H X Left)) $
-          assigns ! (bin ! (load ! (from ! (stop !)) (look ! 1 refl)) (load ! (from ! (stop !)) (look ! 9 refl)) tt) (from ! (stop !)) (init ! 3 refl (tt, tt)) $
+          sets ! (bin ! (local ! 1 refl) (local ! 9 refl) tt) (init ! 3 refl (tt, tt)) $
           rewrite ! 3 (λ (t : Bool). ‵ (fat fullShare tyBool l₇ 0 (vbool t))) (le-ltb n n (omega arith)) refl $
-          leaves-loop ! (load ! (from ! (stop !)) (look ! 3 refl)) $ exec ! C Λ En pieces.t-6 (atRet En Post) $
-          assigns ! (of-opd ! (load ! (from ! (stop !)) (look ! 2 refl))) (from ! (stop !)) (init ! 10 refl (LL.lawful F.the-type F′.the-laws 𝓤 H A W .typed f _ is .0)) $
+          leaves-loop ! (local ! 3 refl) $ exec ! C Λ En pieces.t-6 (atRet En Post) $
+          sets ! (of-opd ! (local ! 2 refl)) (init ! 10 refl (found-typed W f _ is)) $
           move ! (0 ∷ 12 ∷ []) $ shuts-slice ! tt T.the-row p xs b o $
           -- [the token; _5; _4; _7; _8; _9; _10; _1; _2; _3; _0; _6; the fractured borrow; what is said; and that each local dies]
           returns ! (look ! 10 refl) $ forget ! 1 refl $ forget ! 2 refl $ forget ! 3 refl $ forget ! 7 refl $ forget ! 8 refl $ forget ! 9 refl $ forget ! 10 refl $
-          move ! (10 ∷ 14 ∷ []) $ free1 ! $ move ! (7 ∷ 13 ∷ []) $ free1 ! $ move ! (7 ∷ 12 ∷ []) $ free1 ! $ move ! (7 ∷ 11 ∷ []) $ free1 ! $ move ! (2 ∷ 10 ∷ []) $ free1 ! $
+          move ! (10 ∷ 14 ∷ []) $ free1 ! $ move ! (7 ∷ 13 ∷ []) $ free1 ! $ move ! (7 ∷ 12 ∷ []) $ free1 ! $ move ! (7 ∷ 11 ∷ []) $ free1 ! $ move ! (2 ∷ 10 ∷ []) $
+          free1 ! $
           move ! (1 ∷ 9 ∷ []) $ free1 ! $ move ! (5 ∷ 8 ∷ []) $ free1 ! $ move ! (1 ∷ 7 ∷ []) $ free1 ! $ move ! (1 ∷ 6 ∷ []) $ free1 ! $ move ! (1 ∷ 5 ∷ []) $ free1 ! $
           move ! (1 ∷ 4 ∷ []) $ free1 ! $ free0 ! $ keep ! (0 ∷ 1 ∷ 2 ∷ []) $ by ! (exits f is e)
 
@@ -231,7 +237,8 @@ module _ {M : Type 1} (𝓤 : URA M) (H : Heap 𝓤) (A : Atoms 𝓤) (W : Given
           (exI 𝓤 (λ (j : ℕ). ex 𝓤 (λ (g : Found). guard 𝓤 (Facts t j g) (⋆ 𝓤 H A (At j g)))) i))
 
       turn-at : (t i : ℕ) (f : Found) → Facts t i f → ent 𝓤 (⋆ 𝓤 H A (At i f)) (Wp 𝓤 H C Λ En pieces.turn-1 (afterTurn 𝓤 H (Below t) Left))
-      turn-at zero i f h = subst (λ (j : ℕ). ent 𝓤 (⋆ 𝓤 H A (At j f)) (Wp 𝓤 H C Λ En pieces.turn-1 (afterTurn 𝓤 H (Below 0) Left))) (omega (arith, h .0)) (ends f (Below 0) (h .1 .0) (h .1 .1))
+      turn-at zero i f h = subst (λ (j : ℕ). ent 𝓤 (⋆ 𝓤 H A (At j f)) (Wp 𝓤 H C Λ En pieces.turn-1 (afterTurn 𝓤 H (Below 0) Left))) (omega (arith, h .0))
+          (ends f (Below 0) (h .1 .0) (h .1 .1))
       turn-at (suc t) i f h =
           more i f (Below (suc t)) (omega (arith, h .0)) (h .1 .0) (λ isg.
           via 𝓤 (Inv t) (held t (suc i) (seen s f i (at xs i)) (omega (arith, h .0), (isg, h .1 .1)))
@@ -242,14 +249,17 @@ module _ {M : Type 1} (𝓤 : URA M) (H : Heap 𝓤) (A : Atoms 𝓤) (W : Given
           exE 𝓤 (λ (f : Found). guard 𝓤 (Facts t i f) (⋆ 𝓤 H A (At i f))) (λ f. guardE 𝓤 (Facts t i f) (⋆ 𝓤 H A (At i f)) (λ h. turn-at t i f h)))
 
       loops : ent 𝓤 (⋆ 𝓤 H A (At 0 nowhere)) (Wp 𝓤 H C Λ En (loop pieces.turn-1) Left)
-      loops = via 𝓤 (Inv n) (held n 0 nowhere (omega arith, (nowhere-is, gathered-is s xs))) (loop-rule 𝓤 H (W .laws) 𝓣 _<_ (Nat·lt-wfRel .wf) En pieces.turn-1 Left Inv turns n)
+      loops = via 𝓤 (Inv n) (held n 0 nowhere (omega arith, (nowhere-is, gathered-is s xs)))
+          (loop-rule 𝓤 H (W .laws) 𝓣 _<_ (Nat·lt-wfRel .wf) En pieces.turn-1 Left Inv turns n)
 
     module _ (l₀ l₁ l₂ l₃ l₄ l₅ l₆ l₇ l₈ l₉ l₁₀ : ℕ) where
       -- before the loop: the token, what the list owns, and the locals
       abbrev Ready : List (Item 𝓤)
-      Ready = ‵ (flft κ q) ∷ ‵ (ShrSlice (named 0) κ T.the-row .own x (here ∷ [])) ∷ ‵ (fat fullShare word l₅ 0 (vint w64 0)) ∷ ‵ (fat fullShare state l₄ 0 (F′.lowered nowhere))
+      Ready = ‵ (flft κ q) ∷ ‵ (ShrSlice (named 0) κ T.the-row .own x (here ∷ [])) ∷ ‵ (fat fullShare word l₅ 0 (vint w64 0))
+          ∷ ‵ (fat fullShare state l₄ 0 (F′.lowered nowhere))
           ∷ ‵ (froom tyBool l₇ 0) ∷ ‵ (froom word l₈ 0) ∷ ‵ (froom tyPtr l₉ 0) ∷ ‵ (froom entry l₁₀ 0)
-          ∷ ‵ (fat fullShare slice l₁ 0 here) ∷ ‵ (fat fullShare word l₂ 0 (vint w64 s)) ∷ ‵ (fat fullShare word l₃ 0 (vint w64 n)) ∷ ‵ (froom state l₀ 0) ∷ ‵ (froom word l₆ 0)
+          ∷ ‵ (fat fullShare slice l₁ 0 here) ∷ ‵ (fat fullShare word l₂ 0 (vint w64 s)) ∷ ‵ (fat fullShare word l₃ 0 (vint w64 n)) ∷ ‵ (froom state l₀ 0)
+          ∷ ‵ (froom word l₆ 0)
           ∷ ‵ (fdies state l₀) ∷ ‵ (fdies slice l₁) ∷ ‵ (fdies word l₂) ∷ ‵ (fdies word l₃) ∷ ‵ (fdies state l₄) ∷ ‵ (fdies word l₅) ∷ ‵ (fdies word l₆)
           ∷ ‵ (fdies tyBool l₇) ∷ ‵ (fdies word l₈) ∷ ‵ (fdies tyPtr l₉) ∷ ‵ (fdies entry l₁₀) ∷ []
 
@@ -258,7 +268,8 @@ module _ {M : Type 1} (𝓤 : URA M) (H : Heap 𝓤) (A : Atoms 𝓤) (W : Given
       begins =
           qed W Ready ∵ exec ! C Λ (locals l₀ l₁ l₂ l₃ l₄ l₅ l₆ l₇ l₈ l₉ l₁₀) pieces.t-5 (atRet (locals l₀ l₁ l₂ l₃ l₄ l₅ l₆ l₇ l₈ l₉ l₁₀) Post) $
           move ! (1 ∷ []) $ fsplit ! $ move ! (1 ∷ []) $ fsplit ! $ move ! (1 ∷ 3 ∷ []) $
-          looks-slice ! tt T.the-row (Is T.the-row) (shows 𝓤 H A T.the-row) (LL.vals T.the-type T′.the-laws) (LL.tells T.the-type T′.the-laws) (LL.copy T.the-type T′.the-copy 𝓤 H A W) xs b o (λ p.
+          looks-slice ! tt T.the-row (Is T.the-row) (shows 𝓤 H A T.the-row) (LL.vals T.the-type T′.the-laws) (LL.tells T.the-type T′.the-laws)
+          (LL.copy T.the-type T′.the-copy 𝓤 H A W) xs b o (λ p.
           -- [the row; the open borrow; the fractured one; what is said; the list's fact; _5; …]
           keep ! (0 ∷ 5 ∷ 6 ∷ 7 ∷ 8 ∷ 9 ∷ 10 ∷ 11 ∷ 12 ∷ 13 ∷ 14 ∷ 15 ∷ 1 ∷ 2 ∷ 3 ∷ 16 ∷ 17 ∷ 18 ∷ 19 ∷ 20 ∷ 21 ∷ 22 ∷ 23 ∷ 24 ∷ 25 ∷ 26 ∷ []) $
           by ! (loops p l₀ l₁ l₂ l₃ l₄ l₅ l₆ l₇ l₈ l₉ l₁₀))
@@ -267,27 +278,33 @@ module _ {M : Type 1} (𝓤 : URA M) (H : Heap 𝓤) (A : Atoms 𝓤) (W : Given
     walk : ent 𝓤 (onEntry 𝓤 H A find′.signature (κ, tt) (q, tt) a vals) (WpFn 𝓤 H C Λ code.function (here ∷ vint w64 s ∷ []) Post)
     walk =
         qed W ((‵ (flft κ q) ⊛ ‵ ftrue) ∷ ‵ (owns (ShrSlice (named 0) κ T.the-row ∷ u64 ∷ []) a vals) ∷ []) ∵ enter ! C Λ code.function (here ∷ vint w64 s ∷ []) _ $
-        alloc1 ! (λ l₀. alloc1 ! (λ l₁. alloc1 ! (λ l₂. alloc1 ! (λ l₃. alloc1 ! (λ l₄. alloc1 ! (λ l₅. alloc1 ! (λ l₆. alloc1 ! (λ l₇. alloc1 ! (λ l₈. alloc1 ! (λ l₉. alloc1 ! (λ l₁₀. alloc0 ! $ params1 ! $
+        alloc1 ! (λ l₀. alloc1 ! (λ l₁. alloc1 !
+        (λ l₂. alloc1 ! (λ l₃. alloc1 ! (λ l₄. alloc1 ! (λ l₅. alloc1 ! (λ l₆. alloc1 ! (λ l₇. alloc1 ! (λ l₈. alloc1 ! (λ l₉. alloc1 ! (λ l₁₀. alloc0 ! $ params1 ! $
         pass1 ! (init ! 18 refl (tt, (tt, (record { fits = gn .0 }, tt)))) $ pass1 ! (init ! 16 refl (tt, record { fits = gs })) $ pass0 ! $
-        assigns ! (of-opd ! (load ! (from ! (fld ! refl (stop !))) (look-in ! 18 (sub ! 1 refl (whole !))))) (from ! (stop !)) (init ! 8 refl (tt, record { fits = gn .0 })) $
-        use0 W (raw (Counted 𝓤 H A mem run .pre (to-counted 𝓤 H A mem run (length xs)))) (goes-counted 𝓤 H A mem run W (length xs) (gn .0)) $
-        calls-at ! (fmOf 𝓤 H (W .laws) 𝓣) (Counted 𝓤 H A mem run) known-counted (to-counted 𝓤 H A mem run (length xs)) (and-then ! (load ! (from ! (stop !)) (look ! 9 refl)) (no-more !)) (λ v.
-        use1 W (later (raw (fact 𝓤 (Is usize n (v ∷ []))))) (gives-counted 𝓤 H A mem run W (length xs) v) $ await ! tt $ heard ! (Is usize n (v ∷ [])) (λ is.
-        land ! (from ! (stop !)) (init ! 14 refl (uint-lawful 𝓤 H A W w64 .typed n _ is .0)) $ rewrite ! 14 (λ (u : Val). ‵ (fat fullShare word l₃ 0 u)) (ap only (is .0)) refl $
-        assigns ! (agg ! (and-then ! (false-lit !) (and-then ! (lit ! tt) (and-then ! (lit ! tt) (no-more !))))) (from ! (stop !)) (init ! 12 refl (tt, (tt, (record { fits = lit< tt }, (record { fits = lit< tt }, tt))))) $
-        assigns ! (of-opd ! (lit ! tt)) (from ! (stop !)) (init ! 10 refl (tt, record { fits = lit< tt })) $ forget ! 8 refl $
+        sets ! (of-opd ! (load ! (from ! (fld ! refl (stop !))) (look-in ! 18 (sub ! 1 refl (whole !))))) (init ! 8 refl (tt, record { fits = gn .0 })) $
+        calls-value ! (fmOf 𝓤 H (W .laws) 𝓣) (Counted 𝓤 H A mem run) known-counted (to-counted 𝓤 H A mem run (length xs))
+        (goes-counted 𝓤 H A mem run W (length xs) (gn .0))
+        (and-then ! (local ! 9 refl) (no-more !)) (λ (v : Val). Is usize n (v ∷ [])) (gives-counted 𝓤 H A mem run W (length xs)) (λ v is.
+        keeps ! (init ! 14 refl (uint-lawful 𝓤 H A W w64 .typed n _ is .0)) $ rewrite ! 14 (λ (u : Val). ‵ (fat fullShare word l₃ 0 u)) (ap only (is .0)) refl $
+        sets ! (agg ! (and-then ! (false-lit !) (and-then ! (lit ! tt) (and-then ! (lit ! tt) (no-more !)))))
+        (init ! 12 refl (tt, (tt, (record { fits = lit< tt }, (record { fits = lit< tt }, tt))))) $
+        sets ! (of-opd ! (lit ! tt)) (init ! 10 refl (tt, record { fits = lit< tt })) $ forget ! 8 refl $
         -- [_10; …; _0; …; the token; what the list and the sender own]
-        move ! (22 ∷ []) $ split ! $ move ! (24 ∷ []) $ fsplit ! $ keep ! (2 ∷ 0 ∷ 14 ∷ 16 ∷ 10 ∷ 8 ∷ 6 ∷ 4 ∷ 22 ∷ 20 ∷ 18 ∷ 24 ∷ 12 ∷ 25 ∷ 23 ∷ 21 ∷ 19 ∷ 17 ∷ 15 ∷ 13 ∷ 11 ∷ 9 ∷ 7 ∷ 5 ∷ []) $
-        by ! (begins l₀ l₁ l₂ l₃ l₄ l₅ l₆ l₇ l₈ l₉ l₁₀))))))))))))))
+        move ! (22 ∷ []) $ split ! $ move ! (24 ∷ []) $ fsplit ! $
+        keep ! (2 ∷ 0 ∷ 14 ∷ 16 ∷ 10 ∷ 8 ∷ 6 ∷ 4 ∷ 22 ∷ 20 ∷ 18 ∷ 24 ∷ 12 ∷ 25 ∷ 23 ∷ 21 ∷ 19 ∷ 17 ∷ 15 ∷ 13 ∷ 11 ∷ 9 ∷ 7 ∷ 5 ∷ []) $
+        by ! (begins l₀ l₁ l₂ l₃ l₄ l₅ l₆ l₇ l₈ l₉ l₁₀)))))))))))))
 
-module _ {M : Type 1} (𝓤 : URA M) (H : Heap 𝓤) (A : Atoms 𝓤) (W : Given 𝓤 H A) (mem : Memory → SProp 𝓤) (run : Routine → Fun 𝓤) (𝓣 : Tables 𝓤 H) (known-counted : Triple 𝓤 (𝓣 .C #senders·counted) (Counted 𝓤 H A mem run)) (known-seen : Triple 𝓤 (𝓣 .C #senders·seen) (Seen 𝓤 H A mem run)) where
+module _ {M : Type 1} (𝓤 : URA M) (H : Heap 𝓤) (A : Atoms 𝓤) (W : Given 𝓤 H A) (mem : Memory → SProp 𝓤) (run : Routine → Fun 𝓤) (𝓣 : Tables 𝓤 H)
+    (known-counted : Triple 𝓤 (𝓣 .C #senders·counted) (Counted 𝓤 H A mem run)) (known-seen : Triple 𝓤 (𝓣 .C #senders·seen) (Seen 𝓤 H A mem run)) where
   find-walks : Walks 𝓤 H A find′.ended stayed (WpFn 𝓤 H (𝓣 .C) (𝓣 .Λ) code.function) (find′.clauses 𝓤 H A mem run)
-  find-walks = walked 𝓤 H A find′.ended stayed (find′.clauses 𝓤 H A mem run) (WpFn 𝓤 H (𝓣 .C) (𝓣 .Λ) code.function) (λ κs. (slice-vals, (uint-vals w64, tt))) (λ κs. (shr-slice-tells (named 0) (κs .0) T.the-row, (uint-tells w64, tt)))
+  find-walks = walked 𝓤 H A find′.ended stayed (find′.clauses 𝓤 H A mem run) (WpFn 𝓤 H (𝓣 .C) (𝓣 .Λ) code.function) (λ κs. (slice-vals, (uint-vals w64, tt)))
+      (λ κs. (shr-slice-tells (named 0) (κs .0) T.the-row, (uint-tells w64, tt)))
       (λ κs qs bounds a g are. via 𝓤 _ (fst∗ 𝓤 _ (emp 𝓤))
       (walk 𝓤 H A W mem run (κs .0) (qs .0) (a .0 .ptr .0) (a .0 .ptr .1) (a .0 .name) (a .0 .now) (a .1 .0) (are .0 .0 .1) (are .1 .0 .1) 𝓣 known-counted known-seen))
 
   find-meets : Meets 𝓤 H A find′.signature (WpFn 𝓤 H (𝓣 .C) (𝓣 .Λ) code.function) (find′.spec 𝓤 H A mem run)
-  find-meets = walk-meets 𝓤 H A find′.ended stayed W (goes-none-slice 𝓤 H A W 1 (0 ∷ []) tt (plain (λ _. T.the-row)) yes, (goes-none 𝓤 H A W 1 (λ _. u64) yes (λ κs x f. refl), tt)) (find′.clauses 𝓤 H A mem run)
+  find-meets = walk-meets 𝓤 H A find′.ended stayed W
+      (goes-none-slice 𝓤 H A W 1 (0 ∷ []) tt (plain (λ _. T.the-row)) yes, (goes-none 𝓤 H A W 1 (λ _. u64) yes (λ κs x f. refl), tt)) (find′.clauses 𝓤 H A mem run)
       (WpFn 𝓤 H (𝓣 .C) (𝓣 .Λ) code.function) (WpFn-mono 𝓤 H (W .laws) 𝓣 code.function) find-walks
 
 pub find-spec : {M : Type 1} → stated.statement M

@@ -2,7 +2,7 @@
 -- a turn takes one record out of the row, hands it to `kept`, and puts back what that gives.
 -- Assumes nothing.
 use mathlib.Core.Path.{_≡_, refl, sym, _∙_, ap, subst}
-use Prim.Native.Nat.{ℕ, zero, suc, _+_, _*_, _<_, _≤_, _^_}
+use Prim.Native.Nat.{ℕ, zero, suc, _+_, _*_, _<_, _^_}
 use native.Mathlib.Omega.{arith}
 use mathlib.Core.Bool.{Bool}
 use mathlib.Core.List.{List, [], _∷_}
@@ -20,39 +20,40 @@ use prog.Memory.{Memory}
 use prog.Routine.{Routine}
 use prog.Wp.{Heap, Out, Env, afterSeq, afterBlock, afterTurn, Calls, Loops, Wp, atReturn, WpFn, Tables}
 use ghost.Atoms.{Atoms}
-use contract.Monad.{Fun, fact}
+use contract.Monad.{Fun}
 use contract.Running.{givenOf, tables, tablesOf}
 use sound.Loop.{loop-rule}
 use sound.WpLaws.{fmOf, WpFn-mono}
-use types.Kit.{Given, Item, ‵, raw, _⊛_, later, ⋆, anyQ, atRet, _$_, _∵_, !, qed, by, move, keep, use0, use1, drop, split, join, rewrite, fsplit, fjoin, feqI, suffices, frame, await, done}
+use types.Kit.{Given, Item, ‵, _⊛_, ⋆, anyQ, atRet, _$_, _∵_, !, qed, by, move, keep, split, join, rewrite, fsplit, fjoin, feqI, suffices, frame, done}
 use types.Part.{whole, sub, look-in}
-use types.Run.{look, look-raw, store, store-raw, init, forget, stop, hop, fld, from, load, lit, unit-lit, of-opd, bin, and-then, no-more, assigns, assigns-last, land, stays, leaves-loop, returns, enter, alloc1, alloc0, params1, pass1, pass0, free1, free0, exec}
+use types.Run.{look, look-raw, store, store-raw, init, forget, stop, hop, fld, from, load, lit, unit-lit, of-opd, bin, and-then, no-more, assigns, assigns-last, stays, leaves-loop, returns, enter, alloc1, alloc0, params1, pass1, pass0, free1, free0, exec}
 use denote.Exit.{yes}
 use denote.RattleType.{owns}
 use denote.Shadow.{pureI}
-use denote.Laws.{Is, shows}
+use denote.Laws.{Is}
 use denote.Memory.{pointee}
 use denote.Plain.{uint-vals, uint-tells, uint-makes, uint-lawful}
 use denote.Ref.{RefT}
 use denote.Slice.{sliceTy, sliceVal, MutSlice, heres, Room, slice-vals, mut-slice-tells, at-slice, codedHoleys}
 use denote.Lend.{Held}
-use denote.Index.{place-is, row, elem-out, elem-put, opens-slice, closes-slice}
+use denote.Index.{place-is, row, opens-slice, closes-slice}
 use denote.Signature.{plain}
 use denote.Builtin.{u64, usize}
-use denote.Steps.{owned, heard, nothing, only}
+use denote.Steps.{owned, nothing, only}
 use denote.Struct.Laws as LL
 use denote.Triple.Statement.{Triple}
-use denote.Triple.Call.{calls-at}
 use denote.Triple.Entry.{onEntry}
 use denote.Triple.Spec.{Meets, tripleOf}
 use denote.Triple.Table.{entered, cited}
 use denote.Triple.Walked.{says, Stays, stay-slice, stay-none, walkOf, goes-slice, goes-none, Walks, ends-at, walked, walk-meets}
 use Rattle.senders.specs.declared.SenderRecord.{SenderRecord}
-use Rattle.senders.specs.Records.{freeRecord, kept}
+use Rattle.senders.specs.Records.{kept}
 use Rattle.senders.specs.Senders as S
 use Rattle.senders.specs.Walks.{counted}
 use Rattle.senders.proofs.Turns.{at, cleared, cleared-is}
 use Rattle.senders.proofs.Walks.{counted-within, counted-64}
+use Rattle.senders.proofs.Steps.{local, sets, keeps, calls-value}
+use Rattle.senders.proofs.Rows.{record-told, record-typed, record-out, record-put}
 use Rattle.senders.proofs.Calls.{Counted, to-counted, goes-counted, gives-counted, Kept, to-kept, goes-kept, gives-kept}
 use Rattle.senders.proofs.SenderRecord as T
 use Rattle.senders.proofs.SenderRecord.Laws as T′
@@ -80,11 +81,8 @@ entry = T′.mir
 abbrev slice : Ty
 slice = sliceTy (tyRef (named 0) mut (pointee (T.the-row .written)))
 
--- a record as a machine value
-abbrev mach : SenderRecord → Val
-mach = T′.lowered
-
-module _ {M : Type 1} (𝓤 : URA M) (H : Heap 𝓤) (A : Atoms 𝓤) (W : Given 𝓤 H A) (mem : Memory → SProp 𝓤) (run : Routine → Fun 𝓤) (κ : Lft) (q : Share) (b o : ℕ) (γ : GName) (xs : List SenderRecord) (s : ℕ) (gn : Room T.the-row (length xs)) (gs : s < 2 ^ 64) where
+module _ {M : Type 1} (𝓤 : URA M) (H : Heap 𝓤) (A : Atoms 𝓤) (W : Given 𝓤 H A) (mem : Memory → SProp 𝓤) (run : Routine → Fun 𝓤) (κ : Lft) (q : Share) (b o : ℕ)
+    (γ : GName) (xs : List SenderRecord) (s : ℕ) (gn : Room T.the-row (length xs)) (gs : s < 2 ^ 64) where
   abbrev n : ℕ
   n = counted (length xs)
 
@@ -111,13 +109,16 @@ module _ {M : Type 1} (𝓤 : URA M) (H : Heap 𝓤) (A : Atoms 𝓤) (W : Given
       → ent 𝓤 (⋆ 𝓤 H A (‵ (fobs γ (codedHoleys T.the-row .code (heres T.the-row zs))) ∷ ‵ (fbor κ (Held T.the-row (length zs) b o γ)) ∷ ‵ (flft κ q) ∷ [])) (Post vunit)
   exits zs l e =
       qed W (‵ (fobs γ (codedHoleys T.the-row .code (heres T.the-row zs))) ∷ ‵ (fbor κ (Held T.the-row (length zs) b o γ)) ∷ ‵ (flft κ q) ∷ []) ∵
-      suffices ! _ (ends-at 𝓤 H A forget′.ended stayed (forget′.clauses 𝓤 H A mem run) W (((κ, tt), (q, tt), tt, a, vals), tt) vunit tt (zs, (tt, tt)) (l, (tt, tt))) $ says ! e $
+      suffices ! _ (ends-at 𝓤 H A forget′.ended stayed (forget′.clauses 𝓤 H A mem run) W (((κ, tt), (q, tt), tt, a, vals), tt) vunit tt (zs, (tt, tt)) (l, (tt, tt))) $
+      says ! e $
       nothing ! $ move ! (3 ∷ 0 ∷ []) $ join ! $ frame ! $
-      fjoin ! $ pureI ! (at-slice T.the-row (x zs) (here ∷ [])) (tt, (tt, tt)) (ap (λ (m : ℕ). sliceVal (b, o) m ∷ []) (sym l), subst (Room T.the-row) (sym l) gn) $ fjoin ! $
+      fjoin ! $ pureI ! (at-slice T.the-row (x zs) (here ∷ [])) (tt, (tt, tt)) (ap (λ (m : ℕ). sliceVal (b, o) m ∷ []) (sym l), subst (Room T.the-row) (sym l) gn) $
+      fjoin ! $
       nothing ! $ owned ! u64 (Is u64) (uint-makes 𝓤 H A W w64) s _ (refl, gs) $ fjoin ! $ move ! (1 ∷ 0 ∷ []) $ fjoin ! $
       feqI ! (List Val) (vunit ∷ []) (vunit ∷ []) refl $ move ! (1 ∷ 0 ∷ []) $ done !
 
-  module _ (𝓣 : Tables 𝓤 H) (known-counted : Triple 𝓤 (𝓣 .C #senders·counted) (Counted 𝓤 H A mem run)) (known-kept : Triple 𝓤 (𝓣 .C #senders·kept) (Kept 𝓤 H A mem run)) where
+  module _ (𝓣 : Tables 𝓤 H) (known-counted : Triple 𝓤 (𝓣 .C #senders·counted) (Counted 𝓤 H A mem run))
+      (known-kept : Triple 𝓤 (𝓣 .C #senders·kept) (Kept 𝓤 H A mem run)) where
     abbrev C : Calls 𝓤 H
     C = 𝓣 .C
 
@@ -126,19 +127,23 @@ module _ {M : Type 1} (𝓤 : URA M) (H : Heap 𝓤) (A : Atoms 𝓤) (W : Given
 
     module _ (l₀ l₁ l₂ l₃ l₄ l₅ l₆ l₇ l₈ l₉ l₁₀ l₁₁ l₁₂ : ℕ) where
       abbrev En : Env 𝓤 H
-      En = (tyUnit, l₀) ∷ (slice, l₁) ∷ (word, l₂) ∷ (word, l₃) ∷ (word, l₄) ∷ (word, l₅) ∷ (tyBool, l₆) ∷ (entry, l₇) ∷ (word, l₈) ∷ (tyPtr, l₉) ∷ (entry, l₁₀) ∷ (word, l₁₁) ∷ (tyPtr, l₁₂) ∷ []
+      En = (tyUnit, l₀) ∷ (slice, l₁) ∷ (word, l₂) ∷ (word, l₃) ∷ (word, l₄) ∷ (word, l₅) ∷ (tyBool, l₆) ∷ (entry, l₇) ∷ (word, l₈) ∷ (tyPtr, l₉) ∷ (entry, l₁₀)
+          ∷ (word, l₁₁) ∷ (tyPtr, l₁₂) ∷ []
 
       -- what no turn touches: the parameters' locals, the result's, and the open borrow
       abbrev Frame : List (Item 𝓤)
-      Frame = ‵ (fat fullShare slice l₁ 0 here) ∷ ‵ (fat fullShare word l₂ 0 (vint w64 s)) ∷ ‵ (fat fullShare word l₃ 0 (vint w64 n)) ∷ ‵ (froom tyUnit l₀ 0) ∷ ‵ (froom word l₅ 0)
-          ∷ ‵ (fobor κ q (Held T.the-row (length xs) b o γ)) ∷ ‵ (fobs γ (codedHoleys T.the-row .code (heres T.the-row xs))) ∷ ‵ (fauth γ (codedHoleys T.the-row .code (heres T.the-row xs)))
+      Frame = ‵ (fat fullShare slice l₁ 0 here) ∷ ‵ (fat fullShare word l₂ 0 (vint w64 s)) ∷ ‵ (fat fullShare word l₃ 0 (vint w64 n)) ∷ ‵ (froom tyUnit l₀ 0)
+          ∷ ‵ (froom word l₅ 0)
+          ∷ ‵ (fobor κ q (Held T.the-row (length xs) b o γ)) ∷ ‵ (fobs γ (codedHoleys T.the-row .code (heres T.the-row xs)))
+          ∷ ‵ (fauth γ (codedHoleys T.the-row .code (heres T.the-row xs)))
           ∷ ‵ (fdies tyUnit l₀) ∷ ‵ (fdies slice l₁) ∷ ‵ (fdies word l₂) ∷ ‵ (fdies word l₃) ∷ ‵ (fdies word l₄) ∷ ‵ (fdies word l₅) ∷ ‵ (fdies tyBool l₆)
           ∷ ‵ (fdies entry l₇) ∷ ‵ (fdies word l₈) ∷ ‵ (fdies tyPtr l₉) ∷ ‵ (fdies entry l₁₀) ∷ ‵ (fdies word l₁₁) ∷ ‵ (fdies tyPtr l₁₂) ∷ []
 
       -- before place i, where the list is ys
       abbrev At : ℕ → List SenderRecord → List (Item 𝓤)
       At i ys = ‵ (row T.the-row fullShare ys b o) ∷ ‵ (fat fullShare word l₄ 0 (vint w64 i))
-          ∷ ‵ (froom tyBool l₆ 0) ∷ ‵ (froom entry l₇ 0) ∷ ‵ (froom word l₈ 0) ∷ ‵ (froom tyPtr l₉ 0) ∷ ‵ (froom entry l₁₀ 0) ∷ ‵ (froom word l₁₁ 0) ∷ ‵ (froom tyPtr l₁₂ 0) ∷ Frame
+          ∷ ‵ (froom tyBool l₆ 0) ∷ ‵ (froom entry l₇ 0) ∷ ‵ (froom word l₈ 0) ∷ ‵ (froom tyPtr l₉ 0) ∷ ‵ (froom entry l₁₀ 0) ∷ ‵ (froom word l₁₁ 0)
+          ∷ ‵ (froom tyPtr l₁₂ 0) ∷ Frame
 
       -- with t turns left
       abbrev Facts : ℕ → ℕ → List SenderRecord → Type 0
@@ -160,29 +165,27 @@ module _ {M : Type 1} (𝓤 : URA M) (H : Heap 𝓤) (A : Atoms 𝓤) (W : Given
       unfolding afterTurn
       more i ys X small len k =
           qed W (At i ys) ∵ exec ! C Λ En pieces.turn-1 (anyQ (afterTurn 𝓤 H X Left)) $
-          assigns ! (bin ! (load ! (from ! (stop !)) (look ! 1 refl)) (load ! (from ! (stop !)) (look ! 11 refl)) tt) (from ! (stop !)) (init ! 2 refl (tt, tt)) $
+          sets ! (bin ! (local ! 1 refl) (local ! 11 refl) tt) (init ! 2 refl (tt, tt)) $
           rewrite ! 2 (λ (t : Bool). ‵ (fat fullShare tyBool l₆ 0 (vbool t))) (lt-ltb i n small) refl $
-          stays ! (load ! (from ! (stop !)) (look ! 2 refl)) $
-          assigns ! (bin ! (load ! (from ! (stop !)) (look ! 1 refl)) (lit ! tt) (record { fits = far })) (from ! (stop !)) (init ! 4 refl (tt, record { fits = far })) $
-          assigns ! (bin ! (load ! (from ! (fld ! refl (stop !))) (look-in ! 9 (sub ! 0 refl (whole !)))) (load ! (from ! (stop !)) (look ! 4 refl)) tt) (from ! (stop !)) (init ! 5 refl (tt, tt)) $
+          stays ! (local ! 2 refl) $
+          sets ! (bin ! (local ! 1 refl) (lit ! tt) (record { fits = far })) (init ! 4 refl (tt, record { fits = far })) $
+          sets ! (bin ! (load ! (from ! (fld ! refl (stop !))) (look-in ! 9 (sub ! 0 refl (whole !)))) (local ! 4 refl) tt) (init ! 5 refl (tt, tt)) $
           rewrite ! 5 (λ (p : ℕ). ‵ (fat fullShare tyPtr l₉ 0 (vptr b p))) (sym (place-is 16 o i)) refl $
-          elem-out ! T.the-row (Is T.the-row) (shows 𝓤 H A T.the-row) (LL.vals T.the-type T′.the-laws) (LL.tells T.the-type T′.the-laws) fullShare ys i freeRecord b o within (λ is.
+          record-out ! fullShare ys i b o within (λ is.
           -- [the record; what it owns; the others; _4; _6; _7; _8; _9; _10; _11; _12; _1; _2; _3; _0; _5; …]
-          assigns ! (of-opd ! (load ! (from ! (hop ! (look ! 7 refl) (stop !))) (look-raw ! 0 refl))) (from ! (stop !)) (init ! 8 refl (LL.lawful T.the-type T′.the-laws 𝓤 H A W .typed _ _ is .0)) $
-          use0 W (raw (Kept 𝓤 H A mem run .pre (to-kept 𝓤 H A mem run s r))) (goes-kept 𝓤 H A mem run W s r gs is) $
-          calls-at ! (fmOf 𝓤 H (W .laws) 𝓣) (Kept 𝓤 H A mem run) known-kept (to-kept 𝓤 H A mem run s r) (and-then ! (load ! (from ! (stop !)) (look ! 9 refl)) (and-then ! (load ! (from ! (stop !)) (look ! 13 refl)) (no-more !))) (λ v.
-          use1 W (later (raw (fact 𝓤 (Is T.the-row y (v ∷ []))))) (gives-kept 𝓤 H A mem run W s r v) $ await ! tt $ heard ! (Is T.the-row y (v ∷ [])) (λ isy.
-          land ! (from ! (stop !)) (init ! 5 refl (LL.lawful T.the-type T′.the-laws 𝓤 H A W .typed _ _ isy .0)) $
+          sets ! (of-opd ! (load ! (from ! (hop ! (look ! 7 refl) (stop !))) (look-raw ! 0 refl))) (init ! 8 refl (record-typed W _ _ is)) $
+          calls-value ! (fmOf 𝓤 H (W .laws) 𝓣) (Kept 𝓤 H A mem run) known-kept (to-kept 𝓤 H A mem run s r) (goes-kept 𝓤 H A mem run W s r gs is)
+          (and-then ! (local ! 9 refl) (and-then ! (local ! 13 refl) (no-more !))) (λ (v : Val). Is T.the-row y (v ∷ [])) (gives-kept 𝓤 H A mem run W s r) (λ v isy.
+          keeps ! (init ! 5 refl (record-typed W _ _ isy)) $
           rewrite ! 5 (λ (u : Val). ‵ (fat fullShare entry l₇ 0 u)) (ap only (LL.tells T.the-type T′.the-laws y (v ∷ []) isy)) refl $
-          assigns ! (bin ! (load ! (from ! (stop !)) (look ! 3 refl)) (lit ! tt) (record { fits = far })) (from ! (stop !)) (init ! 9 refl (tt, record { fits = far })) $
-          assigns ! (bin ! (load ! (from ! (fld ! refl (stop !))) (look-in ! 11 (sub ! 0 refl (whole !)))) (load ! (from ! (stop !)) (look ! 9 refl)) tt) (from ! (stop !)) (init ! 10 refl (tt, tt)) $
+          sets ! (bin ! (local ! 3 refl) (lit ! tt) (record { fits = far })) (init ! 9 refl (tt, record { fits = far })) $
+          sets ! (bin ! (load ! (from ! (fld ! refl (stop !))) (look-in ! 11 (sub ! 0 refl (whole !)))) (local ! 9 refl) tt) (init ! 10 refl (tt, tt)) $
           rewrite ! 10 (λ (p : ℕ). ‵ (fat fullShare tyPtr l₁₂ 0 (vptr b p))) (sym (place-is 16 o i)) refl $
-          assigns ! (of-opd ! (load ! (from ! (stop !)) (look ! 5 refl))) (from ! (hop ! (look ! 10 refl) (stop !))) (store-raw ! 0 refl (LL.lawful T.the-type T′.the-laws 𝓤 H A W .typed y _ (told v isy) .0)) $
-          move ! (1 ∷ []) $ drop ! $ owned ! T.the-row (Is T.the-row) (LL.makes T.the-type T′.the-plain 𝓤 H A) y (mach y ∷ []) (told v isy) $ move ! (1 ∷ 0 ∷ []) $
-          elem-put ! T.the-row fullShare ys i y (mach y ∷ []) b o within $
-          assigns-last ! (bin ! (load ! (from ! (stop !)) (look ! 1 refl)) (lit ! tt) (record { fits = next })) (from ! (stop !)) (store ! 1 refl (tt, record { fits = next })) $
+          assigns ! (of-opd ! (local ! 5 refl)) (from ! (hop ! (look ! 10 refl) (stop !))) (store-raw ! 0 refl (record-typed W y _ (record-told y v isy))) $
+          record-put ! fullShare ys i b o within y (record-told y v isy) $
+          assigns-last ! (bin ! (local ! 1 refl) (lit ! tt) (record { fits = next })) (from ! (stop !)) (store ! 1 refl (tt, record { fits = next })) $
           forget ! 2 refl $ forget ! 3 refl $ forget ! 4 refl $ forget ! 5 refl $ forget ! 6 refl $ forget ! 7 refl $ forget ! 8 refl $
-          rewrite ! 1 (λ (j : ℕ). ‵ (fat fullShare word l₄ 0 (vint w64 j))) (omega arith) refl $ by ! k)))
+          rewrite ! 1 (λ (j : ℕ). ‵ (fat fullShare word l₄ 0 (vint w64 j))) (omega arith) refl $ by ! k))
         where
           r : SenderRecord
           r = at ys i
@@ -199,33 +202,35 @@ module _ {M : Type 1} (𝓤 : URA M) (H : Heap 𝓤) (A : Atoms 𝓤) (W : Given
           next : i + 1 < 2 ^ 64
           next = omega (arith, small, counted-64 (length xs))
 
-          told : (v : Val) → Is T.the-row y (v ∷ []) → Is T.the-row y (mach y ∷ [])
-          told v isy = subst (Is T.the-row y) (LL.tells T.the-type T′.the-laws y (v ∷ []) isy) isy
-
       -- the turn that leaves the loop, and the rest of the body: the borrow is closed
-      ends : (ys : List SenderRecord) (X : SProp 𝓤) → length ys ≡ length xs → ys ≡ S.forget s xs → ent 𝓤 (⋆ 𝓤 H A (At n ys)) (Wp 𝓤 H C Λ En pieces.turn-1 (afterTurn 𝓤 H X Left))
+      ends : (ys : List SenderRecord) (X : SProp 𝓤) → length ys ≡ length xs → ys ≡ S.forget s xs
+          → ent 𝓤 (⋆ 𝓤 H A (At n ys)) (Wp 𝓤 H C Λ En pieces.turn-1 (afterTurn 𝓤 H X Left))
       unfolding afterTurn
       ends ys X len e =
           qed W (At n ys) ∵ exec ! C Λ En pieces.turn-1 (anyQ (afterTurn 𝓤 H X Left)) $
-          assigns ! (bin ! (load ! (from ! (stop !)) (look ! 1 refl)) (load ! (from ! (stop !)) (look ! 11 refl)) tt) (from ! (stop !)) (init ! 2 refl (tt, tt)) $
+          sets ! (bin ! (local ! 1 refl) (local ! 11 refl) tt) (init ! 2 refl (tt, tt)) $
           rewrite ! 2 (λ (t : Bool). ‵ (fat fullShare tyBool l₆ 0 (vbool t))) (le-ltb n n (omega arith)) refl $
-          leaves-loop ! (load ! (from ! (stop !)) (look ! 2 refl)) $ exec ! C Λ En pieces.t-5 (atRet En Post) $
-          assigns ! (of-opd ! (unit-lit !)) (from ! (stop !)) (init ! 12 refl (tt, tt)) $
+          leaves-loop ! (local ! 2 refl) $ exec ! C Λ En pieces.t-5 (atRet En Post) $
+          sets ! (of-opd ! (unit-lit !)) (init ! 12 refl (tt, tt)) $
           move ! (0 ∷ 14 ∷ 15 ∷ 16 ∷ []) $ closes-slice ! tt T.the-row xs ys len b o $
           -- [obs; the borrow; the token; _4; _6; _7; _8; _9; _10; _11; _12; _1; _2; _3; _0; _5; and that each local dies]
           returns ! (look ! 14 refl) $ forget ! 3 refl $ forget ! 4 refl $ forget ! 11 refl $ forget ! 12 refl $ forget ! 13 refl $ forget ! 14 refl $
-          move ! (14 ∷ 16 ∷ []) $ free1 ! $ move ! (11 ∷ 15 ∷ []) $ free1 ! $ move ! (11 ∷ 14 ∷ []) $ free1 ! $ move ! (11 ∷ 13 ∷ []) $ free1 ! $ move ! (3 ∷ 12 ∷ []) $ free1 ! $
-          move ! (10 ∷ 11 ∷ []) $ free1 ! $ move ! (3 ∷ 10 ∷ []) $ free1 ! $ move ! (3 ∷ 9 ∷ []) $ free1 ! $ move ! (3 ∷ 8 ∷ []) $ free1 ! $ move ! (3 ∷ 7 ∷ []) $ free1 ! $
+          move ! (14 ∷ 16 ∷ []) $ free1 ! $ move ! (11 ∷ 15 ∷ []) $ free1 ! $ move ! (11 ∷ 14 ∷ []) $ free1 ! $ move ! (11 ∷ 13 ∷ []) $ free1 ! $ move ! (3 ∷ 12 ∷ []) $
+          free1 ! $
+          move ! (10 ∷ 11 ∷ []) $ free1 ! $ move ! (3 ∷ 10 ∷ []) $ free1 ! $ move ! (3 ∷ 9 ∷ []) $ free1 ! $ move ! (3 ∷ 8 ∷ []) $ free1 ! $ move ! (3 ∷ 7 ∷ []) $
+          free1 ! $
           move ! (3 ∷ 6 ∷ []) $ free1 ! $ move ! (3 ∷ 5 ∷ []) $ free1 ! $ move ! (3 ∷ 4 ∷ []) $ free1 ! $ free0 ! $ keep ! (0 ∷ 1 ∷ 2 ∷ []) $ by ! (exits ys len e)
 
       held : (t i : ℕ) (ys : List SenderRecord) → Facts t i ys → ent 𝓤 (⋆ 𝓤 H A (At i ys)) (Inv t)
       held t i ys f =
           via 𝓤 (guard 𝓤 (Facts t i ys) (⋆ 𝓤 H A (At i ys))) (guardI 𝓤 (Facts t i ys) (⋆ 𝓤 H A (At i ys)) f)
-          (via 𝓤 (ex 𝓤 (λ (zs : List SenderRecord). guard 𝓤 (Facts t i zs) (⋆ 𝓤 H A (At i zs)))) (exI 𝓤 (λ (zs : List SenderRecord). guard 𝓤 (Facts t i zs) (⋆ 𝓤 H A (At i zs))) ys)
+          (via 𝓤 (ex 𝓤 (λ (zs : List SenderRecord). guard 𝓤 (Facts t i zs) (⋆ 𝓤 H A (At i zs))))
+          (exI 𝓤 (λ (zs : List SenderRecord). guard 𝓤 (Facts t i zs) (⋆ 𝓤 H A (At i zs))) ys)
           (exI 𝓤 (λ (j : ℕ). ex 𝓤 (λ (zs : List SenderRecord). guard 𝓤 (Facts t j zs) (⋆ 𝓤 H A (At j zs)))) i))
 
       turn-at : (t i : ℕ) (ys : List SenderRecord) → Facts t i ys → ent 𝓤 (⋆ 𝓤 H A (At i ys)) (Wp 𝓤 H C Λ En pieces.turn-1 (afterTurn 𝓤 H (Below t) Left))
-      turn-at zero i ys f = subst (λ (j : ℕ). ent 𝓤 (⋆ 𝓤 H A (At j ys)) (Wp 𝓤 H C Λ En pieces.turn-1 (afterTurn 𝓤 H (Below 0) Left))) (omega (arith, f .0)) (ends ys (Below 0) (f .1 .0) (f .1 .1))
+      turn-at zero i ys f = subst (λ (j : ℕ). ent 𝓤 (⋆ 𝓤 H A (At j ys)) (Wp 𝓤 H C Λ En pieces.turn-1 (afterTurn 𝓤 H (Below 0) Left))) (omega (arith, f .0))
+          (ends ys (Below 0) (f .1 .0) (f .1 .1))
       turn-at (suc t) i ys f =
           more i ys (Below (suc t)) (omega (arith, f .0)) (f .1 .0)
           (via 𝓤 (Inv t) (held t (suc i) (set ys i (kept s (at ys i))) (omega (arith, f .0), (length-set ys i (kept s (at ys i)) ∙ f .1 .0, f .1 .1)))
@@ -242,27 +247,33 @@ module _ {M : Type 1} (𝓤 : URA M) (H : Heap 𝓤) (A : Atoms 𝓤) (W : Given
     walk : ent 𝓤 (onEntry 𝓤 H A forget′.signature (κ, tt) (q, tt) a vals) (WpFn 𝓤 H C Λ code.function (here ∷ vint w64 s ∷ []) Post)
     walk =
         qed W ((‵ (flft κ q) ⊛ ‵ ftrue) ∷ ‵ (owns (MutSlice (named 0) κ T.the-row ∷ u64 ∷ []) a vals) ∷ []) ∵ enter ! C Λ code.function (here ∷ vint w64 s ∷ []) _ $
-        alloc1 ! (λ l₀. alloc1 ! (λ l₁. alloc1 ! (λ l₂. alloc1 ! (λ l₃. alloc1 ! (λ l₄. alloc1 ! (λ l₅. alloc1 ! (λ l₆. alloc1 ! (λ l₇. alloc1 ! (λ l₈. alloc1 ! (λ l₉. alloc1 ! (λ l₁₀. alloc1 ! (λ l₁₁. alloc1 ! (λ l₁₂. alloc0 ! $ params1 ! $
+        alloc1 ! (λ l₀. alloc1 ! (λ l₁. alloc1 !
+        (λ l₂. alloc1 ! (λ l₃. alloc1 !
+        (λ l₄. alloc1 ! (λ l₅. alloc1 ! (λ l₆. alloc1 ! (λ l₇. alloc1 ! (λ l₈. alloc1 ! (λ l₉. alloc1 ! (λ l₁₀. alloc1 ! (λ l₁₁. alloc1 ! (λ l₁₂. alloc0 ! $
+        params1 ! $
         pass1 ! (init ! 22 refl (tt, (tt, (record { fits = gn .0 }, tt)))) $ pass1 ! (init ! 20 refl (tt, record { fits = gs })) $ pass0 ! $
-        assigns ! (of-opd ! (load ! (from ! (fld ! refl (stop !))) (look-in ! 22 (sub ! 1 refl (whole !))))) (from ! (stop !)) (init ! 14 refl (tt, record { fits = gn .0 })) $
-        use0 W (raw (Counted 𝓤 H A mem run .pre (to-counted 𝓤 H A mem run (length xs)))) (goes-counted 𝓤 H A mem run W (length xs) (gn .0)) $
-        calls-at ! (fmOf 𝓤 H (W .laws) 𝓣) (Counted 𝓤 H A mem run) known-counted (to-counted 𝓤 H A mem run (length xs)) (and-then ! (load ! (from ! (stop !)) (look ! 15 refl)) (no-more !)) (λ v.
-        use1 W (later (raw (fact 𝓤 (Is usize n (v ∷ []))))) (gives-counted 𝓤 H A mem run W (length xs) v) $ await ! tt $ heard ! (Is usize n (v ∷ [])) (λ is.
-        land ! (from ! (stop !)) (init ! 18 refl (uint-lawful 𝓤 H A W w64 .typed n _ is .0)) $ rewrite ! 18 (λ (u : Val). ‵ (fat fullShare word l₃ 0 u)) (ap only (is .0)) refl $
-        assigns ! (of-opd ! (lit ! tt)) (from ! (stop !)) (init ! 16 refl (tt, record { fits = lit< tt })) $ forget ! 14 refl $
+        sets ! (of-opd ! (load ! (from ! (fld ! refl (stop !))) (look-in ! 22 (sub ! 1 refl (whole !))))) (init ! 14 refl (tt, record { fits = gn .0 })) $
+        calls-value ! (fmOf 𝓤 H (W .laws) 𝓣) (Counted 𝓤 H A mem run) known-counted (to-counted 𝓤 H A mem run (length xs))
+        (goes-counted 𝓤 H A mem run W (length xs) (gn .0))
+        (and-then ! (local ! 15 refl) (no-more !)) (λ (v : Val). Is usize n (v ∷ [])) (gives-counted 𝓤 H A mem run W (length xs)) (λ v is.
+        keeps ! (init ! 18 refl (uint-lawful 𝓤 H A W w64 .typed n _ is .0)) $ rewrite ! 18 (λ (u : Val). ‵ (fat fullShare word l₃ 0 u)) (ap only (is .0)) refl $
+        sets ! (of-opd ! (lit ! tt)) (init ! 16 refl (tt, record { fits = lit< tt })) $ forget ! 14 refl $
         -- [_12; …; _0; …; the token; what the list and the sender own]: the borrow is opened
         move ! (27 ∷ []) $ fsplit ! $ fsplit ! $ move ! (1 ∷ []) $ fsplit ! $ move ! (30 ∷ []) $ split ! $ move ! (2 ∷ 3 ∷ 0 ∷ []) $ opens-slice ! tt T.the-row xs b o $
         keep ! (0 ∷ 23 ∷ 19 ∷ 17 ∷ 15 ∷ 13 ∷ 11 ∷ 9 ∷ 7 ∷ 29 ∷ 27 ∷ 25 ∷ 31 ∷ 21 ∷ 1 ∷ 2 ∷ 3 ∷ 32 ∷ 30 ∷ 28 ∷ 26 ∷ 24 ∷ 22 ∷ 20 ∷ 18 ∷ 16 ∷ 14 ∷ 12 ∷ 10 ∷ 8 ∷ []) $
-        by ! (loops l₀ l₁ l₂ l₃ l₄ l₅ l₆ l₇ l₈ l₉ l₁₀ l₁₁ l₁₂))))))))))))))))
+        by ! (loops l₀ l₁ l₂ l₃ l₄ l₅ l₆ l₇ l₈ l₉ l₁₀ l₁₁ l₁₂)))))))))))))))
 
-module _ {M : Type 1} (𝓤 : URA M) (H : Heap 𝓤) (A : Atoms 𝓤) (W : Given 𝓤 H A) (mem : Memory → SProp 𝓤) (run : Routine → Fun 𝓤) (𝓣 : Tables 𝓤 H) (known-counted : Triple 𝓤 (𝓣 .C #senders·counted) (Counted 𝓤 H A mem run)) (known-kept : Triple 𝓤 (𝓣 .C #senders·kept) (Kept 𝓤 H A mem run)) where
+module _ {M : Type 1} (𝓤 : URA M) (H : Heap 𝓤) (A : Atoms 𝓤) (W : Given 𝓤 H A) (mem : Memory → SProp 𝓤) (run : Routine → Fun 𝓤) (𝓣 : Tables 𝓤 H)
+    (known-counted : Triple 𝓤 (𝓣 .C #senders·counted) (Counted 𝓤 H A mem run)) (known-kept : Triple 𝓤 (𝓣 .C #senders·kept) (Kept 𝓤 H A mem run)) where
   forget-walks : Walks 𝓤 H A forget′.ended stayed (WpFn 𝓤 H (𝓣 .C) (𝓣 .Λ) code.function) (forget′.clauses 𝓤 H A mem run)
-  forget-walks = walked 𝓤 H A forget′.ended stayed (forget′.clauses 𝓤 H A mem run) (WpFn 𝓤 H (𝓣 .C) (𝓣 .Λ) code.function) (λ κs. (slice-vals, (uint-vals w64, tt))) (λ κs. (mut-slice-tells (named 0) (κs .0) T.the-row, (uint-tells w64, tt)))
+  forget-walks = walked 𝓤 H A forget′.ended stayed (forget′.clauses 𝓤 H A mem run) (WpFn 𝓤 H (𝓣 .C) (𝓣 .Λ) code.function) (λ κs. (slice-vals, (uint-vals w64, tt)))
+      (λ κs. (mut-slice-tells (named 0) (κs .0) T.the-row, (uint-tells w64, tt)))
       (λ κs qs bounds a g are. via 𝓤 _ (fst∗ 𝓤 _ (emp 𝓤))
       (walk 𝓤 H A W mem run (κs .0) (qs .0) (a .0 .ptr .0) (a .0 .ptr .1) (a .0 .name) (a .0 .now) (a .1 .0) (are .0 .0 .1) (are .1 .0 .1) 𝓣 known-counted known-kept))
 
   forget-meets : Meets 𝓤 H A forget′.signature (WpFn 𝓤 H (𝓣 .C) (𝓣 .Λ) code.function) (forget′.spec 𝓤 H A mem run)
-  forget-meets = walk-meets 𝓤 H A forget′.ended stayed W (goes-slice 𝓤 H A W 1 0 tt (plain (λ _. T.the-row)), (goes-none 𝓤 H A W 1 (λ _. u64) yes (λ κs x f. refl), tt)) (forget′.clauses 𝓤 H A mem run)
+  forget-meets = walk-meets 𝓤 H A forget′.ended stayed W (goes-slice 𝓤 H A W 1 0 tt (plain (λ _. T.the-row)), (goes-none 𝓤 H A W 1 (λ _. u64) yes (λ κs x f. refl), tt))
+      (forget′.clauses 𝓤 H A mem run)
       (WpFn 𝓤 H (𝓣 .C) (𝓣 .Λ) code.function) (WpFn-mono 𝓤 H (W .laws) 𝓣 code.function) forget-walks
 
 pub forget-spec : {M : Type 1} → stated.statement M

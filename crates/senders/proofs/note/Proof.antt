@@ -22,40 +22,41 @@ use prog.Memory.{Memory}
 use prog.Routine.{Routine}
 use prog.Wp.{Heap, Out, Env, afterSeq, afterBlock, afterTurn, Calls, Loops, Wp, atReturn, WpFn, Tables}
 use ghost.Atoms.{Atoms}
-use contract.Monad.{Fun, fact}
+use contract.Monad.{Fun}
 use contract.Running.{givenOf, tables, tablesOf}
 use sound.Loop.{loop-rule}
 use sound.WpLaws.{fmOf, WpFn-mono}
-use types.Kit.{Given, Item, ‵, raw, _⊛_, later, ⋆, anyQ, atRet, _$_, _∵_, !, qed, by, move, keep, use0, use1, drop, split, join, rewrite, fsplit, fjoin, suffices, frame, await, done}
+use types.Kit.{Given, Item, ‵, _⊛_, ⋆, anyQ, atRet, _$_, _∵_, !, qed, by, move, keep, split, join, rewrite, fsplit, fjoin, suffices, frame, done}
 use types.Part.{whole, sub, look-in, agg}
-use types.Run.{look, look-raw, store, store-raw, init, forget, stop, hop, fld, from, load, lit, false-lit, of-opd, bin, and-then, no-more, assigns, assigns-last, land, stays, leaves-loop, first, branches, skips, returns, enter, alloc1, alloc0, params1, pass1, pass0, free1, free0, exec}
+use types.Run.{look, look-raw, store, store-raw, init, forget, stop, hop, fld, from, load, lit, false-lit, of-opd, bin, and-then, no-more, assigns-last, stays, leaves-loop, first, branches, skips, returns, enter, alloc1, alloc0, params1, pass1, pass0, free1, free0, exec}
 use denote.Exit.{yes}
 use denote.RattleType.{owns}
 use denote.Shadow.{pureI}
-use denote.Laws.{Is, shows}
+use denote.Laws.{Is}
 use denote.Memory.{pointee}
 use denote.Plain.{uint-vals, uint-tells, uint-makes, uint-lawful}
 use denote.Ref.{RefT}
 use denote.Slice.{sliceTy, sliceVal, MutSlice, heres, Room, slice-vals, mut-slice-tells, at-slice, codedHoleys}
 use denote.Lend.{Held}
-use denote.Index.{place-is, row, elem-out, elem-back, elem-put, opens-slice, closes-slice}
+use denote.Index.{place-is, row, opens-slice, closes-slice}
 use denote.Signature.{plain}
 use denote.Builtin.{u32, u64, usize}
-use denote.Steps.{owned, heard, nothing, only}
+use denote.Steps.{owned, nothing, only}
 use denote.Struct.Laws as LL
 use denote.Triple.Statement.{Triple}
-use denote.Triple.Call.{calls-at}
 use denote.Triple.Entry.{onEntry}
 use denote.Triple.Spec.{Meets, tripleOf}
 use denote.Triple.Table.{entered, cited}
 use denote.Triple.Walked.{says, Stays, stay-slice, stay-none, walkOf, goes-slice, goes-none, Walks, ends-at, walked, walk-meets}
 use Rattle.senders.specs.declared.{SenderRecord.SenderRecord, Found.Found, Noted.Noted}
-use Rattle.senders.specs.Records.{freeRecord, recordOf}
+use Rattle.senders.specs.Records.{recordOf}
 use Rattle.senders.specs.Senders as S
 use Rattle.senders.specs.Walks.{counted, nowhere, seen, found, notedBy}
 use Rattle.senders.proofs.Turns.{at, gathered, gathered-is}
 use Rattle.senders.proofs.Walks.{counted-within, counted-64, noted-answer, noted-list, noted-same}
-use Rattle.senders.proofs.Calls.{Counted, to-counted, goes-counted, gives-counted, Seen, to-seen, goes-seen, gives-seen, RecordOf, to-record-of, goes-record-of, gives-record-of, NotedBy, to-noted-by, goes-noted-by, gives-noted-by, nowhere-is, told}
+use Rattle.senders.proofs.Steps.{local, sets, keeps, calls-value}
+use Rattle.senders.proofs.Rows.{record-told, found-told, record-typed, found-typed, record-out, record-back, record-put}
+use Rattle.senders.proofs.Calls.{Counted, to-counted, goes-counted, gives-counted, Seen, to-seen, goes-seen, gives-seen, RecordOf, to-record-of, goes-record-of, gives-record-of, NotedBy, to-noted-by, goes-noted-by, gives-noted-by, nowhere-is}
 use Rattle.senders.proofs.SenderRecord as T
 use Rattle.senders.proofs.SenderRecord.Laws as T′
 use Rattle.senders.proofs.Found as F
@@ -109,7 +110,8 @@ fails : (t : Bool) → T (not t) → t ≡ false
 fails true h = absurd h
 fails false h = refl
 
-module _ {M : Type 1} (𝓤 : URA M) (H : Heap 𝓤) (A : Atoms 𝓤) (W : Given 𝓤 H A) (mem : Memory → SProp 𝓤) (run : Routine → Fun 𝓤) (κ : Lft) (q : Share) (b o : ℕ) (γ : GName) (xs : List SenderRecord) (s c : ℕ) (gn : Room T.the-row (length xs)) (gs : s < 2 ^ 64) (gc : c < 2 ^ 32) where
+module _ {M : Type 1} (𝓤 : URA M) (H : Heap 𝓤) (A : Atoms 𝓤) (W : Given 𝓤 H A) (mem : Memory → SProp 𝓤) (run : Routine → Fun 𝓤) (κ : Lft) (q : Share) (b o : ℕ)
+    (γ : GName) (xs : List SenderRecord) (s c : ℕ) (gn : Room T.the-row (length xs)) (gs : s < 2 ^ 64) (gc : c < 2 ^ 32) where
   abbrev n : ℕ
   n = counted (length xs)
 
@@ -136,13 +138,17 @@ module _ {M : Type 1} (𝓤 : URA M) (H : Heap 𝓤) (A : Atoms 𝓤) (W : Given
       → ent 𝓤 (⋆ 𝓤 H A (‵ (fobs γ (codedHoleys T.the-row .code (heres T.the-row zs))) ∷ ‵ (fbor κ (Held T.the-row (length zs) b o γ)) ∷ ‵ (flft κ q) ∷ [])) (Post v)
   exits zs r v l is e =
       qed W (‵ (fobs γ (codedHoleys T.the-row .code (heres T.the-row zs))) ∷ ‵ (fbor κ (Held T.the-row (length zs) b o γ)) ∷ ‵ (flft κ q) ∷ []) ∵
-      suffices ! _ (ends-at 𝓤 H A note′.ended stayed (note′.clauses 𝓤 H A mem run) W (((κ, tt), (q, tt), tt, a, vals), tt) v r (zs, (tt, (tt, tt))) (l, (tt, (tt, tt)))) $ says ! e $
+      suffices ! _ (ends-at 𝓤 H A note′.ended stayed (note′.clauses 𝓤 H A mem run) W (((κ, tt), (q, tt), tt, a, vals), tt) v r (zs, (tt, (tt, tt)))
+      (l, (tt, (tt, tt)))) $ says ! e $
       nothing ! $ move ! (3 ∷ 0 ∷ []) $ join ! $ frame ! $
-      fjoin ! $ pureI ! (at-slice T.the-row (x zs) (here ∷ [])) (tt, (tt, tt)) (ap (λ (m : ℕ). sliceVal (b, o) m ∷ []) (sym l), subst (Room T.the-row) (sym l) gn) $ fjoin ! $
-      nothing ! $ owned ! u32 (Is u32) (uint-makes 𝓤 H A W w32) c _ (refl, gc) $ fjoin ! $ owned ! u64 (Is u64) (uint-makes 𝓤 H A W w64) s _ (refl, gs) $ fjoin ! $ move ! (1 ∷ 0 ∷ []) $ fjoin ! $
+      fjoin ! $ pureI ! (at-slice T.the-row (x zs) (here ∷ [])) (tt, (tt, tt)) (ap (λ (m : ℕ). sliceVal (b, o) m ∷ []) (sym l), subst (Room T.the-row) (sym l) gn) $
+      fjoin ! $
+      nothing ! $ owned ! u32 (Is u32) (uint-makes 𝓤 H A W w32) c _ (refl, gc) $ fjoin ! $ owned ! u64 (Is u64) (uint-makes 𝓤 H A W w64) s _ (refl, gs) $ fjoin ! $
+      move ! (1 ∷ 0 ∷ []) $ fjoin ! $
       frame ! $ owned ! N.the-row (Is N.the-row) (LL.makes N.the-type N′.the-plain 𝓤 H A) r _ is $ done !
 
-  module _ (𝓣 : Tables 𝓤 H) (known-counted : Triple 𝓤 (𝓣 .C #senders·counted) (Counted 𝓤 H A mem run)) (known-seen : Triple 𝓤 (𝓣 .C #senders·seen) (Seen 𝓤 H A mem run)) (known-record-of : Triple 𝓤 (𝓣 .C #senders·record-of) (RecordOf 𝓤 H A mem run)) (known-noted-by : Triple 𝓤 (𝓣 .C #senders·noted-by) (NotedBy 𝓤 H A mem run)) where
+  module _ (𝓣 : Tables 𝓤 H) (known-counted : Triple 𝓤 (𝓣 .C #senders·counted) (Counted 𝓤 H A mem run)) (known-seen : Triple 𝓤 (𝓣 .C #senders·seen) (Seen 𝓤 H A mem run))
+      (known-record-of : Triple 𝓤 (𝓣 .C #senders·record-of) (RecordOf 𝓤 H A mem run)) (known-noted-by : Triple 𝓤 (𝓣 .C #senders·noted-by) (NotedBy 𝓤 H A mem run)) where
     abbrev C : Calls 𝓤 H
     C = 𝓣 .C
 
@@ -151,16 +157,21 @@ module _ {M : Type 1} (𝓤 : URA M) (H : Heap 𝓤) (A : Atoms 𝓤) (W : Given
 
     module _ (l₀ l₁ l₂ l₃ l₄ l₅ l₆ l₇ l₈ l₉ l₁₀ l₁₁ l₁₂ l₁₃ l₁₄ l₁₅ l₁₆ : ℕ) where
       abbrev En : Env 𝓤 H
-      En = (result, l₀) ∷ (slice, l₁) ∷ (word, l₂) ∷ (short, l₃) ∷ (word, l₄) ∷ (state, l₅) ∷ (word, l₆) ∷ (word, l₇) ∷ (word, l₈) ∷ (tyBool, l₉) ∷ (word, l₁₀) ∷ (tyPtr, l₁₁) ∷ (entry, l₁₂) ∷ (tyBool, l₁₃) ∷ (entry, l₁₄) ∷ (word, l₁₅) ∷ (tyPtr, l₁₆) ∷ []
+      En = (result, l₀) ∷ (slice, l₁) ∷ (word, l₂) ∷ (short, l₃) ∷ (word, l₄) ∷ (state, l₅) ∷ (word, l₆) ∷ (word, l₇) ∷ (word, l₈) ∷ (tyBool, l₉) ∷ (word, l₁₀)
+          ∷ (tyPtr, l₁₁) ∷ (entry, l₁₂) ∷ (tyBool, l₁₃) ∷ (entry, l₁₄) ∷ (word, l₁₅) ∷ (tyPtr, l₁₆) ∷ []
 
       -- what neither a turn nor the store touches: the parameters' locals, the result's, and the open borrow
       abbrev Behind : List (Item 𝓤)
-      Behind = ‵ (fobor κ q (Held T.the-row (length xs) b o γ)) ∷ ‵ (fobs γ (codedHoleys T.the-row .code (heres T.the-row xs))) ∷ ‵ (fauth γ (codedHoleys T.the-row .code (heres T.the-row xs)))
-          ∷ ‵ (fdies result l₀) ∷ ‵ (fdies slice l₁) ∷ ‵ (fdies word l₂) ∷ ‵ (fdies short l₃) ∷ ‵ (fdies word l₄) ∷ ‵ (fdies state l₅) ∷ ‵ (fdies word l₆) ∷ ‵ (fdies word l₇) ∷ ‵ (fdies word l₈)
-          ∷ ‵ (fdies tyBool l₉) ∷ ‵ (fdies word l₁₀) ∷ ‵ (fdies tyPtr l₁₁) ∷ ‵ (fdies entry l₁₂) ∷ ‵ (fdies tyBool l₁₃) ∷ ‵ (fdies entry l₁₄) ∷ ‵ (fdies word l₁₅) ∷ ‵ (fdies tyPtr l₁₆) ∷ []
+      Behind = ‵ (fobor κ q (Held T.the-row (length xs) b o γ)) ∷ ‵ (fobs γ (codedHoleys T.the-row .code (heres T.the-row xs)))
+          ∷ ‵ (fauth γ (codedHoleys T.the-row .code (heres T.the-row xs)))
+          ∷ ‵ (fdies result l₀) ∷ ‵ (fdies slice l₁) ∷ ‵ (fdies word l₂) ∷ ‵ (fdies short l₃) ∷ ‵ (fdies word l₄) ∷ ‵ (fdies state l₅) ∷ ‵ (fdies word l₆)
+          ∷ ‵ (fdies word l₇) ∷ ‵ (fdies word l₈)
+          ∷ ‵ (fdies tyBool l₉) ∷ ‵ (fdies word l₁₀) ∷ ‵ (fdies tyPtr l₁₁) ∷ ‵ (fdies entry l₁₂) ∷ ‵ (fdies tyBool l₁₃) ∷ ‵ (fdies entry l₁₄) ∷ ‵ (fdies word l₁₅)
+          ∷ ‵ (fdies tyPtr l₁₆) ∷ []
 
       abbrev Frame : List (Item 𝓤)
-      Frame = ‵ (fat fullShare slice l₁ 0 here) ∷ ‵ (fat fullShare word l₂ 0 (vint w64 s)) ∷ ‵ (fat fullShare word l₄ 0 (vint w64 n)) ∷ ‵ (fat fullShare short l₃ 0 (vint w32 c)) ∷ ‵ (froom result l₀ 0)
+      Frame = ‵ (fat fullShare slice l₁ 0 here) ∷ ‵ (fat fullShare word l₂ 0 (vint w64 s)) ∷ ‵ (fat fullShare word l₄ 0 (vint w64 n))
+          ∷ ‵ (fat fullShare short l₃ 0 (vint w32 c)) ∷ ‵ (froom result l₀ 0)
           ∷ ‵ (froom word l₇ 0) ∷ ‵ (froom word l₈ 0) ∷ ‵ (froom tyBool l₁₃ 0) ∷ ‵ (froom entry l₁₄ 0) ∷ ‵ (froom word l₁₅ 0) ∷ ‵ (froom tyPtr l₁₆ 0) ∷ Behind
 
       -- before place i, where f is what was gathered
@@ -194,25 +205,25 @@ module _ {M : Type 1} (𝓤 : URA M) (H : Heap 𝓤) (A : Atoms 𝓤) (W : Given
       unfolding afterTurn
       more i f X small isf k =
           qed W (At i f) ∵ exec ! C Λ En pieces.turn-1 (anyQ (afterTurn 𝓤 H X Left)) $
-          assigns ! (bin ! (load ! (from ! (stop !)) (look ! 1 refl)) (load ! (from ! (stop !)) (look ! 9 refl)) tt) (from ! (stop !)) (init ! 3 refl (tt, tt)) $
+          sets ! (bin ! (local ! 1 refl) (local ! 9 refl) tt) (init ! 3 refl (tt, tt)) $
           rewrite ! 3 (λ (t : Bool). ‵ (fat fullShare tyBool l₉ 0 (vbool t))) (lt-ltb i n small) refl $
-          stays ! (load ! (from ! (stop !)) (look ! 3 refl)) $
-          assigns ! (bin ! (load ! (from ! (stop !)) (look ! 1 refl)) (lit ! tt) (record { fits = far })) (from ! (stop !)) (init ! 4 refl (tt, record { fits = far })) $
-          assigns ! (bin ! (load ! (from ! (fld ! refl (stop !))) (look-in ! 7 (sub ! 0 refl (whole !)))) (load ! (from ! (stop !)) (look ! 4 refl)) tt) (from ! (stop !)) (init ! 5 refl (tt, tt)) $
+          stays ! (local ! 3 refl) $
+          sets ! (bin ! (local ! 1 refl) (lit ! tt) (record { fits = far })) (init ! 4 refl (tt, record { fits = far })) $
+          sets ! (bin ! (load ! (from ! (fld ! refl (stop !))) (look-in ! 7 (sub ! 0 refl (whole !)))) (local ! 4 refl) tt) (init ! 5 refl (tt, tt)) $
           rewrite ! 5 (λ (m : ℕ). ‵ (fat fullShare tyPtr l₁₁ 0 (vptr b m))) (sym (place-is 16 o i)) refl $
-          elem-out ! T.the-row (Is T.the-row) (shows 𝓤 H A T.the-row) (LL.vals T.the-type T′.the-laws) (LL.tells T.the-type T′.the-laws) fullShare xs i freeRecord b o within (λ is.
+          record-out ! fullShare xs i b o within (λ is.
           -- [the record; what it owns; the others; _6; _5; _9; _10; _11; _12; …]
-          assigns ! (of-opd ! (load ! (from ! (hop ! (look ! 7 refl) (stop !))) (look-raw ! 0 refl))) (from ! (stop !)) (init ! 8 refl (LL.lawful T.the-type T′.the-laws 𝓤 H A W .typed _ _ is .0)) $
-          elem-back ! T.the-row fullShare xs i freeRecord (T′.lowered r ∷ []) b o within $
-          use0 W (raw (Seen 𝓤 H A mem run .pre (to-seen 𝓤 H A mem run s f i r))) (goes-seen 𝓤 H A mem run W s f i r gs isf (omega (arith, next)) is) $
-          calls-at ! (fmOf 𝓤 H (W .laws) 𝓣) (Seen 𝓤 H A mem run) known-seen (to-seen 𝓤 H A mem run s f i r)
-          (and-then ! (load ! (from ! (stop !)) (look ! 3 refl)) (and-then ! (load ! (from ! (stop !)) (look ! 2 refl)) (and-then ! (load ! (from ! (stop !)) (look ! 7 refl)) (and-then ! (load ! (from ! (stop !)) (look ! 9 refl)) (no-more !))))) (λ v.
-          use1 W (later (raw (fact 𝓤 (Is F.the-row g (v ∷ []))))) (gives-seen 𝓤 H A mem run W s f i r v) $ await ! tt $ heard ! (Is F.the-row g (v ∷ [])) (λ isg.
-          land ! (from ! (stop !)) (store ! 2 refl (LL.lawful F.the-type F′.the-laws 𝓤 H A W .typed _ _ isg .0)) $
+          sets ! (of-opd ! (load ! (from ! (hop ! (look ! 7 refl) (stop !))) (look-raw ! 0 refl))) (init ! 8 refl (record-typed W _ _ is)) $
+          record-back ! fullShare xs i b o within $
+          calls-value ! (fmOf 𝓤 H (W .laws) 𝓣) (Seen 𝓤 H A mem run) known-seen (to-seen 𝓤 H A mem run s f i r)
+          (goes-seen 𝓤 H A mem run W s f i r gs isf (omega (arith, next)) is)
+          (and-then ! (local ! 3 refl) (and-then ! (local ! 2 refl) (and-then ! (local ! 7 refl) (and-then ! (local ! 9 refl) (no-more !)))))
+          (λ (v : Val). Is F.the-row g (v ∷ [])) (gives-seen 𝓤 H A mem run W s f i r) (λ v isg.
+          keeps ! (store ! 2 refl (found-typed W _ _ isg)) $
           rewrite ! 2 (λ (u : Val). ‵ (fat fullShare state l₅ 0 u)) (ap only (LL.tells F.the-type F′.the-laws g (v ∷ []) isg)) refl $
-          assigns-last ! (bin ! (load ! (from ! (stop !)) (look ! 1 refl)) (lit ! tt) (record { fits = next })) (from ! (stop !)) (store ! 1 refl (tt, record { fits = next })) $
+          assigns-last ! (bin ! (local ! 1 refl) (lit ! tt) (record { fits = next })) (from ! (stop !)) (store ! 1 refl (tt, record { fits = next })) $
           forget ! 3 refl $ forget ! 4 refl $ forget ! 5 refl $ forget ! 6 refl $
-          rewrite ! 1 (λ (j : ℕ). ‵ (fat fullShare word l₆ 0 (vint w64 j))) (omega arith) refl $ by ! (k (told g v isg)))))
+          rewrite ! 1 (λ (j : ℕ). ‵ (fat fullShare word l₆ 0 (vint w64 j))) (omega arith) refl $ by ! (k (found-told g v isg))))
         where
           r : SenderRecord
           r = at xs i
@@ -230,57 +241,55 @@ module _ {M : Type 1} (𝓤 : URA M) (H : Heap 𝓤) (A : Atoms 𝓤) (W : Given
           next = omega (arith, small, counted-64 (length xs))
 
       -- the list is zs and the answer is left to give: the borrow is closed
-      answers : (zs : List SenderRecord) (f : Found) → length zs ≡ length xs → Is F.the-row f (F′.lowered f ∷ []) → (notedBy f ≡ S.note s c xs .answer) × (zs ≡ S.note s c xs .list)
+      answers : (zs : List SenderRecord) (f : Found) → length zs ≡ length xs → Is F.the-row f (F′.lowered f ∷ [])
+          → (notedBy f ≡ S.note s c xs .answer) × (zs ≡ S.note s c xs .list)
           → ent 𝓤 (⋆ 𝓤 H A (Done zs f)) (Wp 𝓤 H C Λ En pieces.t-9 (atReturn 𝓤 H En Post))
       answers zs f len is e =
           qed W (Done zs f) ∵ exec ! C Λ En pieces.t-9 (atRet En Post) $
-          use0 W (raw (NotedBy 𝓤 H A mem run .pre (to-noted-by 𝓤 H A mem run f))) (goes-noted-by 𝓤 H A mem run W f is) $
-          calls-at ! (fmOf 𝓤 H (W .laws) 𝓣) (NotedBy 𝓤 H A mem run) known-noted-by (to-noted-by 𝓤 H A mem run f) (and-then ! (load ! (from ! (stop !)) (look ! 3 refl)) (no-more !)) (λ v.
-          use1 W (later (raw (fact 𝓤 (Is N.the-row r (v ∷ []))))) (gives-noted-by 𝓤 H A mem run W f v) $ await ! tt $ heard ! (Is N.the-row r (v ∷ [])) (λ isr.
-          land ! (from ! (stop !)) (init ! 11 refl (LL.lawful N.the-type N′.the-laws 𝓤 H A W .typed r _ isr .0)) $
+          calls-value ! (fmOf 𝓤 H (W .laws) 𝓣) (NotedBy 𝓤 H A mem run) known-noted-by (to-noted-by 𝓤 H A mem run f) (goes-noted-by 𝓤 H A mem run W f is)
+          (and-then ! (local ! 3 refl) (no-more !)) (λ (v : Val). Is N.the-row r (v ∷ [])) (gives-noted-by 𝓤 H A mem run W f) (λ v isr.
+          keeps ! (init ! 11 refl (LL.lawful N.the-type N′.the-laws 𝓤 H A W .typed r _ isr .0)) $
           move ! (0 ∷ 18 ∷ 19 ∷ 20 ∷ []) $ closes-slice ! tt T.the-row xs zs len b o $
           -- [obs; the borrow; the token; _6; _5; _9; _10; _11; _12; _1; _2; _4; _3; _0; _7; _8; _13; _14; _15; _16; and that each local dies]
           returns ! (look ! 13 refl) $ forget ! 4 refl $ forget ! 9 refl $ forget ! 10 refl $ forget ! 11 refl $ forget ! 12 refl $ forget ! 13 refl $
-          move ! (13 ∷ 20 ∷ []) $ free1 ! $ move ! (9 ∷ 19 ∷ []) $ free1 ! $ move ! (9 ∷ 18 ∷ []) $ free1 ! $ move ! (10 ∷ 17 ∷ []) $ free1 ! $ move ! (9 ∷ 16 ∷ []) $ free1 ! $ move ! (4 ∷ 15 ∷ []) $ free1 ! $
-          move ! (3 ∷ 14 ∷ []) $ free1 ! $ move ! (7 ∷ 13 ∷ []) $ free1 ! $ move ! (7 ∷ 12 ∷ []) $ free1 ! $ move ! (3 ∷ 11 ∷ []) $ free1 ! $ move ! (3 ∷ 10 ∷ []) $ free1 ! $ move ! (3 ∷ 9 ∷ []) $ free1 ! $
-          move ! (3 ∷ 8 ∷ []) $ free1 ! $ move ! (3 ∷ 7 ∷ []) $ free1 ! $ move ! (3 ∷ 6 ∷ []) $ free1 ! $ move ! (3 ∷ 5 ∷ []) $ free1 ! $ move ! (3 ∷ 4 ∷ []) $ free1 ! $
-          free0 ! $ keep ! (0 ∷ 1 ∷ 2 ∷ []) $ by ! (exits zs r v len isr e)))
+          move ! (13 ∷ 20 ∷ []) $ free1 ! $ move ! (9 ∷ 19 ∷ []) $ free1 ! $ move ! (9 ∷ 18 ∷ []) $ free1 ! $ move ! (10 ∷ 17 ∷ []) $ free1 ! $ move ! (9 ∷ 16 ∷ []) $ free1 ! $
+          move ! (4 ∷ 15 ∷ []) $ free1 ! $ move ! (3 ∷ 14 ∷ []) $ free1 ! $ move ! (7 ∷ 13 ∷ []) $ free1 ! $ move ! (7 ∷ 12 ∷ []) $ free1 ! $ move ! (3 ∷ 11 ∷ []) $ free1 ! $
+          move ! (3 ∷ 10 ∷ []) $ free1 ! $ move ! (3 ∷ 9 ∷ []) $ free1 ! $ move ! (3 ∷ 8 ∷ []) $ free1 ! $ move ! (3 ∷ 7 ∷ []) $ free1 ! $ move ! (3 ∷ 6 ∷ []) $ free1 ! $
+          move ! (3 ∷ 5 ∷ []) $ free1 ! $ move ! (3 ∷ 4 ∷ []) $ free1 ! $
+          free0 ! $ keep ! (0 ∷ 1 ∷ 2 ∷ []) $ by ! (exits zs r v len isr e))
         where
           r : Noted
           r = notedBy f
 
       -- the turn that leaves the loop, and the store
-      ends : (f : Found) (X : SProp 𝓤) → Is F.the-row f (F′.lowered f ∷ []) → f ≡ found s xs → ent 𝓤 (⋆ 𝓤 H A (At n f)) (Wp 𝓤 H C Λ En pieces.turn-1 (afterTurn 𝓤 H X Left))
+      ends : (f : Found) (X : SProp 𝓤) → Is F.the-row f (F′.lowered f ∷ []) → f ≡ found s xs
+          → ent 𝓤 (⋆ 𝓤 H A (At n f)) (Wp 𝓤 H C Λ En pieces.turn-1 (afterTurn 𝓤 H X Left))
       unfolding afterTurn
       ends f X is e =
           qed W (At n f) ∵ exec ! C Λ En pieces.turn-1 (anyQ (afterTurn 𝓤 H X Left)) $
-          assigns ! (bin ! (load ! (from ! (stop !)) (look ! 1 refl)) (load ! (from ! (stop !)) (look ! 9 refl)) tt) (from ! (stop !)) (init ! 3 refl (tt, tt)) $
+          sets ! (bin ! (local ! 1 refl) (local ! 9 refl) tt) (init ! 3 refl (tt, tt)) $
           rewrite ! 3 (λ (t : Bool). ‵ (fat fullShare tyBool l₉ 0 (vbool t))) (le-ltb n n (omega arith)) refl $
-          leaves-loop ! (load ! (from ! (stop !)) (look ! 3 refl)) $ exec ! C Λ En pieces.t-6 (atRet En Post) $
-          assigns ! (of-opd ! (load ! (from ! (fld ! refl (stop !))) (look-in ! 2 (sub ! 2 refl (whole !))))) (from ! (stop !)) (init ! 12 refl (tt, record { fits = LL.owed F.the-type F′.the-laws f _ is .1 .1 .0 .1 })) $
-          assigns ! (bin ! (load ! (from ! (stop !)) (look ! 12 refl)) (load ! (from ! (stop !)) (look ! 9 refl)) tt) (from ! (stop !)) (init ! 14 refl (tt, tt)) $
-          first ! $ branches ! (load ! (from ! (stop !)) (look ! 14 refl))
-          (λ h. use0 W (raw (RecordOf 𝓤 H A mem run .pre (to-record-of 𝓤 H A mem run s c))) (goes-record-of 𝓤 H A mem run W s c gs gc) $
-          calls-at ! (fmOf 𝓤 H (W .laws) 𝓣) (RecordOf 𝓤 H A mem run) known-record-of (to-record-of 𝓤 H A mem run s c) (and-then ! (load ! (from ! (stop !)) (look ! 9 refl)) (and-then ! (load ! (from ! (stop !)) (look ! 11 refl)) (no-more !))) (λ v.
-          use1 W (later (raw (fact 𝓤 (Is T.the-row y (v ∷ []))))) (gives-record-of 𝓤 H A mem run W s c v) $ await ! tt $ heard ! (Is T.the-row y (v ∷ [])) (λ isy.
-          land ! (from ! (stop !)) (init ! 15 refl (LL.lawful T.the-type T′.the-laws 𝓤 H A W .typed y _ isy .0)) $
+          leaves-loop ! (local ! 3 refl) $ exec ! C Λ En pieces.t-6 (atRet En Post) $
+          sets ! (of-opd ! (load ! (from ! (fld ! refl (stop !))) (look-in ! 2 (sub ! 2 refl (whole !)))))
+          (init ! 12 refl (tt, record { fits = LL.owed F.the-type F′.the-laws f _ is .1 .1 .0 .1 })) $
+          sets ! (bin ! (local ! 12 refl) (local ! 9 refl) tt) (init ! 14 refl (tt, tt)) $
+          first ! $ branches ! (local ! 14 refl)
+          (λ h. calls-value ! (fmOf 𝓤 H (W .laws) 𝓣) (RecordOf 𝓤 H A mem run) known-record-of (to-record-of 𝓤 H A mem run s c) (goes-record-of 𝓤 H A mem run W s c gs gc)
+          (and-then ! (local ! 9 refl) (and-then ! (local ! 11 refl) (no-more !))) (λ (v : Val). Is T.the-row y (v ∷ [])) (gives-record-of 𝓤 H A mem run W s c) (λ v isy.
+          keeps ! (init ! 15 refl (record-typed W y _ isy)) $
           rewrite ! 15 (λ (u : Val). ‵ (fat fullShare entry l₁₄ 0 u)) (ap only (LL.tells T.the-type T′.the-laws y (v ∷ []) isy)) refl $
-          assigns ! (bin ! (load ! (from ! (stop !)) (look ! 12 refl)) (lit ! tt) (record { fits = far h })) (from ! (stop !)) (init ! 16 refl (tt, record { fits = far h })) $
-          assigns ! (bin ! (load ! (from ! (fld ! refl (stop !))) (look-in ! 7 (sub ! 0 refl (whole !)))) (load ! (from ! (stop !)) (look ! 16 refl)) tt) (from ! (stop !)) (init ! 17 refl (tt, tt)) $
+          sets ! (bin ! (local ! 12 refl) (lit ! tt) (record { fits = far h })) (init ! 16 refl (tt, record { fits = far h })) $
+          sets ! (bin ! (load ! (from ! (fld ! refl (stop !))) (look-in ! 7 (sub ! 0 refl (whole !)))) (local ! 16 refl) tt) (init ! 17 refl (tt, tt)) $
           rewrite ! 17 (λ (m : ℕ). ‵ (fat fullShare tyPtr l₁₆ 0 (vptr b m))) (sym (place-is 16 o (f .place))) refl $
-          elem-out ! T.the-row (Is T.the-row) (shows 𝓤 H A T.the-row) (LL.vals T.the-type T′.the-laws) (LL.tells T.the-type T′.the-laws) fullShare xs (f .place) freeRecord b o (within h) (λ _.
-          assigns-last ! (of-opd ! (load ! (from ! (stop !)) (look ! 17 refl))) (from ! (hop ! (look ! 19 refl) (stop !))) (store-raw ! 0 refl (LL.lawful T.the-type T′.the-laws 𝓤 H A W .typed y _ (own v isy) .0)) $
-          move ! (1 ∷ []) $ drop ! $ owned ! T.the-row (Is T.the-row) (LL.makes T.the-type T′.the-plain 𝓤 H A) y (T′.lowered y ∷ []) (own v isy) $ move ! (1 ∷ 0 ∷ []) $
-          elem-put ! T.the-row fullShare xs (f .place) y (T′.lowered y ∷ []) b o (within h) $
+          record-out ! fullShare xs (f .place) b o (within h) (λ _.
+          assigns-last ! (of-opd ! (local ! 17 refl)) (from ! (hop ! (look ! 19 refl) (stop !))) (store-raw ! 0 refl (record-typed W y _ (record-told y v isy))) $
+          record-put ! fullShare xs (f .place) b o (within h) y (record-told y v isy) $
           forget ! 1 refl $ forget ! 3 refl $ forget ! 12 refl $ forget ! 14 refl $ forget ! 15 refl $ forget ! 16 refl $ forget ! 17 refl $
-          by ! (answers (set xs (f .place) y) f (length-set xs (f .place) y) is (answer, stored h))))))
+          by ! (answers (set xs (f .place) y) f (length-set xs (f .place) y) is (answer, stored h)))))
           (λ h. skips ! $ forget ! 1 refl $ forget ! 3 refl $ forget ! 12 refl $ forget ! 14 refl $ by ! (answers xs f refl is (answer, same h)))
         where
           y : SenderRecord
           y = recordOf s c
-
-          own : (v : Val) → Is T.the-row y (v ∷ []) → Is T.the-row y (T′.lowered y ∷ [])
-          own v isy = subst (Is T.the-row y) (LL.tells T.the-type T′.the-laws y (v ∷ []) isy) isy
 
           low : T (ltb (f .place) n) → f .place < n
           low h = ltb-true (f .place) n (holds (ltb (f .place) n) h)
@@ -307,7 +316,8 @@ module _ {M : Type 1} (𝓤 : URA M) (H : Heap 𝓤) (A : Atoms 𝓤) (W : Given
           (exI 𝓤 (λ (j : ℕ). ex 𝓤 (λ (g : Found). guard 𝓤 (Facts t j g) (⋆ 𝓤 H A (At j g)))) i))
 
       turn-at : (t i : ℕ) (f : Found) → Facts t i f → ent 𝓤 (⋆ 𝓤 H A (At i f)) (Wp 𝓤 H C Λ En pieces.turn-1 (afterTurn 𝓤 H (Below t) Left))
-      turn-at zero i f h = subst (λ (j : ℕ). ent 𝓤 (⋆ 𝓤 H A (At j f)) (Wp 𝓤 H C Λ En pieces.turn-1 (afterTurn 𝓤 H (Below 0) Left))) (omega (arith, h .0)) (ends f (Below 0) (h .1 .0) (h .1 .1))
+      turn-at zero i f h = subst (λ (j : ℕ). ent 𝓤 (⋆ 𝓤 H A (At j f)) (Wp 𝓤 H C Λ En pieces.turn-1 (afterTurn 𝓤 H (Below 0) Left))) (omega (arith, h .0))
+          (ends f (Below 0) (h .1 .0) (h .1 .1))
       turn-at (suc t) i f h =
           more i f (Below (suc t)) (omega (arith, h .0)) (h .1 .0) (λ isg.
           via 𝓤 (Inv t) (held t (suc i) (seen s f i (at xs i)) (omega (arith, h .0), (isg, h .1 .1)))
@@ -318,34 +328,51 @@ module _ {M : Type 1} (𝓤 : URA M) (H : Heap 𝓤) (A : Atoms 𝓤) (W : Given
           exE 𝓤 (λ (f : Found). guard 𝓤 (Facts t i f) (⋆ 𝓤 H A (At i f))) (λ f. guardE 𝓤 (Facts t i f) (⋆ 𝓤 H A (At i f)) (λ h. turn-at t i f h)))
 
       loops : ent 𝓤 (⋆ 𝓤 H A (At 0 nowhere)) (Wp 𝓤 H C Λ En (loop pieces.turn-1) Left)
-      loops = via 𝓤 (Inv n) (held n 0 nowhere (omega arith, (nowhere-is, gathered-is s xs))) (loop-rule 𝓤 H (W .laws) 𝓣 _<_ (Nat·lt-wfRel .wf) En pieces.turn-1 Left Inv turns n)
+      loops = via 𝓤 (Inv n) (held n 0 nowhere (omega arith, (nowhere-is, gathered-is s xs)))
+          (loop-rule 𝓤 H (W .laws) 𝓣 _<_ (Nat·lt-wfRel .wf) En pieces.turn-1 Left Inv turns n)
 
     -- the MIR up to the loop: the borrow is opened
     walk : ent 𝓤 (onEntry 𝓤 H A note′.signature (κ, tt) (q, tt) a vals) (WpFn 𝓤 H C Λ code.function (here ∷ vint w64 s ∷ vint w32 c ∷ []) Post)
     walk =
-        qed W ((‵ (flft κ q) ⊛ ‵ ftrue) ∷ ‵ (owns (MutSlice (named 0) κ T.the-row ∷ u64 ∷ u32 ∷ []) a vals) ∷ []) ∵ enter ! C Λ code.function (here ∷ vint w64 s ∷ vint w32 c ∷ []) _ $
-        alloc1 ! (λ l₀. alloc1 ! (λ l₁. alloc1 ! (λ l₂. alloc1 ! (λ l₃. alloc1 ! (λ l₄. alloc1 ! (λ l₅. alloc1 ! (λ l₆. alloc1 ! (λ l₇. alloc1 ! (λ l₈. alloc1 ! (λ l₉. alloc1 ! (λ l₁₀. alloc1 ! (λ l₁₁. alloc1 ! (λ l₁₂. alloc1 ! (λ l₁₃. alloc1 ! (λ l₁₄. alloc1 ! (λ l₁₅. alloc1 ! (λ l₁₆. alloc0 ! $ params1 ! $
-        pass1 ! (init ! 30 refl (tt, (tt, (record { fits = gn .0 }, tt)))) $ pass1 ! (init ! 28 refl (tt, record { fits = gs })) $ pass1 ! (init ! 26 refl (tt, record { fits = gc })) $ pass0 ! $
-        assigns ! (of-opd ! (load ! (from ! (fld ! refl (stop !))) (look-in ! 30 (sub ! 1 refl (whole !))))) (from ! (stop !)) (init ! 16 refl (tt, record { fits = gn .0 })) $
-        use0 W (raw (Counted 𝓤 H A mem run .pre (to-counted 𝓤 H A mem run (length xs)))) (goes-counted 𝓤 H A mem run W (length xs) (gn .0)) $
-        calls-at ! (fmOf 𝓤 H (W .laws) 𝓣) (Counted 𝓤 H A mem run) known-counted (to-counted 𝓤 H A mem run (length xs)) (and-then ! (load ! (from ! (stop !)) (look ! 17 refl)) (no-more !)) (λ v.
-        use1 W (later (raw (fact 𝓤 (Is usize n (v ∷ []))))) (gives-counted 𝓤 H A mem run W (length xs) v) $ await ! tt $ heard ! (Is usize n (v ∷ [])) (λ is.
-        land ! (from ! (stop !)) (init ! 24 refl (uint-lawful 𝓤 H A W w64 .typed n _ is .0)) $ rewrite ! 24 (λ (u : Val). ‵ (fat fullShare word l₄ 0 u)) (ap only (is .0)) refl $
-        assigns ! (agg ! (and-then ! (false-lit !) (and-then ! (lit ! tt) (and-then ! (lit ! tt) (no-more !))))) (from ! (stop !)) (init ! 22 refl (tt, (tt, (record { fits = lit< tt }, (record { fits = lit< tt }, tt))))) $
-        assigns ! (of-opd ! (lit ! tt)) (from ! (stop !)) (init ! 20 refl (tt, record { fits = lit< tt })) $ forget ! 16 refl $
+        qed W ((‵ (flft κ q) ⊛ ‵ ftrue) ∷ ‵ (owns (MutSlice (named 0) κ T.the-row ∷ u64 ∷ u32 ∷ []) a vals) ∷ []) ∵ enter ! C Λ code.function
+        (here ∷ vint w64 s ∷ vint w32 c ∷ []) _ $
+        alloc1 ! (λ l₀. alloc1 ! (λ l₁. alloc1 !
+        (λ l₂. alloc1 ! (λ l₃. alloc1 !
+        (λ l₄. alloc1 ! (λ l₅. alloc1 !
+        (λ l₆. alloc1 ! (λ l₇. alloc1 !
+        (λ l₈. alloc1 ! (λ l₉. alloc1 ! (λ l₁₀. alloc1 ! (λ l₁₁. alloc1 ! (λ l₁₂. alloc1 ! (λ l₁₃. alloc1 ! (λ l₁₄. alloc1 ! (λ l₁₅. alloc1 ! (λ l₁₆. alloc0 ! $
+        params1 ! $
+        pass1 ! (init ! 30 refl (tt, (tt, (record { fits = gn .0 }, tt)))) $ pass1 ! (init ! 28 refl (tt, record { fits = gs })) $
+        pass1 ! (init ! 26 refl (tt, record { fits = gc })) $ pass0 ! $
+        sets ! (of-opd ! (load ! (from ! (fld ! refl (stop !))) (look-in ! 30 (sub ! 1 refl (whole !))))) (init ! 16 refl (tt, record { fits = gn .0 })) $
+        calls-value ! (fmOf 𝓤 H (W .laws) 𝓣) (Counted 𝓤 H A mem run) known-counted (to-counted 𝓤 H A mem run (length xs))
+        (goes-counted 𝓤 H A mem run W (length xs) (gn .0))
+        (and-then ! (local ! 17 refl) (no-more !)) (λ (v : Val). Is usize n (v ∷ [])) (gives-counted 𝓤 H A mem run W (length xs)) (λ v is.
+        keeps ! (init ! 24 refl (uint-lawful 𝓤 H A W w64 .typed n _ is .0)) $ rewrite ! 24 (λ (u : Val). ‵ (fat fullShare word l₄ 0 u)) (ap only (is .0)) refl $
+        sets ! (agg ! (and-then ! (false-lit !) (and-then ! (lit ! tt) (and-then ! (lit ! tt) (no-more !)))))
+        (init ! 22 refl (tt, (tt, (record { fits = lit< tt }, (record { fits = lit< tt }, tt))))) $
+        sets ! (of-opd ! (lit ! tt)) (init ! 20 refl (tt, record { fits = lit< tt })) $ forget ! 16 refl $
         -- [_16; …; _0; …; the token; what the list, the sender and the counter own]
         move ! (35 ∷ []) $ fsplit ! $ fsplit ! $ move ! (1 ∷ []) $ fsplit ! $ move ! (38 ∷ []) $ split ! $ move ! (2 ∷ 3 ∷ 0 ∷ []) $ opens-slice ! tt T.the-row xs b o $
-        keep ! (0 ∷ 27 ∷ 29 ∷ 21 ∷ 19 ∷ 17 ∷ 15 ∷ 37 ∷ 35 ∷ 31 ∷ 33 ∷ 39 ∷ 25 ∷ 23 ∷ 13 ∷ 11 ∷ 9 ∷ 7 ∷ 1 ∷ 2 ∷ 3 ∷ 40 ∷ 38 ∷ 36 ∷ 34 ∷ 32 ∷ 30 ∷ 28 ∷ 26 ∷ 24 ∷ 22 ∷ 20 ∷ 18 ∷ 16 ∷ 14 ∷ 12 ∷ 10 ∷ 8 ∷ []) $
-        by ! (loops l₀ l₁ l₂ l₃ l₄ l₅ l₆ l₇ l₈ l₉ l₁₀ l₁₁ l₁₂ l₁₃ l₁₄ l₁₅ l₁₆))))))))))))))))))))
+        keep ! (0 ∷ 27 ∷ 29 ∷ 21 ∷ 19 ∷ 17 ∷ 15 ∷ 37 ∷ 35 ∷ 31 ∷ 33 ∷ 39 ∷ 25 ∷ 23 ∷ 13 ∷ 11 ∷ 9 ∷ 7 ∷ 1 ∷ 2 ∷ 3 ∷ 40 ∷ 38 ∷ 36 ∷ 34 ∷ 32 ∷ 30 ∷ 28 ∷ 26 ∷ 24 ∷ 22 ∷ 20
+        ∷ 18 ∷ 16 ∷ 14 ∷ 12 ∷ 10 ∷ 8 ∷ []) $
+        by ! (loops l₀ l₁ l₂ l₃ l₄ l₅ l₆ l₇ l₈ l₉ l₁₀ l₁₁ l₁₂ l₁₃ l₁₄ l₁₅ l₁₆)))))))))))))))))))
 
-module _ {M : Type 1} (𝓤 : URA M) (H : Heap 𝓤) (A : Atoms 𝓤) (W : Given 𝓤 H A) (mem : Memory → SProp 𝓤) (run : Routine → Fun 𝓤) (𝓣 : Tables 𝓤 H) (known-counted : Triple 𝓤 (𝓣 .C #senders·counted) (Counted 𝓤 H A mem run)) (known-seen : Triple 𝓤 (𝓣 .C #senders·seen) (Seen 𝓤 H A mem run)) (known-record-of : Triple 𝓤 (𝓣 .C #senders·record-of) (RecordOf 𝓤 H A mem run)) (known-noted-by : Triple 𝓤 (𝓣 .C #senders·noted-by) (NotedBy 𝓤 H A mem run)) where
+module _ {M : Type 1} (𝓤 : URA M) (H : Heap 𝓤) (A : Atoms 𝓤) (W : Given 𝓤 H A) (mem : Memory → SProp 𝓤) (run : Routine → Fun 𝓤) (𝓣 : Tables 𝓤 H)
+    (known-counted : Triple 𝓤 (𝓣 .C #senders·counted) (Counted 𝓤 H A mem run)) (known-seen : Triple 𝓤 (𝓣 .C #senders·seen) (Seen 𝓤 H A mem run))
+    (known-record-of : Triple 𝓤 (𝓣 .C #senders·record-of) (RecordOf 𝓤 H A mem run)) (known-noted-by : Triple 𝓤 (𝓣 .C #senders·noted-by) (NotedBy 𝓤 H A mem run)) where
   note-walks : Walks 𝓤 H A note′.ended stayed (WpFn 𝓤 H (𝓣 .C) (𝓣 .Λ) code.function) (note′.clauses 𝓤 H A mem run)
-  note-walks = walked 𝓤 H A note′.ended stayed (note′.clauses 𝓤 H A mem run) (WpFn 𝓤 H (𝓣 .C) (𝓣 .Λ) code.function) (λ κs. (slice-vals, (uint-vals w64, (uint-vals w32, tt)))) (λ κs. (mut-slice-tells (named 0) (κs .0) T.the-row, (uint-tells w64, (uint-tells w32, tt))))
+  note-walks = walked 𝓤 H A note′.ended stayed (note′.clauses 𝓤 H A mem run) (WpFn 𝓤 H (𝓣 .C) (𝓣 .Λ) code.function)
+      (λ κs. (slice-vals, (uint-vals w64, (uint-vals w32, tt)))) (λ κs. (mut-slice-tells (named 0) (κs .0) T.the-row, (uint-tells w64, (uint-tells w32, tt))))
       (λ κs qs bounds a g are. via 𝓤 _ (fst∗ 𝓤 _ (emp 𝓤))
-      (walk 𝓤 H A W mem run (κs .0) (qs .0) (a .0 .ptr .0) (a .0 .ptr .1) (a .0 .name) (a .0 .now) (a .1 .0) (a .1 .1 .0) (are .0 .0 .1) (are .1 .0 .1) (are .1 .1 .0 .1) 𝓣 known-counted known-seen known-record-of known-noted-by))
+      (walk 𝓤 H A W mem run (κs .0) (qs .0) (a .0 .ptr .0) (a .0 .ptr .1) (a .0 .name) (a .0 .now) (a .1 .0) (a .1 .1 .0) (are .0 .0 .1) (are .1 .0 .1)
+      (are .1 .1 .0 .1) 𝓣 known-counted known-seen known-record-of known-noted-by))
 
   note-meets : Meets 𝓤 H A note′.signature (WpFn 𝓤 H (𝓣 .C) (𝓣 .Λ) code.function) (note′.spec 𝓤 H A mem run)
-  note-meets = walk-meets 𝓤 H A note′.ended stayed W (goes-slice 𝓤 H A W 1 0 tt (plain (λ _. T.the-row)), (goes-none 𝓤 H A W 1 (λ _. u64) yes (λ κs x f. refl), (goes-none 𝓤 H A W 1 (λ _. u32) yes (λ κs x f. refl), tt))) (note′.clauses 𝓤 H A mem run)
+  note-meets = walk-meets 𝓤 H A note′.ended stayed W (
+    goes-slice 𝓤 H A W 1 0 tt (plain (λ _. T.the-row)),
+    (goes-none 𝓤 H A W 1 (λ _. u64) yes (λ κs x f. refl), (goes-none 𝓤 H A W 1 (λ _. u32) yes (λ κs x f. refl), tt)),
+  ) (note′.clauses 𝓤 H A mem run)
       (WpFn 𝓤 H (𝓣 .C) (𝓣 .Λ) code.function) (WpFn-mono 𝓤 H (W .laws) 𝓣 code.function) note-walks
 
 pub note-spec : {M : Type 1} → stated.statement M

@@ -6,6 +6,7 @@ use mathlib.Core.Bool.{Bool, false}
 use mathlib.Core.List.{List, _∷_}
 use mathlib.Core.Path.{_≡_, sym, ap, _∙_}
 use Prim.Native.Nat.{ℕ}
+use Rattle.types.specs.Counters.{lastCounter}
 use Rattle.frame.proofs.sealing.seal_refusal.Statement.{statement}
 use Rattle.frame.proofs.sealing.seal_refusal.Tie as tie
 use Rattle.header.specs.declared.{auxiliary.NwkAuxHeader.NwkAuxHeader, nwk.NwkHeader.NwkHeader}
@@ -14,7 +15,7 @@ use Rattle.octets.specs.Refusals.{on, firstOf}
 use Rattle.octets.proofs.Conditions.{stop, skip, stop-by, skip-by}
 use Rattle.frame.specs.declared.OptionAuxHeader.{OptionAuxHeader}
 use Rattle.frame.specs.Security.{isAbsent, orBlank, noIeee}
-use Rattle.frame.specs.Sealing.{lengthRefusals, lastCounter, sealRefusal}
+use Rattle.frame.specs.Sealing.{lengthRefusals, sealRefusal}
 
 -- the list from 21 on, by what the calls gave: the number of the fields, whether there is an auxiliary header, that header or the
 -- blank one, and whether there is no address
