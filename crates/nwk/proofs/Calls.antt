@@ -12,7 +12,9 @@ use Rattle.octets.specs.Refusals.{unless}
 use Rattle.octets.specs.Writing.{written}
 use Rattle.octets.proofs.Conditions as conditions
 use Rattle.frame.specs.declared.Mark.{Mark}
+use Rattle.senders.specs.declared.OptionCounter.{OptionCounter}
 use Rattle.nwk.specs.Answer.{answer, clearBit, openedAnswer, answerBy, given}
+use Rattle.nwk.specs.Inbound.{earlierAnswer}
 
 -- ---- reading the answer
 
@@ -40,6 +42,14 @@ opened-refusal m n = omega arith
 pub opened-clear-bit : (m : Mark) (n : ℕ) → openedAnswer m n / 2 ^ 40 ≡ clearBit m
 unfolding openedAnswer
 opened-clear-bit m n = omega arith
+
+-- of noting a known sender: its earlier counter, no refusal, and bit 41 set; else no counter, the refusal, and bit 41 off
+pub noted-known : (n c : ℕ) → c < 2 ^ 32 → let a = earlierAnswer n (OptionCounter.Present c) in (a % 2 ^ 32 ≡ c) × ((a / 2 ^ 32 % 2 ^ 8 ≡ 0) × (a / 2 ^ 41 ≡ 1))
+noted-known n c h = (omega (arith, h), (omega (arith, h), omega (arith, h)))
+
+pub noted-new : (n : ℕ) → n < 2 ^ 8 → let a = earlierAnswer n OptionCounter.Absent in (a % 2 ^ 32 ≡ 0) × ((a / 2 ^ 32 % 2 ^ 8 ≡ n) × (a / 2 ^ 41 ≡ 0))
+unfolding answer
+noted-new n h = (omega (arith, h), (omega (arith, h), omega (arith, h)))
 
 -- ---- refused by the number k: the answer, and each buffer as it was
 

@@ -3,7 +3,7 @@
 -- Assumes nothing.
 use mathlib.Core.Path.{_≡_, refl, sym, ap, subst, _∙_}
 use mathlib.Core.Bool.{Bool, true, false, true≢false}
-use mathlib.Core.List.{List, [], _++_}
+use mathlib.Core.List.{List, [], _∷_, _++_}
 use Prim.Native.Nat.{ℕ, _≤_, _<_}
 use native.Mathlib.Decide.{ℕ-discrete}
 use native.Mathlib.Omega.{arith}
@@ -19,9 +19,9 @@ use Rattle.senders.specs.declared.{SenderRecord.SenderRecord, OptionCoun
 use Rattle.senders.specs.Records.{isFree, names, recordOf}
 use Rattle.senders.specs.Senders.{someOf, stored, knows, hasFree, askRefused, askRefusal, askedBy, inboundNetworkKey, Run, note, forget}
 use Rattle.senders.specs.Claims as claims
-use Rattle.senders.proofs.Naming.{names-its-sender, names-no-other, names-one, free-names-none, unknown-stored, known-stored}
-use Rattle.senders.proofs.Firsts.{first, first-below, first-meets, first-set, stored-other, stored-new, stored-own}
-use Rattle.senders.proofs.Forgetting.{length-forgotten, getD-forgotten, stored-forgotten, other-forgotten, forgotten-twice, unknown-forgotten, forgotten-free}
+use Rattle.senders.proofs.Naming.{names-its-sender, names-no-other, names-one, free-names-none, unknown-stored, stored-unknown, known-stored}
+use Rattle.senders.proofs.Firsts.{first, first-below, first-meets, first-set, stored-other, stored-new, stored-own, some-there, replaced-there, stored-there}
+use Rattle.senders.proofs.Forgetting.{length-forgotten, getD-forgotten, zeros-forgotten, stored-forgotten, other-forgotten, forgotten-twice, unknown-forgotten, forgotten-free}
 use Rattle.senders.proofs.Places.{none-of, of-none, some-past, replaced-past, stored-past, forgotten-past}
 use Rattle.senders.proofs.Noting.{answer, refusal, list, placing, note-known, note-new, note-full, not-full, note-cases}
 
@@ -44,6 +44,49 @@ module _ (key : Key) (active : ℕ) where
   ask-absent : (x : ℕ) → x < lastCounter → askedBy key active OptionCounter.Absent active x ≡ record { refusal = 0; key = key }
   unfolding askedBy askRefusal firstOf unless
   ask-absent x b = rw (eq-eqb active active refl, ne-eqb x lastCounter (omega arith)) refl
+
+  ask-last : (o : OptionCounter) → askedBy key active o active lastCounter ≡ askRefused 23
+  unfolding askedBy askRefusal firstOf unless
+  ask-last o = rw (eq-eqb active active refl) refl
+
+  ask-wrong : (o : OptionCounter) (k x : ℕ) → (k ≡ active → ⊥) → askedBy key active o k x ≡ askRefused 22
+  unfolding askedBy askRefusal firstOf unless
+  ask-wrong o k x h = rw (ne-eqb k active h) refl
+
+pub refused-by-number : claims.RefusedByNumber
+refused-by-number key active s k c l = (
+  λ h. ask-by key active s k c l refl ∙ ask-wrong key active (stored s l) k c h,
+  (
+    λ e f. ask-by key active s k c l refl ∙ asked-with (stored s l) e ∙ ap (askedBy key active (stored s l) active) f ∙ ask-last key active (stored s l),
+    λ x e f h. ask-by key active s k c l f ∙ asked-with (OptionCounter.Present x) e ∙ ask-below key active x c h,
+  ),
+)
+  where
+    -- the key sequence number is the active one
+    asked-with : (o : OptionCounter) → k ≡ active → askedBy key active o k c ≡ askedBy key active o active c
+    asked-with o e = ap (λ (m : ℕ). askedBy key active o m c) e
+
+pub else-the-active-key : claims.ElseTheActiveKey
+else-the-active-key key active s c l b =
+    (λ x e h. ask-by key active s active c l e ∙ ask-above key active x c h b, λ e. ask-by key active s active c l e ∙ ask-absent key active c b)
+
+-- ---- which place
+
+pub first-record-counts : claims.FirstRecordCounts
+first-record-counts s c before behind r h k e =
+    let l = before ++ (r ∷ behind) in (
+      stored-there s r e behind 64 before h k,
+      ap list (note-known s c l (some-there (names s) r e behind 64 before h)) ∙ replaced-there (names s) r e behind (recordOf s c) 64 before h k,
+    )
+
+pub first-free-place : claims.FirstFreePlace
+first-free-place s c before behind r h k e u =
+    let l = before ++ (r ∷ behind) in
+    note-new s c l u (some-there isFree r e behind 64 before h)
+    ∙ (λ i. record {
+      answer = record { refusal = 0; earlier = stored-unknown s 64 l u i };
+      list = replaced-there isFree r e behind (recordOf s c) 64 before h k i;
+    })
 
 -- ---- 1: what noting changes
 
@@ -136,6 +179,10 @@ after-forgetting key active s x l =
           (λ k h. ap earlier (note-new s x then k h) ∙ e)
           (λ k h. ap earlier (note-full s x then k h)),
     )
+
+pub forgetting-leaves-zeros : claims.ForgettingLeavesZeros
+unfolding forget
+forgetting-leaves-zeros s i d l h b e = zeros-forgotten s 64 l i d h b e
 
 pub forgetting-twice : claims.ForgettingTwice
 unfolding forget

@@ -1,8 +1,8 @@
 -- The first of a list's counted records that meets a test: its place, and the list with another record there.
 -- Assumes nothing.
 use mathlib.Core.Path.{_≡_, refl, ap}
-use mathlib.Core.Bool.{Bool, true, false, cond, false≢true}
-use mathlib.Core.List.{List, [], _∷_}
+use mathlib.Core.Bool.{Bool, true, false, cond, false≢true, _||_}
+use mathlib.Core.List.{List, [], _∷_, _++_}
 use Prim.Native.Nat.{ℕ, zero, suc, _<_}
 use native.Mathlib.Omega.{arith}
 use lib.ListN.{length, getD, set}
@@ -11,6 +11,10 @@ use Rattle.octets.proofs.Conditions.{or-false}
 use Rattle.senders.specs.declared.{SenderRecord.SenderRecord, OptionCounter.OptionCounter}
 use Rattle.senders.specs.Records.{names}
 use Rattle.senders.specs.Senders.{someOf, firstReplaced, storedIn}
+
+or-true : (b : Bool) → (b || true) ≡ true
+or-true true = refl
+or-true false = refl
 
 module _ (p : SenderRecord → Bool) where
   -- the place of the first that meets p, where one does
@@ -75,3 +79,28 @@ stored-own s x a zero l h = absurd (false≢true h)
 stored-own s x a (suc n) [] h = absurd (false≢true h)
 stored-own s x a (suc n) (r ∷ l) h =
     cases (names s r) (λ e. rw e (rw a refl)) (λ e. rw e (rw e (stored-own s x a n l (rw e at h))))
+
+-- a record r that meets p, behind records of which none does: it is found, and another takes its place
+module _ (p : SenderRecord → Bool) (r : SenderRecord) (meets : p r ≡ true) (behind : List SenderRecord) where
+  pub some-there : (n : ℕ) (before : List SenderRecord) → length before < n → someOf p n (before ++ (r ∷ behind)) ≡ true
+  unfolding someOf
+  some-there zero before h = absurd (omega (arith, h))
+  some-there (suc n) [] h = rw meets refl
+  some-there (suc n) (x ∷ before) h = rw (some-there n before (omega (arith, h))) (or-true (p x))
+
+  pub replaced-there : (y : SenderRecord) (n : ℕ) (before : List SenderRecord) → length before < n → someOf p n before ≡ false
+      → firstReplaced p y n (before ++ (r ∷ behind)) ≡ before ++ (y ∷ behind)
+  unfolding someOf firstReplaced
+  replaced-there y zero before h k = absurd (omega (arith, h))
+  replaced-there y (suc n) [] h k = rw meets refl
+  replaced-there y (suc n) (x ∷ before) h k =
+      let o = or-false (p x) (someOf p n before) k in
+      rw (o .0) (ap (λ (t : List SenderRecord). x ∷ t) (replaced-there y n before (omega (arith, h)) (o .1)))
+
+pub stored-there : (s : ℕ) (r : SenderRecord) → names s r ≡ true → (behind : List SenderRecord) (n : ℕ) (before : List SenderRecord) → length before < n
+    → someOf (names s) n before ≡ false → storedIn s n (before ++ (r ∷ behind)) ≡ OptionCounter.Present (r .counter)
+unfolding someOf storedIn
+stored-there s r e behind zero before h k = absurd (omega (arith, h))
+stored-there s r e behind (suc n) [] h k = rw e refl
+stored-there s r e behind (suc n) (x ∷ before) h k =
+    let o = or-false (names s x) (someOf (names s) n before) k in rw (o .0) (stored-there s r e behind n before (omega (arith, h)) (o .1))

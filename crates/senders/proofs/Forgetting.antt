@@ -3,7 +3,8 @@
 use mathlib.Core.Path.{_≡_, refl, ap, _∙_}
 use mathlib.Core.Bool.{Bool, true, false, cond, _||_, false≢true}
 use mathlib.Core.List.{List, [], _∷_}
-use Prim.Native.Nat.{ℕ, zero, suc}
+use Prim.Native.Nat.{ℕ, zero, suc, _<_}
+use native.Mathlib.Omega.{arith}
 use lib.ListN.{length, getD}
 use borrow.Table.Steps.{cases}
 use Rattle.octets.proofs.Conditions.{or-false}
@@ -42,6 +43,14 @@ module _ (s : ℕ) where
   getD-forgotten (suc n) [] i d h = refl
   getD-forgotten (suc n) (r ∷ l) zero d h = kept-other r h
   getD-forgotten (suc n) (r ∷ l) (suc i) d h = getD-forgotten n l i d h
+
+  pub zeros-forgotten : (n : ℕ) (l : List SenderRecord) (i : ℕ) (d : SenderRecord) → i < n → i < length l → names s (getD l i d) ≡ true
+      → getD (forgottenIn s n l) i d ≡ freeRecord
+  unfolding forgottenIn kept
+  zeros-forgotten zero l i d h b e = absurd (omega (arith, h))
+  zeros-forgotten (suc n) [] i d h b e = absurd (omega (arith, b))
+  zeros-forgotten (suc n) (r ∷ l) zero d h b e = rw e refl
+  zeros-forgotten (suc n) (r ∷ l) (suc i) d h b e = zeros-forgotten n l i d (omega (arith, h)) (omega (arith, b)) e
 
   pub stored-forgotten : (n : ℕ) (l : List SenderRecord) → storedIn s n (forgottenIn s n l) ≡ OptionCounter.Absent
   unfolding forgottenIn storedIn

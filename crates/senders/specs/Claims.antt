@@ -4,13 +4,47 @@
 use Prim.Native.Nat.{ℕ, _≤_, _<_}
 use mathlib.Core.Path.{_≡_}
 use mathlib.Core.Bool.{true, false, cond}
-use mathlib.Core.List.{List, [], _++_}
+use mathlib.Core.List.{List, [], _∷_, _++_}
 use lib.ListN.{length, getD, set}
 use Rattle.types.specs.Counters.{lastCounter}
 use Rattle.types.specs.declared.Key.{Key}
 use Rattle.senders.specs.declared.{SenderRecord.SenderRecord, OptionCounter.OptionCounter}
-use Rattle.senders.specs.Records.{isFree, names, recordOf}
-use Rattle.senders.specs.Senders.{countedPlaces, stored, knows, inboundNetworkKey, askRefused, note, noteNothing, forget}
+use Rattle.senders.specs.Records.{isFree, names, recordOf, freeRecord}
+use Rattle.senders.specs.Senders.{countedPlaces, stored, knows, hasFree, inboundNetworkKey, askRefused, note, noteNothing, forget}
+
+-- ---- asking: 22, then 23, and else the active key
+
+-- what is asked with another key sequence number is 22; with the active one, 23 for the last counter and for one up to the stored
+abbrev pub RefusedByNumber : Type 0
+RefusedByNumber =
+    (key : Key) (active s k c : ℕ) (l : List SenderRecord)
+    → ((k ≡ active → ⊥) → inboundNetworkKey key active l s k c ≡ askRefused 22)
+    × ((k ≡ active → c ≡ lastCounter → inboundNetworkKey key active l s k c ≡ askRefused 23)
+    × ((x : ℕ) → k ≡ active → stored s l ≡ OptionCounter.Present x → c ≤ x → inboundNetworkKey key active l s k c ≡ askRefused 23))
+
+-- any other counter above the stored one gives the active key, and so does any other of an unknown sender
+abbrev pub ElseTheActiveKey : Type 0
+ElseTheActiveKey =
+    (key : Key) (active s c : ℕ) (l : List SenderRecord) → c < lastCounter
+    → ((x : ℕ) → stored s l ≡ OptionCounter.Present x → x < c → inboundNetworkKey key active l s active c ≡ record { refusal = 0; key = key })
+    × (stored s l ≡ OptionCounter.Absent → inboundNetworkKey key active l s active c ≡ record { refusal = 0; key = key })
+
+-- ---- which place
+
+-- where none of the records before it names s, the record r that does counts: it is compared with and noted over
+abbrev pub FirstRecordCounts : Type 0
+FirstRecordCounts =
+    (s c : ℕ) (before behind : List SenderRecord) (r : SenderRecord) → length before < countedPlaces → knows s before ≡ false → names s r ≡ true
+    → (stored s (before ++ (r ∷ behind)) ≡ OptionCounter.Present (r .counter))
+    × (note s c (before ++ (r ∷ behind)) .list ≡ before ++ (recordOf s c ∷ behind))
+
+-- a new sender takes the free place r before which none is free
+abbrev pub FirstFreePlace : Type 0
+FirstFreePlace =
+    (s c : ℕ) (before behind : List SenderRecord) (r : SenderRecord) → length before < countedPlaces → hasFree before ≡ false → isFree r ≡ true
+    → knows s (before ++ (r ∷ behind)) ≡ false
+    → note s c (before ++ (r ∷ behind))
+    ≡ record { answer = record { refusal = 0; earlier = OptionCounter.Absent }; list = before ++ (recordOf s c ∷ behind) }
 
 -- ---- 1: a call changes the list only at records of the sender named
 
@@ -59,6 +93,11 @@ AfterForgetting =
     (key : Key) (active s x : ℕ) (l : List SenderRecord)
     → (x < lastCounter → inboundNetworkKey key active (forget s l) s active x ≡ record { refusal = 0; key = key })
     × (note s x (forget s l) .answer .earlier ≡ OptionCounter.Absent)
+
+-- every counted place that named it is left with zeros
+abbrev pub ForgettingLeavesZeros : Type 0
+ForgettingLeavesZeros =
+    (s i : ℕ) (d : SenderRecord) (l : List SenderRecord) → i < countedPlaces → i < length l → names s (getD l i d) ≡ true → getD (forget s l) i d ≡ freeRecord
 
 abbrev pub ForgettingTwice : Type 0
 ForgettingTwice = (s : ℕ) (l : List SenderRecord) → forget s (forget s l) ≡ forget s l
