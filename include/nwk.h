@@ -42,8 +42,8 @@
 extern "C" {
 #endif
 
-#define NWK_VERSION "0.5.0"
-#define NWK_VERSION_NUMBER 0x000500
+#define NWK_VERSION "0.6.0"
+#define NWK_VERSION_NUMBER 0x000600
 
 #ifdef __cplusplus
 #define NWK_CAST(type, value) static_cast<type>(value)
