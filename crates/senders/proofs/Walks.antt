@@ -2,7 +2,7 @@
 -- that names the sender, else of the first free one, else 64; what is found goes by induction on the places left.
 -- Assumes nothing.
 use mathlib.Core.Path.{_≡_, refl, sym, ap, _∙_}
-use mathlib.Core.Bool.{Bool, true, false, cond, true≢false}
+use mathlib.Core.Bool.{Bool, true, false, cond}
 use mathlib.Core.List.{List, [], _∷_}
 use Prim.Native.Nat.{ℕ, zero, suc, _+_, _≤_, _<_}
 use native.Mathlib.Omega.{arith}
@@ -29,11 +29,6 @@ pub counted-64 : (n : ℕ) → counted n ≤ 64
 unfolding counted
 counted-64 n =
     cases (ltb n 64) (λ e. let h = ltb-true n 64 e in rw e (omega arith)) (λ e. rw e (omega arith))
-
--- a place of the list, below 64, counts
-pub counts : (i n : ℕ) → i < 64 → i < n → ltb i (counted n) ≡ true
-unfolding counted
-counts i n h k = lt-ltb i (counted n) (cases (ltb n 64) (λ e. rw e k) (λ e. rw e h))
 
 -- ---- from place i on, where n places still count
 
@@ -147,9 +142,6 @@ module _ (s c : ℕ) (l : List SenderRecord) where
     list-placed : set l (found s l .place) (recordOf s c) ≡ placing p s c l .list
     list-placed = rw at (sym (first-set p (recordOf s c) 64 l some))
 
-    place-counts : ltb (found s l .place) (counted (length l)) ≡ true
-    place-counts = counts (found s l .place) (length l) (below .0) (below .1)
-
   pub noted-answer : notedBy (found s l) ≡ note s c l .answer
   unfolding notedBy
   noted-answer =
@@ -158,16 +150,24 @@ module _ (s c : ℕ) (l : List SenderRecord) where
       (λ k h. answer-placed isFree h (place-new s l k h) ∙ ap answer (sym (note-new s c l k h)))
       (λ k h. rw (le-ltb (found s l .place) 64 (rw (place-full s l k h) (omega arith))) (ap answer (sym (note-full s c l k h))))
 
-  pub noted-list : ltb (found s l .place) (counted (length l)) ≡ true → set l (found s l .place) (recordOf s c) ≡ note s c l .list
-  noted-list e =
+  pub noted-list : found s l .place < 64 → set l (found s l .place) (recordOf s c) ≡ note s c l .list
+  noted-list b =
       note-cases s l
       (λ k. list-placed (names s) k (place-known s l k) ∙ ap list (sym (note-known s c l k)))
       (λ k h. list-placed isFree h (place-new s l k h) ∙ ap list (sym (note-new s c l k h)))
-      (λ k h. absurd (omega (arith, ltb-true (found s l .place) (counted (length l)) e, place-full s l k h, counted-64 (length l))))
+      (λ k h. absurd (omega (arith, b, place-full s l k h)))
 
-  pub noted-same : ltb (found s l .place) (counted (length l)) ≡ false → l ≡ note s c l .list
-  noted-same e =
+  pub noted-same : 64 ≤ found s l .place → l ≡ note s c l .list
+  noted-same b =
       note-cases s l
-      (λ k. absurd (true≢false (sym (place-counts (names s) k (place-known s l k)) ∙ e)))
-      (λ k h. absurd (true≢false (sym (place-counts isFree h (place-new s l k h)) ∙ e)))
+      (λ k. absurd (omega (arith, b, below (names s) k (place-known s l k) .0)))
+      (λ k h. absurd (omega (arith, b, below isFree h (place-new s l k h) .0)))
       (λ k h. ap list (sym (note-full s c l k h)))
+
+  -- the place is one of the list
+  pub found-within : found s l .place < 64 → found s l .place < length l
+  found-within b =
+      note-cases s l
+      (λ k. below (names s) k (place-known s l k) .1)
+      (λ k h. below isFree h (place-new s l k h) .1)
+      (λ k h. absurd (omega (arith, b, place-full s l k h)))

@@ -225,15 +225,9 @@ fn noted_by(found: Found) -> Noted
 pub fn note(list: &mut [SenderRecord], sender: u64, counter: u32) -> Noted
     ensures { λ r. ⌜ (r ≡ note sender counter (now (list .entry)) .answer) × (now (list .exit) ≡ note sender counter (now (list .entry)) .list) ⌝ }
 {
-    let n = counted(list.len());
-    let mut found = NOWHERE;
-    let mut i = 0;
-    while i < n {
-        found = seen(found, i, list[i], sender);
-        i = i + 1;
-    }
+    let found = find(list, sender);
     let place = found.place;
-    if place < n {
+    if place < COUNTED {
         list[place] = record_of(sender, counter);
     }
     noted_by(found)
