@@ -353,10 +353,10 @@ uint64_t nwk_payload_kind(uint8_t frame_type);
 
 /* ---- senders: the frame counters of those whose frames arrive, so that none is taken twice
  *
- * The caller lends a list of sender records and keeps it from call to call; at first it is all zeros. It has as many places as
- * it has records, of which only the first NWK_MAX_SENDERS count: those past them are neither looked at nor changed. So 64
- * senders need a list of 64 places, 1,024 bytes, and a shorter list keeps as many senders as it has places. Where a list names a
- * sender twice, the first record counts.
+ * The caller lends a list of sender records, to one call at a time, and keeps it from call to call; at first it is all zeros. It
+ * has as many places as it has records, of which only the first NWK_MAX_SENDERS count: those past them are neither looked at nor
+ * changed. So 64 senders need a list of 64 places, 1,024 bytes, and a shorter list keeps as many senders as it has places. Where
+ * a list names a sender twice, the first record counts.
  *
  * For each frame that nwk_open marks as sealed: ask for the key, with the IEEE that its nonce used (NWK_OPENED_NONCE_IEEE), its
  * key sequence number and its counter, and if nothing is refused note the counter and take the payload. Asking changes nothing,
@@ -381,9 +381,9 @@ typedef char nwk_sender_has_16_bytes[sizeof(struct nwk_sender) == 16 && offsetof
 /* Ask for the key of a frame that arrived: whether its key sequence number is the active one, and whether its counter is new. The
  * key is the active one, as two numbers. Length: 16. Refusals: 22 key_sequence_number is not active_key_sequence_number; 23
  * frame_counter is FFFFFFFF, or the list names the sender and frame_counter is not above its stored counter. The counter of an
- * unknown sender is not compared. Afterwards key holds the active key's 16 bytes. The list is never changed. */
+ * unknown sender is not compared. Afterwards key holds the active key's 16 bytes. The list is as it was. */
 uint64_t nwk_inbound_network_key(uint64_t key_first, uint64_t key_second, uint8_t active_key_sequence_number,
-                                 const struct nwk_sender *senders, size_t senders_count, uint64_t sender,
+                                 struct nwk_sender *senders, size_t senders_count, uint64_t sender,
                                  uint8_t key_sequence_number, uint32_t frame_counter, uint8_t key[16]);
 
 /* Note the counter of a frame that was opened. Look at NWK_KNOWN(answer) before you take the earlier counter:
@@ -592,19 +592,18 @@ static inline uint64_t nwk_open_burst_or_null(uint64_t key_first, uint64_t key_s
                         answers_count, nwk_lent(out, out_len), out_len);
 }
 
-static inline uint64_t nwk_inbound_network_key_or_null(uint64_t key_first, uint64_t key_second,
-                                                       uint8_t active_key_sequence_number, const struct nwk_sender *senders,
-                                                       size_t senders_count, uint64_t sender, uint8_t key_sequence_number,
-                                                       uint32_t frame_counter, uint8_t key[16]) {
-  static const struct nwk_sender no_sender = {0, 0, 0};
-  return nwk_inbound_network_key(key_first, key_second, active_key_sequence_number,
-                                 senders_count == 0 ? &no_sender : senders, senders_count, sender, key_sequence_number,
-                                 frame_counter, key);
-}
-
 static inline struct nwk_sender *nwk_lent_senders(struct nwk_sender *senders, size_t count) {
   static struct nwk_sender none;
   return count == 0 ? &none : senders;
+}
+
+static inline uint64_t nwk_inbound_network_key_or_null(uint64_t key_first, uint64_t key_second,
+                                                       uint8_t active_key_sequence_number, struct nwk_sender *senders,
+                                                       size_t senders_count, uint64_t sender, uint8_t key_sequence_number,
+                                                       uint32_t frame_counter, uint8_t key[16]) {
+  return nwk_inbound_network_key(key_first, key_second, active_key_sequence_number,
+                                 nwk_lent_senders(senders, senders_count), senders_count, sender, key_sequence_number,
+                                 frame_counter, key);
 }
 
 static inline uint64_t nwk_note_inbound_frame_counter_or_null(struct nwk_sender *senders, size_t senders_count,

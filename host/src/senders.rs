@@ -136,7 +136,15 @@ impl<'a> Senders<&'a mut [SenderRecord]> {
 }
 
 impl<Places: AsRef<[SenderRecord]>> Senders<Places> {
-    /// The key of a frame that arrived, which is the active one. Asking changes nothing.
+    /// Every place of the list, also those past the first [`MAX_SENDERS`].
+    #[must_use]
+    pub fn records(&self) -> &[SenderRecord] {
+        self.places.as_ref()
+    }
+}
+
+impl<Places: AsMut<[SenderRecord]>> Senders<Places> {
+    /// The key of a frame that arrived, which is the active one. Asking leaves the list as it was.
     ///
     /// The counter of an unknown sender is not compared.
     ///
@@ -145,7 +153,7 @@ impl<Places: AsRef<[SenderRecord]>> Senders<Places> {
     /// Refusal 22 if the key sequence number is not the active one, then 23 if the counter is [`u32::MAX`] or not above the one
     /// that is stored for the sender.
     pub fn inbound_network_key(
-        &self,
+        &mut self,
         key: &Key,
         active_key_sequence_number: u8,
         sender: Eui64,
@@ -153,7 +161,7 @@ impl<Places: AsRef<[SenderRecord]>> Senders<Places> {
         frame_counter: u32,
     ) -> Result<Key, Refusal> {
         let (first, second) = key.halves();
-        let places = self.records();
+        let places = self.places.as_mut();
         let mut given = Key::new([0; 16]);
         // SAFETY: the pointer goes with the number of its places, a place has the layout of a sender record, the key has its 16
         // places, and they do not overlap.
@@ -162,7 +170,7 @@ impl<Places: AsRef<[SenderRecord]>> Senders<Places> {
                 first,
                 second,
                 active_key_sequence_number,
-                places.as_ptr(),
+                places.as_mut_ptr(),
                 places.len(),
                 sender.into(),
                 key_sequence_number,
@@ -176,14 +184,6 @@ impl<Places: AsRef<[SenderRecord]>> Senders<Places> {
         }
     }
 
-    /// Every place of the list, also those past the first [`MAX_SENDERS`].
-    #[must_use]
-    pub fn records(&self) -> &[SenderRecord] {
-        self.places.as_ref()
-    }
-}
-
-impl<Places: AsMut<[SenderRecord]>> Senders<Places> {
     /// Notes the counter of a frame that was opened, and gives the sender's earlier one, or none if the sender is new. It then
     /// has the first free place. A lower counter takes the place of the earlier one too, and after [`u32::MAX`] every frame of
     /// the sender is refused by 23.

@@ -61,7 +61,7 @@ extern "C" {
         key_first: u64,
         key_second: u64,
         active_key_sequence_number: u8,
-        senders: *const SenderRecord,
+        senders: *mut SenderRecord,
         senders_count: usize,
         sender: u64,
         key_sequence_number: u8,

@@ -45,7 +45,7 @@ struct Recorded {
 
 impl Recorded {
     /// Asks as the Rust was asked, and compares what it gave.
-    fn ask(&self, words: &[&str], repeated: &mut Repeated) {
+    fn ask(&mut self, words: &[&str], repeated: &mut Repeated) {
         let [sender, number, counter, "=", answer, text] = words else {
             panic!("{words:?}");
         };

@@ -23,19 +23,19 @@ fn give_key(asked: Asked, key: &mut [u8; 16]) -> u64
     answer(0, 16)
 }
 
-// The active key for a frame of this sender, key sequence number and counter; refusals 22 and 23. The list is only read.
+// The active key for a frame of this sender, key sequence number and counter; refusals 22 and 23. The list is left as it was.
 #[no_mangle]
 pub extern "C" fn nwk_inbound_network_key(
     key_first: u64,
     key_second: u64,
     active: u8,
-    list: &[SenderRecord],
+    list: &mut [SenderRecord],
     sender: u64,
     key_sequence_number: u8,
     frame_counter: u32,
     key: &mut [u8; 16],
 ) -> u64
-    ensures { λ r. ⌜ (r ≡ askedAnswer (asked «key_first» «key_second» active (now (list .entry)) sender «key_sequence_number» «frame_counter»)) × (now (key .exit) ≡ keyLeft (asked «key_first» «key_second» active (now (list .entry)) sender «key_sequence_number» «frame_counter») (now (key .entry))) ⌝ }
+    ensures { λ r. ⌜ (r ≡ askedAnswer (asked «key_first» «key_second» active (now (list .entry)) sender «key_sequence_number» «frame_counter»)) × ((now (key .exit) ≡ keyLeft (asked «key_first» «key_second» active (now (list .entry)) sender «key_sequence_number» «frame_counter») (now (key .entry))) × (now (list .exit) ≡ now (list .entry))) ⌝ }
 {
     let active_key = Key::from_halves(key_first, key_second);
     let asked = senders::inbound_network_key(

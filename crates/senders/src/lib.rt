@@ -129,9 +129,9 @@ fn seen(before: Found, i: usize, r: SenderRecord, sender: u64) -> Found
     before
 }
 
-// What a list says of a sender.
-pub fn find(list: &[SenderRecord], sender: u64) -> Found
-    ensures { λ r. ⌜ r ≡ found sender (now (list .entry)) ⌝ }
+// What a list says of a sender. The list is left as it was.
+pub fn find(list: &mut [SenderRecord], sender: u64) -> Found
+    ensures { λ r. ⌜ (r ≡ found sender (now (list .entry))) × (now (list .exit) ≡ now (list .entry)) ⌝ }
 {
     let n = counted(list.len());
     let mut found = NOWHERE;
@@ -188,16 +188,17 @@ fn asked_by(key: Key, active: u8, found: Found, key_sequence_number: u8, counter
     Asked { refusal: 0, key }
 }
 
-// The active key for a frame of this sender, key sequence number and counter (`inbound_network_key`); refusals 22 and 23.
+// The active key for a frame of this sender, key sequence number and counter (`inbound_network_key`); refusals 22 and 23. The
+// list is left as it was.
 pub fn inbound_network_key(
     key: Key,
     active: u8,
-    list: &[SenderRecord],
+    list: &mut [SenderRecord],
     sender: u64,
     key_sequence_number: u8,
     counter: u32,
 ) -> Asked
-    ensures { λ r. ⌜ r ≡ inboundNetworkKey key active (now (list .entry)) sender «key_sequence_number» counter ⌝ }
+    ensures { λ r. ⌜ (r ≡ inboundNetworkKey key active (now (list .entry)) sender «key_sequence_number» counter) × (now (list .exit) ≡ now (list .entry)) ⌝ }
 {
     let found = find(list, sender);
     asked_by(key, active, found, key_sequence_number, counter)
