@@ -69,5 +69,14 @@ pub const KEY_SEQUENCE: u8 = 22;
 // 23: the frame counter is FFFFFFFF or not above the sender's stored one
 pub const FRAME_COUNTER: u8 = 23;
 
-// 24: the sender is new and no place is free
+// 24: the sender is new and no place is free, or a journal names more senders than 64 or than the list has places
 pub const NO_PLACE: u8 = 24;
+
+// 25: a record of a journal, or the one to be written, has a kind that is not 1 to 3
+pub const JOURNAL_KIND: u8 = 25;
+
+// 26: the last counter is FFFFFFFE or above
+pub const COUNTERS_USED_UP: u8 = 26;
+
+// 27: no complete ceiling record of the journal covers the next counter
+pub const NO_CEILING: u8 = 27;

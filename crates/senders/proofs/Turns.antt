@@ -29,7 +29,7 @@ cleared s (suc t) i l = cleared s t (suc i) (set l i (kept s (at l i)))
 -- ---- how many turns there are
 
 -- the smaller of the budget n and the places k
-abbrev turns : ℕ → ℕ → ℕ
+abbrev pub turns : ℕ → ℕ → ℕ
 turns zero k = 0
 turns (suc n) zero = 0
 turns (suc n) (suc k) = suc (turns n k)
@@ -48,7 +48,7 @@ counted-by : (k : ℕ) (b : Bool) → ltb k 64 ≡ b → cond b k 64 ≡ turns 6
 counted-by k true e = sym (turns-small 64 k (omega (arith, ltb-true k 64 e)))
 counted-by k false e = sym (turns-large 64 k (ltb-false k 64 e))
 
-counted-is : (k : ℕ) → counted k ≡ turns 64 k
+pub counted-is : (k : ℕ) → counted k ≡ turns 64 k
 unfolding counted
 counted-is k = counted-by k (ltb k 64) refl
 
@@ -58,15 +58,15 @@ at-behind : (d : List SenderRecord) (r : SenderRecord) (l : List SenderRecord) �
 at-behind [] r l = refl
 at-behind (x ∷ d) r l = at-behind d r l
 
-set-behind : (d : List SenderRecord) (r y : SenderRecord) (l : List SenderRecord) → set (d ++ (r ∷ l)) (length d) y ≡ (d ++ (y ∷ [])) ++ l
+pub set-behind : (d : List SenderRecord) (r y : SenderRecord) (l : List SenderRecord) → set (d ++ (r ∷ l)) (length d) y ≡ (d ++ (y ∷ [])) ++ l
 set-behind [] r y l = refl
 set-behind (x ∷ d) r y l = ap (λ (m : List SenderRecord). x ∷ m) (set-behind d r y l)
 
-snoc-length : (d : List SenderRecord) (y : SenderRecord) → length (d ++ (y ∷ [])) ≡ suc (length d)
+pub snoc-length : (d : List SenderRecord) (y : SenderRecord) → length (d ++ (y ∷ [])) ≡ suc (length d)
 snoc-length [] y = refl
 snoc-length (x ∷ d) y = ap suc (snoc-length d y)
 
-snoc-append : (d : List SenderRecord) (y : SenderRecord) (l : List SenderRecord) → (d ++ (y ∷ [])) ++ l ≡ d ++ (y ∷ l)
+pub snoc-append : (d : List SenderRecord) (y : SenderRecord) (l : List SenderRecord) → (d ++ (y ∷ [])) ++ l ≡ d ++ (y ∷ l)
 snoc-append [] y l = refl
 snoc-append (x ∷ d) y l = ap (λ (m : List SenderRecord). x ∷ m) (snoc-append d y l)
 

@@ -46,6 +46,13 @@ pub struct Noted {
     pub earlier: OptionCounter,
 }
 
+// A free place, all zeros.
+pub const FREE: SenderRecord = SenderRecord {
+    address: 0,
+    counter: 0,
+    used: 0,
+};
+
 // What is known of a sender before a record was seen.
 const NOWHERE: Found = Found {
     named: false,
@@ -66,7 +73,7 @@ fn names(r: SenderRecord, sender: u64) -> bool
 }
 
 // The record of a sender and its counter.
-fn record_of(sender: u64, counter: u32) -> SenderRecord
+pub fn record_of(sender: u64, counter: u32) -> SenderRecord
     ensures { λ x. ⌜ x ≡ recordOf sender counter ⌝ }
 {
     SenderRecord {
@@ -81,11 +88,7 @@ fn kept(r: SenderRecord, sender: u64) -> SenderRecord
     ensures { λ x. ⌜ x ≡ kept sender r ⌝ }
 {
     if names(r, sender) {
-        return SenderRecord {
-            address: 0,
-            counter: 0,
-            used: 0,
-        };
+        return FREE;
     }
     r
 }
@@ -93,7 +96,7 @@ fn kept(r: SenderRecord, sender: u64) -> SenderRecord
 // ---- a walk over the list
 
 // How many places of a list of n count.
-fn counted(n: usize) -> usize
+pub fn counted(n: usize) -> usize
     ensures { λ x. ⌜ x ≡ counted n ⌝ }
 {
     if n < COUNTED {

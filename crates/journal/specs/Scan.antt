@@ -1,0 +1,78 @@
+-- What one pass over a journal gathers: it goes from record to record, and keeps the senders in a table of two columns.
+-- Assumes nothing.
+use Prim.Native.Nat.{ℕ, zero, suc, _+_, _≤_}
+use mathlib.Core.Path.{_≡_}
+use mathlib.Core.Bool.{Bool, false, cond, not, _&&_, _||_}
+use mathlib.Core.List.{List, [], _∷_}
+use lib.Dec.{eqb, leb, ltb}
+use lib.ListN.{length, getD}
+use Rattle.octets.specs.Refusals.{unless, on, firstOf}
+use Rattle.senders.specs.declared.SenderRecord.{SenderRecord}
+use Rattle.senders.specs.Records.{recordOf, freeRecord}
+use Rattle.senders.specs.Senders.{countedPlaces}
+use Rattle.senders.specs.Walks.{counted}
+use Rattle.journal.specs.declared.{Found.Found, Recovered.Recovered, scan.Scanned.Scanned}
+use Rattle.journal.specs.Format.{isKind, bodyLength, unknownKind, completeLength}
+use Rattle.journal.specs.Recovery.{stateOf, recoverRefusal, recoverAnswer, recoverNothing}
+
+-- the length of the record at place i, or 0 if no complete one of a known kind stands there
+unfoldable pub wholeAt : List ℕ → ℕ → ℕ
+wholeAt j i = cond (isKind (getD j i 0) && ltb (i + bodyLength (getD j i 0)) (length j)) (suc (bodyLength (getD j i 0))) 0
+
+-- ---- the table: n senders, their addresses and their counters
+
+-- the place of s among the first n addresses, or n
+unfoldable pub firstAt : ℕ → ℕ → List ℕ → ℕ
+firstAt s zero xs = 0
+firstAt s (suc n) [] = suc n
+firstAt s (suc n) (a ∷ xs) = cond (eqb a s) 0 (suc (firstAt s n xs))
+
+unfoldable pub tableOf : ℕ → List ℕ → List ℕ → List SenderRecord
+tableOf zero xs cs = []
+tableOf (suc n) [] cs = []
+tableOf (suc n) (a ∷ xs) [] = []
+tableOf (suc n) (a ∷ xs) (c ∷ cs) = recordOf a c ∷ tableOf n xs cs
+
+-- with room for so many senders it holds those of the list, or its number says that they are more
+abbrev pub Holds : ℕ → ℕ → List ℕ → List ℕ → List SenderRecord → Type 0
+Holds room n xs cs ss = (n ≡ cond (leb (length ss) room) (length ss) (suc room)) × (length ss ≤ room → tableOf n xs cs ≡ ss)
+
+-- from one table to another: whatever senders the one holds, the other holds what f makes of them
+abbrev pub Keeps : ℕ → (List SenderRecord → List SenderRecord) → ℕ → List ℕ → List ℕ → ℕ → List ℕ → List ℕ → Type 0
+Keeps room f n xs cs m ys ds = (ss : List SenderRecord) → Holds room n xs cs ss → Holds room m ys ds (f ss)
+
+-- ---- the whole pass
+
+-- where every kind is known it gathered the journal's state, and stopped behind its complete records
+abbrev pub Scans : ℕ → List ℕ → Scanned → List ℕ → List ℕ → Type 0
+Scans room j r xs cs =
+    (r .known ≡ not (unknownKind j))
+    × (unknownKind j ≡ false
+    → (r .ceiling ≡ stateOf j .ceiling) × ((r .«key_number» ≡ stateOf j .keyNumber) × ((r .complete ≡ completeLength j) × Holds room (r .senders) xs cs (stateOf j .senders))))
+
+-- what is found for a list of so many places: recovery's answer and, where it is not refused, the senders
+abbrev pub Finds : List ℕ → ℕ → Found → Type 0
+Finds j places f =
+    (f .answer ≡ recoverAnswer j places) × (recoverRefusal j places ≡ 0 → tableOf (f .senders) (f .addresses) (f .counters) ≡ stateOf j .senders)
+
+-- recovery's answer by what a pass gathered with room for so many senders
+unfoldable pub recoveredBy : Scanned → ℕ → Recovered
+recoveredBy r room =
+    cond (not (r .known)) (recoverNothing 25)
+    (cond (ltb room (r .senders)) (recoverNothing 24)
+    (record { refusal = 0; ceiling = r .ceiling; «key_number» = r .«key_number»; complete = r .complete }))
+
+-- how many places are filled, and what is put in place i: a sender, or zeros behind them
+unfoldable pub filled : Found → ℕ → ℕ
+filled f places = unless (f .answer .refusal) (counted places) 0
+
+unfoldable pub placeAt : Found → ℕ → SenderRecord
+placeAt f i = cond (leb 64 i || leb (f .senders) i) freeRecord (recordOf (getD (f .addresses) i 0) (getD (f .counters) i 0))
+
+-- the refusals of writing, and of the next counter, by what was gathered
+unfoldable pub writeRefusalBy : Bool → ℕ → ℕ → ℕ → ℕ → ℕ
+writeRefusalBy known kind senders room n =
+    firstOf (on 25 (not known || not (isKind kind)) ∷ on 24 (ltb countedPlaces senders) ∷ on 18 (ltb room n) ∷ [])
+
+unfoldable pub nextRefusalBy : Bool → ℕ → ℕ → ℕ
+nextRefusalBy known ceiling last = firstOf (on 25 (not known) ∷ on 26 (leb 0xFFFFFFFE last) ∷ on 27 (leb ceiling last) ∷ [])
