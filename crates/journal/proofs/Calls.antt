@@ -27,10 +27,9 @@ use denote.Struct.Laws as LL
 use denote.Triple.Statement.{Contract}
 use denote.Triple.Clauses.{ensured, lasts}
 use denote.Triple.Spec.{tripleOf}
-use Rattle.senders.specs.declared.SenderRecord.{SenderRecord}
 use Rattle.senders.proofs.Steps.{gives-value}
 use Rattle.senders.proofs.SenderRecord as T
-use Rattle.journal.specs.declared.{Found.Found, Recovered.Recovered}
+use Rattle.journal.specs.declared.Found.{Found}
 use Rattle.journal.specs.Scan.{Finds, filled, placeAt}
 use Rattle.journal.proofs.Found as F
 use Rattle.journal.proofs.Found.Laws as F′

@@ -4,7 +4,7 @@
 use Prim.Native.Nat.{ℕ, zero, suc, _+_, _≤_, _<_}
 use native.Mathlib.Omega.{arith}
 use mathlib.Core.Path.{_≡_, refl, sym, ap, _∙_}
-use mathlib.Core.Bool.{Bool, true, false, cond, _||_}
+use mathlib.Core.Bool.{Bool, cond, _||_}
 use mathlib.Core.List.{List, [], _∷_, _++_}
 use lib.Dec.{leb, leb·zero, leb·suc-zero, leb·suc-suc}
 use lib.ListN.{length, getD, set}
@@ -39,11 +39,6 @@ anew-next : (n : ℕ) (ss : List SenderRecord) (x : SenderRecord) (l : List Send
 unfolding anew
 anew-next n [] x l = refl
 anew-next n (s ∷ ss) x l = refl
-
-anew-none : (n : ℕ) (ss : List SenderRecord) → anew n ss [] ≡ []
-unfolding anew
-anew-none zero ss = refl
-anew-none (suc n) ss = refl
 
 -- from place `length d` on, p has the records of ss and zeros behind them
 abbrev Has : (ℕ → SenderRecord) → ℕ → List SenderRecord → List SenderRecord → Type 0

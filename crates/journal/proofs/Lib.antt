@@ -6,3 +6,9 @@ pub mod Passing
 pub mod Gathered
 pub mod Filling
 pub mod Calls
+pub mod Appending
+pub mod ReadBack
+pub mod NoCounterTwice
+pub mod SendersOnce
+pub mod Claims
+pub mod WorkedCases

@@ -23,6 +23,7 @@ ghost use Rattle.journal.specs.Writing.{writeRefusal, writeRecord, nextC
 ghost use Rattle.journal.specs.Scan.{recoveredBy, Finds, filled, placeAt, writeRefusalBy, nextRefusalBy};
 
 pub mod format;
+pub mod ranges;
 pub mod scan;
 pub mod table;
 

@@ -1,0 +1,207 @@
+-- No counter is handed out twice: in every life each one handed out is up to the largest complete ceiling of the store, which no event makes
+-- lower, and up to the last counter while the power is on. A recovery starts from that ceiling. Assumes nothing.
+use mathlib.Core.Path.{_≡_, refl, sym, ap, subst, _∙_}
+use mathlib.Core.Bool.{Bool, true, false, cond, not}
+use mathlib.Core.List.{List, [], _∷_, _++_, append-nil}
+use Prim.Native.Nat.{ℕ, zero, suc, _<_, _≤_}
+use native.Mathlib.Omega.{arith}
+use lib.Dec.{leb, ltb}
+use lib.ListN.{length, take}
+use borrow.Author.Tests.{leb-false, leb-true, ltb-true, ltb-false, not-false}
+use borrow.Table.Steps.{cases}
+use Rattle.octets.specs.Refusals.{unless, firstOf}
+use Rattle.octets.specs.Writing.{Run, written}
+use Rattle.octets.proofs.Conditions.{none, or-false, unless-either}
+use Rattle.octets.proofs.Writing.{written-number}
+use Rattle.types.specs.Counters.{lastCounter}
+use Rattle.senders.specs.declared.OptionCounter.{OptionCounter}
+use Rattle.journal.specs.declared.{format.JournalRecord.JournalRecord, Recovered.Recovered, NextCounter.NextCounter}
+use Rattle.journal.specs.Format.{records, unknownKind}
+use Rattle.journal.specs.Recovery.{State, blank, larger, ceilingAfter, applied, appliedAll, stateOf, recoverRefusal, recoverGiven, recoverNothing, recoverAnswer}
+use Rattle.journal.specs.Writing.{writeRefusal, writeRecord, recordOfKind, someCeiling, nextRefusal, nextGiven, nextNothing, nextCounter}
+use Rattle.journal.specs.Life.{Gateway, begun, Writing, Event, recovers, shortens, appends, hands, cuts, cutsAppending, completePart, writes, given, off, recovered, appended, handedOut, whileOn, after, afterAll, life}
+use Rattle.journal.specs.Claims.{AllBelow, NoCounterTwice, EachCanBeSealed, OneMoreIfCovered}
+use Rattle.journal.proofs.Appending.{records-append}
+use Rattle.journal.proofs.Gathered.{covered}
+
+-- ---- the ceiling is never lower than before
+
+abbrev ceilingOf : List ℕ → ℕ
+ceilingOf j = stateOf j .ceiling
+
+one-higher : (r : JournalRecord) (x : ℕ) → x ≤ ceilingAfter r x
+unfolding ceilingAfter
+one-higher (JournalRecord.Ceiling c) x = cases (ltb x c) (λ e. rw e (omega (arith, ltb-true x c e))) (λ e. rw e (omega arith))
+one-higher (JournalRecord.Sender s c) x = omega arith
+one-higher (JournalRecord.KeyNumber k) x = omega arith
+
+all-higher : (rs : List JournalRecord) (g : State) → g .ceiling ≤ appliedAll rs g .ceiling
+unfolding appliedAll
+all-higher [] g = omega arith
+all-higher (r ∷ rs) g = omega (arith, one-higher r (g .ceiling), all-higher rs (applied r g))
+
+pub applied-append : (rs qs : List JournalRecord) (g : State) → appliedAll (rs ++ qs) g ≡ appliedAll qs (appliedAll rs g)
+unfolding appliedAll
+applied-append [] qs g = refl
+applied-append (r ∷ rs) qs g = applied-append rs qs (applied r g)
+
+-- whatever bytes t stand behind the complete records
+higher : (j : List ℕ) → unknownKind j ≡ false → (t : List ℕ) → ceilingOf j ≤ ceilingOf (completePart j ++ t)
+unfolding stateOf
+higher j u t =
+    let e = ap (λ (rs : List JournalRecord). appliedAll rs blank) (records-append j u t) ∙ applied-append (records j) (records t) blank in
+    subst (λ (g : State). appliedAll (records j) blank .ceiling ≤ g .ceiling) (sym e) (all-higher (records t) (appliedAll (records j) blank))
+
+-- ---- what holds in every life
+
+-- each counter of a list is up to c
+abbrev UpTo : ℕ → List ℕ → Type 0
+UpTo c [] = Unit {0}
+UpTo c (x ∷ xs) = (x ≤ c) × UpTo c xs
+
+up-to-more : (c d : ℕ) (xs : List ℕ) → c ≤ d → UpTo c xs → UpTo d xs
+up-to-more c d [] h u = tt
+up-to-more c d (x ∷ xs) h u = (omega (arith, h, u .0), up-to-more c d xs h (u .1))
+
+up-to-snoc : (c : ℕ) (xs : List ℕ) (x : ℕ) → UpTo c xs → x ≤ c → UpTo c (xs ++ (x ∷ []))
+up-to-snoc c [] x u h = (h, tt)
+up-to-snoc c (y ∷ xs) x u h = (u .0, up-to-snoc c xs x (u .1) h)
+
+-- above lo, each is larger than the one before it
+abbrev Rises : ℕ → List ℕ → Type 0
+Rises lo [] = Unit {0}
+Rises lo (x ∷ xs) = (lo < x) × Rises x xs
+
+rises-snoc : (lo c : ℕ) (xs : List ℕ) → Rises lo xs → lo ≤ c → UpTo c xs → Rises lo (xs ++ (suc c ∷ []))
+rises-snoc lo c [] r h u = (omega (arith, h), tt)
+rises-snoc lo c (x ∷ xs) r h u = (r .0, rises-snoc x c xs (r .1) (u .0) (u .1))
+
+rises-split : (lo c : ℕ) (before behind : List ℕ) → Rises lo (before ++ (c ∷ behind)) → (lo < c) × AllBelow c before
+rises-split lo c [] behind r = (r .0, tt)
+rises-split lo c (x ∷ before) behind r = let s = rises-split x c before behind (r .1) in (omega (arith, r .0, s .0), (s .0, s .1))
+
+up-to-split : (d c : ℕ) (before behind : List ℕ) → UpTo d (before ++ (c ∷ behind)) → c ≤ d
+up-to-split d c [] behind u = u .0
+up-to-split d c (x ∷ before) behind u = up-to-split d c before behind (u .1)
+
+-- the last counter, if the power is on
+abbrev UpToLast : OptionCounter → List ℕ → Type 0
+UpToLast OptionCounter.Absent xs = Unit {0}
+UpToLast (OptionCounter.Present c) xs = UpTo c xs
+
+-- handed out so far: one larger than the other, all to be sealed, all up to the ceiling of the store and to the last one
+abbrev Safe : Gateway → Type 0
+Safe g = Rises 0 (g .handed) × (UpTo 0xFFFFFFFE (g .handed) × (UpTo (ceilingOf (g .stored)) (g .handed) × UpToLast (g .last) (g .handed)))
+
+-- ---- what a call that is not refused says
+
+module _ (j : List ℕ) where
+  recovered-ceiling : (places : ℕ) → recoverAnswer j places .refusal ≡ 0 → recoverAnswer j places .ceiling ≡ ceilingOf j
+  unfolding recoverAnswer unless
+  recovered-ceiling places = by (recoverRefusal j places)
+    where
+      by : (n : ℕ) → unless n (recoverGiven j) (recoverNothing n) .refusal ≡ 0 → unless n (recoverGiven j) (recoverNothing n) .ceiling ≡ ceilingOf j
+      by zero h = refl
+      by (suc n) h = absurd (omega (arith, h))
+
+  written-known : (w : Writing) → writes j w .answer .refusal ≡ 0 → unknownKind j ≡ false
+  unfolding writeRecord writeRefusal
+  written-known w h =
+      or-false (unknownKind j) _ (none _ (sym (written-number _ _ (w .out)) ∙ h) .0) .0
+
+  -- not refused: no number, and one more than the last
+  next-number : (last n : ℕ) → unless n (nextGiven last) (nextNothing n) .refusal ≡ 0 → (n ≡ 0) × (unless n (nextGiven last) (nextNothing n) .counter ≡ suc last)
+  unfolding unless
+  next-number last zero h = (refl, refl)
+  next-number last (suc n) h = absurd (omega (arith, h))
+
+  next-given : (last : ℕ) → nextCounter j last .refusal ≡ 0
+      → (nextCounter j last .counter ≡ suc last) × ((last < 0xFFFFFFFE) × (someCeiling (suc last) (records j) ≡ true))
+  unfolding nextCounter nextRefusal
+  next-given last h =
+      let n = next-number last (nextRefusal j last) h in
+      let cs = none _ (n .0) in
+      (n .1, (leb-false 0xFFFFFFFE last (cs .1 .0), not-false (someCeiling (suc last) (records j)) (cs .1 .1 .0)))
+
+  next-covered : (last : ℕ) → someCeiling (suc last) (records j) ≡ true → suc last ≤ ceilingOf j
+  next-covered last h = omega (arith, leb-false (ceilingOf j) last (covered j last ∙ ap not h))
+
+-- ---- each event keeps a gateway safe
+
+module _ (g : Gateway) (safe : Safe g) where
+  off-safe : Safe (off g)
+  off-safe = (safe .0, (safe .1 .0, (safe .1 .1 .0, tt)))
+
+  -- with a store whose ceiling is no lower
+  stored-safe : (j : List ℕ) → ceilingOf (g .stored) ≤ ceilingOf j → Safe (record { stored = j; last = g .last; handed = g .handed })
+  stored-safe j h = (safe .0, (safe .1 .0, (up-to-more _ _ (g .handed) h (safe .1 .1 .0), safe .1 .1 .1)))
+
+  recovered-safe : (places : ℕ) → Safe (recovered (recoverAnswer (g .stored) places) g)
+  recovered-safe places =
+      unless-either Safe (recoverAnswer (g .stored) places .refusal) _ g
+      (λ z. (safe .0, (safe .1 .0, (safe .1 .1 .0, subst (λ (c : ℕ). UpTo c (g .handed)) (sym (recovered-ceiling (g .stored) places z)) (safe .1 .1 .0))))) safe
+
+  appended-safe : (w : Writing) (n : ℕ) → Safe (appended (writes (g .stored) w) n g)
+  appended-safe w n =
+      unless-either Safe (writes (g .stored) w .answer .refusal) _ g
+      (λ z. stored-safe _ (higher (g .stored) (written-known (g .stored) w z) (take n (given (writes (g .stored) w))))) safe
+
+  handed-safe : (c : ℕ) → UpTo c (g .handed) → Safe (handedOut (nextCounter (g .stored) c) g)
+  handed-safe c u =
+      unless-either Safe (nextCounter (g .stored) c .refusal) _ g
+      (λ z. let n = next-given (g .stored) c z in
+      subst (λ (x : ℕ). Safe (record { stored = g .stored; last = OptionCounter.Present x; handed = g .handed ++ (x ∷ []) })) (sym (n .0)) (
+        rises-snoc 0 c (g .handed) (safe .0) (omega arith) u,
+        (
+          up-to-snoc 0xFFFFFFFE (g .handed) (suc c) (safe .1 .0) (omega (arith, n .1 .0)),
+          (
+            up-to-snoc (ceilingOf (g .stored)) (g .handed) (suc c) (safe .1 .1 .0) (next-covered (g .stored) c (n .1 .1)),
+            up-to-snoc (suc c) (g .handed) (suc c) (up-to-more c (suc c) (g .handed) (omega arith) u) (omega arith),
+          ),
+        ),
+      )) safe
+
+-- while the power is on
+while-on : (P : Gateway → Type 0) (o : OptionCounter) (f : ℕ → Gateway) (g : Gateway) → P g → ((c : ℕ) → o ≡ OptionCounter.Present c → P (f c)) → P (whileOn o f g)
+while-on P OptionCounter.Absent f g p q = p
+while-on P (OptionCounter.Present c) f g p q = q c refl
+
+safe-after : (e : Event) (g : Gateway) → Safe g → Safe (after e g)
+unfolding after
+safe-after (recovers l) g safe = recovered-safe g safe (length l)
+safe-after shortens g safe =
+    cases (unknownKind (g .stored)) (λ u. rw u safe)
+    (λ u. rw u (stored-safe g safe (completePart (g .stored))
+    (subst (λ (j : List ℕ). ceilingOf (g .stored) ≤ ceilingOf j) (append-nil (completePart (g .stored))) (higher (g .stored) u []))))
+safe-after (appends w) g safe =
+    let r = writes (g .stored) w in
+    while-on Safe (g .last) (λ c. appended r (length (given r)) g) g safe (λ c _. appended-safe g safe w (length (given r)))
+safe-after hands g safe =
+    while-on Safe (g .last) (λ c. handedOut (nextCounter (g .stored) c) g) g safe
+    (λ c e. handed-safe g safe c (subst (λ (o : OptionCounter). UpToLast o (g .handed)) e (safe .1 .1 .1)))
+safe-after cuts g safe = off-safe g safe
+safe-after (cutsAppending w n) g safe =
+    let f : ℕ → Gateway = λ c. appended (writes (g .stored) w) n g in
+    off-safe (whileOn (g .last) f g) (while-on Safe (g .last) f g safe (λ c _. appended-safe g safe w n))
+
+safe-all : (es : List Event) (g : Gateway) → Safe g → Safe (afterAll es g)
+unfolding afterAll
+safe-all [] g safe = safe
+safe-all (e ∷ es) g safe = safe-all es (after e g) (safe-after e g safe)
+
+safe-life : (es : List Event) → Safe (life es)
+safe-life es = safe-all es begun (tt, (tt, (tt, tt)))
+
+-- ---- the claims
+
+pub no-counter-twice : NoCounterTwice
+no-counter-twice es before behind c e = rises-split 0 c before behind (subst (Rises 0) e (safe-life es .0)) .1
+
+pub each-can-be-sealed : EachCanBeSealed
+each-can-be-sealed es before behind c e = (
+  rises-split 0 c before behind (subst (Rises 0) e (safe-life es .0)) .0,
+  omega (arith, up-to-split 0xFFFFFFFE c before behind (subst (UpTo 0xFFFFFFFE) e (safe-life es .1 .0))),
+)
+
+pub one-more-if-covered : OneMoreIfCovered
+one-more-if-covered j last h = let n = next-given j last h in (n .0, n .1 .1)

@@ -1,0 +1,19 @@
+-- Every row of the table of worked cases holds, by computing the definitions: one claim, in which a wrong row fails.
+-- Assumes nothing.
+use mathlib.Core.Path.{refl}
+use Rattle.octets.specs.Refusals.{unless, firstOf}
+use Rattle.octets.specs.Strings.{over}
+use Rattle.octets.specs.Numbers.{le, leAt}
+use Rattle.octets.specs.Writing.{written}
+use Rattle.senders.specs.Walks.{counted}
+use Rattle.journal.specs.Format.{bodyLength, recordAt, recordBytes, kindsFrom, recordsFrom, someUnknown, totalLength}
+use Rattle.journal.specs.Recovery.{noted, ceilingAfter, keyNumberAfter, sendersAfter, appliedAll, stateOf, recoverRefusal, anew, recoverAnswer, recoveredList}
+use Rattle.journal.specs.Writing.{recordOfKind, writeRefusal, writeRecord, someCeiling, nextRefusal, nextCounter}
+use Rattle.journal.specs.Life.{after, afterAll}
+use Rattle.journal.specs.WorkedCases.{AllHold, many, listed, worked}
+
+pub worked-hold : AllHold worked
+unfolding unless firstOf over le leAt written counted bodyLength recordAt recordBytes kindsFrom recordsFrom someUnknown totalLength noted
+    ceilingAfter keyNumberAfter sendersAfter appliedAll stateOf recoverRefusal anew recoverAnswer recoveredList recordOfKind writeRefusal
+    writeRecord someCeiling nextRefusal nextCounter after afterAll many listed worked
+worked-hold = ((refl, refl), ((refl, refl), ((refl, refl), ((refl, refl), ((refl, refl), ((refl, refl), ((refl, refl), ((refl, refl), ((refl, refl), ((refl, refl), ((refl, refl), ((refl, refl), ((refl, refl), ((refl, refl), ((refl, refl), ((refl, refl), ((refl, refl), ((refl, refl), ((refl, refl), ((refl, refl), ((refl, refl), ((refl, refl), ((refl, refl), ((refl, refl), ((refl, refl), ((refl, refl), ((refl, refl), ((refl, refl), ((refl, refl), ((refl, refl), ((refl, refl), ((refl, refl), ((refl, refl), ((refl, refl), (refl, (refl, (refl, (refl, (refl, (refl, (refl, (refl, (refl, (refl, (refl, (refl, (refl, (refl, (refl, (refl, (refl, (refl, (refl, (refl, (refl, (refl, (refl, tt)))))))))))))))))))))))))))))))))))))))))))))))))))))))))
