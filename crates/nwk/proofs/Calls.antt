@@ -13,8 +13,11 @@ use Rattle.octets.specs.Writing.{written}
 use Rattle.octets.proofs.Conditions as conditions
 use Rattle.frame.specs.declared.Mark.{Mark}
 use Rattle.senders.specs.declared.OptionCounter.{OptionCounter}
+use Rattle.journal.specs.declared.OptionKeyNumber.{OptionKeyNumber}
+use Rattle.journal.specs.Recovery.{recoverNothing}
 use Rattle.nwk.specs.Answer.{answer, clearBit, openedAnswer, answerBy, given}
 use Rattle.nwk.specs.Inbound.{earlierAnswer}
+use Rattle.nwk.specs.Recovery.{recoveredAnswer, nextAnswer}
 
 -- ---- reading the answer
 
@@ -50,6 +53,28 @@ noted-known n c h = (omega (arith, h), (omega (arith, h), omega (arith, h)))
 pub noted-new : (n : ℕ) → n < 2 ^ 8 → let a = earlierAnswer n OptionCounter.Absent in (a % 2 ^ 32 ≡ 0) × ((a / 2 ^ 32 % 2 ^ 8 ≡ n) × (a / 2 ^ 41 ≡ 0))
 unfolding answer
 noted-new n h = (omega (arith, h), (omega (arith, h), omega (arith, h)))
+
+-- of recovery: the ceiling, no refusal, and where there is a key number bit 41 set and that number; else bit 41 off and 0
+pub recovered-known : (c k m : ℕ) → c < 2 ^ 32 → let a = recoveredAnswer (record { refusal = 0; ceiling = c; «key_number» = OptionKeyNumber.Present k; complete = m }) in
+    (a % 2 ^ 32 ≡ c) × ((a / 2 ^ 32 % 2 ^ 8 ≡ 0) × ((a / 2 ^ 41 % 2 ≡ 1) × (a / 2 ^ 48 ≡ k)))
+unfolding recoveredAnswer unless
+recovered-known c k m h = (omega (arith, h), (omega (arith, h), (omega (arith, h), omega (arith, h))))
+
+pub recovered-none : (c m : ℕ) → c < 2 ^ 32 → let a = recoveredAnswer (record { refusal = 0; ceiling = c; «key_number» = OptionKeyNumber.Absent; complete = m }) in
+    (a % 2 ^ 32 ≡ c) × ((a / 2 ^ 32 % 2 ^ 8 ≡ 0) × ((a / 2 ^ 41 % 2 ≡ 0) × (a / 2 ^ 48 ≡ 0)))
+unfolding recoveredAnswer unless
+recovered-none c m h = (omega (arith, h), (omega (arith, h), (omega (arith, h), omega (arith, h))))
+
+-- refused by a number: that number alone
+pub recovered-refused : (n : ℕ) → (n ≡ 0 → ⊥) → n < 2 ^ 8 → let a = recoveredAnswer (recoverNothing n) in
+    (a % 2 ^ 32 ≡ 0) × ((a / 2 ^ 32 % 2 ^ 8 ≡ n) × ((a / 2 ^ 41 % 2 ≡ 0) × (a / 2 ^ 48 ≡ 0)))
+unfolding recoveredAnswer unless answer
+recovered-refused zero h g = absurd (h refl)
+recovered-refused (suc n) h g = (omega (arith, g), (omega (arith, g), (omega (arith, g), omega (arith, g))))
+
+-- of the next counter: the counter, and no refusal
+pub next-given : (c : ℕ) → c < 2 ^ 32 → let a = nextAnswer (record { refusal = 0; counter = c }) in (a % 2 ^ 32 ≡ c) × (a / 2 ^ 32 ≡ 0)
+next-given c h = (answer-length 0 c h, answer-refusal 0 c)
 
 -- ---- refused by the number k: the answer, and each buffer as it was
 

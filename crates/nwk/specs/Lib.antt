@@ -5,3 +5,4 @@ pub mod Headers
 pub mod Frames
 pub mod Commands
 pub mod Inbound
+pub mod Recovery

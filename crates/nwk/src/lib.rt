@@ -7,3 +7,4 @@ mod command;
 mod frames;
 mod headers;
 mod inbound;
+mod recovery;
