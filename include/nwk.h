@@ -7,7 +7,8 @@
  *
  * Every function answers one number: the length in bits 0 to 31 (NWK_LENGTH), the refusal in bits 32 to 39 (NWK_REFUSAL,
  * 0: accepted), in bit 40 of nwk_open's answer whether the frame was clear (NWK_CLEAR), in bit 41 of that of
- * nwk_note_inbound_frame_counter whether the sender was known (NWK_KNOWN), the other bits 0. A refusal has length 0 and leaves
+ * nwk_note_inbound_frame_counter whether the sender was known and of that of nwk_recover_journal whether there is a key number
+ * (NWK_KNOWN), which then stands in bits 48 to 55 (NWK_KEY_NUMBER), the other bits 0. A refusal has length 0 and leaves
  * every lent byte as it was, records included. Where nothing is refused, each result stands at the front of its
  * buffer (each frame's of a burst at the front of its own part) and the rest of the buffer stays. Refusals are checked in the
  * order in which each function's comment lists those that it can answer, which need not be that of their numbers.
@@ -42,8 +43,8 @@
 extern "C" {
 #endif
 
-#define NWK_VERSION "0.6.0"
-#define NWK_VERSION_NUMBER 0x000600
+#define NWK_VERSION "0.7.0"
+#define NWK_VERSION_NUMBER 0x000700
 
 #ifdef __cplusplus
 #define NWK_CAST(type, value) static_cast<type>(value)
@@ -58,8 +59,11 @@ extern "C" {
 #define NWK_CLEAR(answer) NWK_CAST(uint8_t, (answer) >> 40 & 1u)
 
 /* Of an answer of nwk_note_inbound_frame_counter that is no refusal: 1 if the sender was known and the answer has its earlier
- * counter, 0 if it is new and there is none. */
+ * counter, 0 if it is new and there is none. Of one of nwk_recover_journal: 1 if the journal has a key number, else 0. */
 #define NWK_KNOWN(answer) NWK_CAST(uint8_t, (answer) >> 41 & 1u)
+
+/* Of an answer of nwk_recover_journal: the key number, where NWK_KNOWN is 1. It may be 0. */
+#define NWK_KEY_NUMBER(answer) NWK_CAST(uint8_t, (answer) >> 48 & 0xFFu)
 
 /* The longest frame, and the longest payload or command. */
 #define NWK_MAX_FRAME 118
@@ -98,7 +102,10 @@ enum nwk_refusal {
   NWK_REFUSED_LAST_COUNTER = 21,
   NWK_REFUSED_KEY_SEQUENCE = 22,
   NWK_REFUSED_FRAME_COUNTER = 23,
-  NWK_REFUSED_NO_PLACE = 24
+  NWK_REFUSED_NO_PLACE = 24,
+  NWK_REFUSED_JOURNAL_KIND = 25,
+  NWK_REFUSED_COUNTERS_USED_UP = 26,
+  NWK_REFUSED_NO_CEILING = 27
 };
 
 /* ---- records
@@ -402,6 +409,55 @@ uint64_t nwk_note_inbound_frame_counter(struct nwk_sender *senders, size_t sende
  * changed, nor what is left in a free one. */
 uint64_t nwk_forget_sender(struct nwk_sender *senders, size_t senders_count, uint64_t sender);
 
+/* ---- journal: counters that survive a power cut
+ *
+ * A journal is a row of records end to end, each a kind byte and a body of the length that the kind fixes, numbers least significant
+ * byte first:
+ *
+ *   kind                          body                                                    bytes in all
+ *   1  NWK_JOURNAL_CEILING        a ceiling (4): counters up to it may be handed out                 5
+ *   2  NWK_JOURNAL_SENDER         a sender's IEEE (8), in wire order, and its counter (4)           13
+ *   3  NWK_JOURNAL_KEY_NUMBER     the active key number (1)                                          2
+ *
+ * A power cut may leave the last record incomplete: it counts for nothing, but its kind is looked at. The host keeps the journal
+ * where it survives a cut and lends it whole to each call. It puts a record there in this order: nwk_write_journal_record, shorten the
+ * journal to its complete records, append what was written, wait until the store has it. Only then does the record count.
+ *
+ * The last counter is the recovered ceiling after each nwk_recover_journal, and from then on the one that was handed out last. So a
+ * host that reserves 1,000 counters at a time writes a ceiling of the last counter + 1,000, hands out those up to it, and writes
+ * the next. Where no other writer extended the journal from empty, no counter is ever handed out twice, whatever byte the power failed
+ * at; those between the last one and the ceiling are lost. Ceiling 0 covers nothing, so counter 0 is never handed out. No record says
+ * that a sender was forgotten: recovery brings it back. */
+#define NWK_JOURNAL_CEILING 1
+#define NWK_JOURNAL_SENDER 2
+#define NWK_JOURNAL_KEY_NUMBER 3
+
+/* The length of the longest record. */
+#define NWK_JOURNAL_RECORD 13
+
+/* Recover what a journal says, after each start. In place of the length: the largest ceiling, 0 if there is none. NWK_KNOWN(answer)
+ * tells whether there is a key number, NWK_KEY_NUMBER(answer) the last one. Refusals: 25 a record's kind is not 1 to 3, also that of
+ * an incomplete last one; 24 a 65th sender, or one past the places of the list.
+ * Afterwards the list names each sender once, by first appearance, with its last counter and used 1. The places that count and are
+ * left over are free, with address, counter and used 0; those past the 64th have not changed. *complete is the length of the
+ * complete records: what is behind them is to be cut off before anything is appended. */
+uint64_t nwk_recover_journal(const uint8_t *journal, size_t journal_len, struct nwk_sender *senders, size_t senders_count,
+                             uint64_t *complete);
+
+/* Write the record that is to be appended next. kind is NWK_JOURNAL_CEILING with its ceiling in counter, NWK_JOURNAL_SENDER with
+ * sender and counter, the sender as in a sender record, or NWK_JOURNAL_KEY_NUMBER with key_number; what the kind does not use means
+ * nothing. A lower ceiling, or 0, is written too. Length: 5, 13 or 2. Refusals: 25 a record of the journal, or kind, is not of kind 1
+ * to 3; 24 the journal with the new record names more than 64 senders, whatever kind is to be written; 18 out shorter than the
+ * record.
+ * Afterwards out holds the record alone in its first bytes. The journal is as it was. */
+uint64_t nwk_write_journal_record(const uint8_t *journal, size_t journal_len, uint8_t kind, uint64_t sender,
+                                  uint32_t counter, uint8_t key_number, uint8_t *out, size_t out_len);
+
+/* Hand out the next counter. In place of the length: last + 1, which is last of the next call. Refusals: 25 as
+ * nwk_recover_journal; 26 last is FFFFFFFE or above; 27 no complete ceiling record of the journal is at least last + 1: write one,
+ * and ask again. */
+uint64_t nwk_next_counter(const uint8_t *journal, size_t journal_len, uint32_t last);
+
 /* ---- commands */
 
 /* Read a command from the whole of bytes into a command record. nwk_payload_kind says whether a payload is one. Bytes
@@ -473,7 +529,10 @@ static inline const char *nwk_refusal_text(uint8_t refusal) {
       "the counter to be sealed is FFFFFFFF",
       "the key sequence number is not the active one",
       "the frame counter is FFFFFFFF or not above the sender's stored one",
-      "the sender is new and no place is free",
+      "the sender is new and no place is free, or a journal names more senders than 64 or than the list has places",
+      "a record of a journal, or the one to be written, has a kind that is not 1 to 3",
+      "the last counter is FFFFFFFE or above",
+      "no complete ceiling record of the journal covers the next counter",
   };
   return refusal < sizeof texts / sizeof texts[0] ? texts[refusal] : "a number that the list does not have";
 }
@@ -615,6 +674,23 @@ static inline uint64_t nwk_forget_sender_or_null(struct nwk_sender *senders, siz
   return nwk_forget_sender(nwk_lent_senders(senders, senders_count), senders_count, sender);
 }
 
+static inline uint64_t nwk_recover_journal_or_null(const uint8_t *journal, size_t journal_len, struct nwk_sender *senders,
+                                                   size_t senders_count, uint64_t *complete) {
+  return nwk_recover_journal(nwk_given(journal, journal_len), journal_len, nwk_lent_senders(senders, senders_count),
+                             senders_count, complete);
+}
+
+static inline uint64_t nwk_write_journal_record_or_null(const uint8_t *journal, size_t journal_len, uint8_t kind,
+                                                        uint64_t sender, uint32_t counter, uint8_t key_number,
+                                                        uint8_t *out, size_t out_len) {
+  return nwk_write_journal_record(nwk_given(journal, journal_len), journal_len, kind, sender, counter, key_number,
+                                  nwk_lent(out, out_len), out_len);
+}
+
+static inline uint64_t nwk_next_counter_or_null(const uint8_t *journal, size_t journal_len, uint32_t last) {
+  return nwk_next_counter(nwk_given(journal, journal_len), journal_len, last);
+}
+
 static inline uint64_t nwk_read_command_or_null(const uint8_t *bytes, size_t bytes_len, uint8_t *command,
                                                 size_t command_len) {
   return nwk_read_command(nwk_given(bytes, bytes_len), bytes_len, nwk_lent(command, command_len), command_len);
@@ -654,6 +730,9 @@ static inline uint64_t nwk_split_mic_or_null(const uint8_t *bytes, size_t bytes_
 #define nwk_inbound_network_key nwk_inbound_network_key_or_null
 #define nwk_note_inbound_frame_counter nwk_note_inbound_frame_counter_or_null
 #define nwk_forget_sender nwk_forget_sender_or_null
+#define nwk_recover_journal nwk_recover_journal_or_null
+#define nwk_write_journal_record nwk_write_journal_record_or_null
+#define nwk_next_counter nwk_next_counter_or_null
 #define nwk_read_command nwk_read_command_or_null
 #define nwk_write_command nwk_write_command_or_null
 #define nwk_encrypt_ccm nwk_encrypt_ccm_or_null

@@ -1,5 +1,5 @@
-/* What nwk.h adds to the functions: names, texts, the key's two numbers, where a payload is, a list of senders, and NULL for an
- * empty slice. It is C and C++, and host/tests/c_header.rs compares what it prints.
+/* What nwk.h adds to the functions: names, texts, the key's two numbers, where a payload is, a list of senders, a journal, and NULL
+ * for an empty slice. It is C and C++, and host/tests/c_header.rs compares what it prints.
  *
  *   cc -std=c11 -Wall -Wextra -Iinclude tests/header.c target/staticlib/libnwk.a -o header && ./header
  *   g++ -x c++ -Wall -Wextra -Wold-style-cast -Iinclude tests/header.c -x none target/staticlib/libnwk.a -o header && ./header
@@ -11,7 +11,7 @@
 #include <string.h>
 
 static void print_texts(void) {
-  for (unsigned number = 0; number <= 25; number++) {
+  for (unsigned number = 0; number <= 28; number++) {
     printf("%u %s\n", number, nwk_refusal_text(NWK_CAST(uint8_t, number)));
   }
 }
@@ -141,6 +141,54 @@ static void print_inbound(void) {
   print_senders("note_freed", nwk_note_inbound_frame_counter(list, 2, 1, 1), list);
 }
 
+/* An answer about a journal, the complete length, and the two places of the list afterwards. */
+static void print_recovered(const char *name, uint64_t answer, uint64_t complete, const struct nwk_sender *list) {
+  printf("%s %u %" PRIu32 " known %u %u complete %" PRIu64 ":", name, NWK_REFUSAL(answer), NWK_LENGTH(answer), NWK_KNOWN(answer),
+         NWK_KEY_NUMBER(answer), complete);
+  for (size_t i = 0; i < 2; i++) {
+    printf(" %u %" PRIX64 " %" PRIX32, list[i].used, list[i].address, list[i].counter);
+  }
+  printf("\n");
+}
+
+/* Writes a record behind the journal's front of this length, and gives the length with it. */
+static size_t print_appended(const char *name, uint8_t *journal, size_t n, uint8_t kind, uint64_t sender, uint32_t counter,
+                             uint8_t key_number) {
+  uint8_t record[NWK_JOURNAL_RECORD] = {0};
+  const uint64_t answer = nwk_write_journal_record(journal, n, kind, sender, counter, key_number, record, sizeof record);
+  const size_t length = NWK_LENGTH(answer);
+  printf("%s %u %zu", name, NWK_REFUSAL(answer), length);
+  for (size_t i = 0; i < length; i++) {
+    printf(" %02X", record[i]);
+  }
+  printf("\n");
+  memcpy(journal + n, record, length);
+  return n + length;
+}
+
+/* The key number in an answer, and the three functions over a journal of three records, the last of them whole and cut. */
+static void print_journal(void) {
+  const uint64_t number = NWK_CAST(uint64_t, 0xA5) << 48;
+  printf("journal %d %d %d of %d key number %u %" PRIu32 " %u %u\n", NWK_JOURNAL_CEILING, NWK_JOURNAL_SENDER, NWK_JOURNAL_KEY_NUMBER,
+         NWK_JOURNAL_RECORD, NWK_KEY_NUMBER(number | 16), NWK_LENGTH(number | 16), NWK_KNOWN(number), NWK_KEY_NUMBER(~number));
+  uint8_t journal[4 * NWK_JOURNAL_RECORD] = {0};
+  struct nwk_sender list[2] = {{9, 9, 9}, {9, 9, 9}};
+  uint64_t complete = 99;
+  size_t n = print_appended("write_ceiling", journal, 0, NWK_JOURNAL_CEILING, 7, 0x00010203u, 7);
+  n = print_appended("write_sender", journal, n, NWK_JOURNAL_SENDER, UINT64_C(0x00124B001CA1B2C3), 0xFFFFFFFEu, 7);
+  n = print_appended("write_key_number", journal, n, NWK_JOURNAL_KEY_NUMBER, 7, 7, 0);
+  n = print_appended("write_other", journal, n, 4, 7, 7, 7);
+  uint64_t answer = nwk_recover_journal(journal, n, list, 2, &complete);
+  print_recovered("recover", answer, complete, list);
+  answer = nwk_recover_journal(journal, n - 1, list, 2, &complete);
+  print_recovered("recover_cut", answer, complete, list);
+  answer = nwk_recover_journal(journal, n + 1, list, 2, &complete);
+  print_recovered("recover_zero", answer, complete, list);
+  print_answer("next", nwk_next_counter(journal, n, 0x00010202u));
+  print_answer("next_used_up", nwk_next_counter(journal, n, 0xFFFFFFFEu));
+  print_answer("next_no_ceiling", nwk_next_counter(journal, n, 0x00010203u));
+}
+
 /* Bursts without frames, lengths or answers, and one whose only frame has no bytes. */
 static void print_empty_bursts(void) {
   const uint8_t bytes[1] = {0};
@@ -176,6 +224,11 @@ static void print_empty(void) {
   print_answer("inbound_network_key", nwk_inbound_network_key(0, 0, 0, NULL, 0, 0, 0, 0, key));
   print_answer("note_inbound_frame_counter", nwk_note_inbound_frame_counter(NULL, 0, 0, 0));
   print_answer("forget_sender", nwk_forget_sender(NULL, 0, 0));
+  uint64_t complete = 99;
+  print_answer("recover_journal", nwk_recover_journal(NULL, 0, NULL, 0, &complete));
+  printf("its length %" PRIu64 "\n", complete);
+  print_answer("write_journal_record", nwk_write_journal_record(NULL, 0, NWK_JOURNAL_CEILING, 0, 0, 0, NULL, 0));
+  print_answer("next_counter", nwk_next_counter(NULL, 0, 0));
   uint8_t nonce[13] = {0};
   uint8_t mic[4] = {0};
   print_answer("encrypt_ccm", nwk_encrypt_ccm(0, 0, nonce, NULL, 0, NULL, 0, NULL, 0, mic));
@@ -191,6 +244,7 @@ int main(void) {
   print_marks();
   print_payloads();
   print_inbound();
+  print_journal();
   print_empty();
   print_texts();
   return 0;

@@ -42,6 +42,7 @@ mod codes;
 mod command;
 mod frame;
 mod header;
+mod journal;
 mod list;
 mod opened;
 mod record;
@@ -64,6 +65,7 @@ pub use header::{
     NwkAuxHeader, NwkFrameControl, NwkFrameType, NwkHeader, NwkPayload, NwkRouteDiscovery,
     NwkSecurityHeaderControlField, NwkSecurityHeaderKeyId, NwkSecurityLevel, NwkSourceRoute, OpenedRecord,
 };
+pub use journal::{next_counter, recover, write_record, JournalRecord, Recovered};
 pub use list::{Full, List};
 pub use opened::{ClearFrame, Opened, OpenedFrame};
 pub use refusal::Refusal;
@@ -80,6 +82,9 @@ pub const MAX_BURST: usize = 16;
 
 /// The most senders whose counters are kept.
 pub const MAX_SENDERS: usize = 64;
+
+/// The most bytes that a record of a journal has.
+pub const MAX_JOURNAL_RECORD: usize = 13;
 
 /// The bytes of output that the longest burst needs: a part of [`MAX_PAYLOAD`] for each frame.
 pub const MAX_BURST_OUTPUT: usize = MAX_BURST * MAX_PAYLOAD;

@@ -41,7 +41,10 @@ refusals! {
     LAST_COUNTER = 21, "the counter to be sealed is FFFFFFFF";
     KEY_SEQUENCE = 22, "the key sequence number is not the active one";
     FRAME_COUNTER = 23, "the frame counter is FFFFFFFF or not above the sender's stored one";
-    NO_PLACE = 24, "the sender is new and no place is free";
+    NO_PLACE = 24, "the sender is new and no place is free, or a journal names more senders than 64 or than the list has places";
+    JOURNAL_KIND = 25, "a record of a journal, or the one to be written, has a kind that is not 1 to 3";
+    COUNTERS_USED_UP = 26, "the last counter is FFFFFFFE or above";
+    NO_CEILING = 27, "no complete ceiling record of the journal covers the next counter";
 }
 
 /// A refusal. Nothing that was lent to the operation has changed.
@@ -52,7 +55,7 @@ refusals! {
 /// let refusal = read(&[0x08, 0x00, 0x00]).unwrap_err();
 /// assert_eq!(refusal.number(), 2);
 /// assert_eq!(refusal.to_string(), "refused by 2: a header has fewer than 8 bytes");
-/// assert_eq!(Refusal::all().count(), 24);
+/// assert_eq!(Refusal::all().count(), 27);
 ///
 /// let why = match refusal {
 ///     Refusal::WRONG_MIC => "damaged, or another key",
@@ -133,9 +136,14 @@ pub(crate) fn is_clear(answer: u64) -> bool {
     answer >> 40 & 1 == 1
 }
 
-/// Whether an answer of noting has the mark of a known sender: bit 41.
+/// Whether an answer of noting has the mark of a known sender, or one of recovery that of a key number: bit 41.
 pub(crate) fn is_known(answer: u64) -> bool {
     answer >> 41 & 1 == 1
+}
+
+/// The key number in an answer of recovery: bits 48 to 55.
+pub(crate) fn key_number(answer: u64) -> u8 {
+    answer.to_le_bytes()[6]
 }
 
 /// The refusal with a number that the codec gave; 0 is none.

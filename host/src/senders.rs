@@ -211,6 +211,13 @@ impl<Places: AsMut<[SenderRecord]>> Senders<Places> {
     }
 }
 
+impl<Places: AsMut<[SenderRecord]>> Senders<Places> {
+    /// Every place, for a call that fills the list anew.
+    pub(crate) fn places(&mut self) -> &mut [SenderRecord] {
+        self.places.as_mut()
+    }
+}
+
 /// The layout that `include/nwk.h` gives a sender record.
 const _: () = assert!(
     size_of::<SenderRecord>() == 16

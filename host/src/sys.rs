@@ -75,6 +75,24 @@ extern "C" {
         frame_counter: u32,
     ) -> u64;
     pub fn nwk_forget_sender(senders: *mut SenderRecord, senders_count: usize, sender: u64) -> u64;
+    pub fn nwk_recover_journal(
+        journal: *const u8,
+        journal_len: usize,
+        senders: *mut SenderRecord,
+        senders_count: usize,
+        complete: *mut u64,
+    ) -> u64;
+    pub fn nwk_write_journal_record(
+        journal: *const u8,
+        journal_len: usize,
+        kind: u8,
+        sender: u64,
+        counter: u32,
+        key_number: u8,
+        out: *mut u8,
+        out_len: usize,
+    ) -> u64;
+    pub fn nwk_next_counter(journal: *const u8, journal_len: usize, last: u32) -> u64;
     pub fn nwk_read_command(bytes: *const u8, bytes_len: usize, command: *mut u8, command_len: usize) -> u64;
     pub fn nwk_write_command(command: *const u8, command_len: usize, out: *mut u8, out_len: usize) -> u64;
     pub fn nwk_timeout_seconds(code: u8) -> u64;

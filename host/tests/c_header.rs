@@ -1,5 +1,5 @@
 //! What `include/nwk.h` adds to the functions, from C and from C++: names, texts, offsets, numbers of a key, marks, where a
-//! payload is, the list of senders, NULL for an empty slice.
+//! payload is, the list of senders, the journal, NULL for an empty slice.
 #[allow(dead_code)]
 mod support;
 
@@ -54,6 +54,7 @@ fn c_and_cpp_print_the_same() {
         assert_eq!(lines.next(), Some("payloads opaque command refused opaque refused"));
         check_payloads(&mut lines);
         check_senders(&mut lines);
+        check_journal(&mut lines);
         check_empty(&mut lines);
         check_texts(lines);
     }
@@ -101,11 +102,33 @@ fn check_senders<'a>(lines: &mut impl Iterator<Item = &'a str>) {
     }
 }
 
+/// The kinds and the longest record; bits 48 to 55 of an answer with a length of 16, and every bit but those. By document 02, request
+/// 6: each record is its kind and its body, lowest byte first, and another kind is 25; recovery gives the ceiling, the sender in the
+/// first place and zeros in the other, key number 0, which is told apart from none, and the length; a key number cut off is ignored;
+/// the byte 0 behind is 25 and changes nothing. The next counter is given up to the ceiling, 26 at `FFFFFFFE`, else 27.
+fn check_journal<'a>(lines: &mut impl Iterator<Item = &'a str>) {
+    for expected in [
+        "journal 1 2 3 of 13 key number 165 16 0 90",
+        "write_ceiling 0 5 01 03 02 01 00",
+        "write_sender 0 13 02 C3 B2 A1 1C 00 4B 12 00 FE FF FF FF",
+        "write_key_number 0 2 03 00",
+        "write_other 25 0",
+        "recover 0 66051 known 1 0 complete 20: 1 124B001CA1B2C3 FFFFFFFE 0 0 0",
+        "recover_cut 0 66051 known 0 0 complete 18: 1 124B001CA1B2C3 FFFFFFFE 0 0 0",
+        "recover_zero 25 0 known 0 0 complete 18: 1 124B001CA1B2C3 FFFFFFFE 0 0 0",
+        "next 0 66051",
+        "next_used_up 26 0",
+        "next_no_ceiling 27 0",
+    ] {
+        assert_eq!(lines.next(), Some(expected));
+    }
+}
+
 /// The answers to empty slices, by document 01: a header of no bytes 2, an auxiliary header of none 9, no room 18. A record of
 /// no bytes is refused by 13, and one without an auxiliary header by 14. A header of zeros has 8 bytes, no bytes are an unparsed
 /// command, and nothing sealed opens again to nothing. By document 02 a burst of no frames is accepted with 0, and bytes
 /// without lengths and lengths without answers are refused by 20; a frame of no bytes is a frame, whose own answer is 2. A list
-/// without places names nobody, and has no place for a new sender.
+/// without places names nobody, and has no place for a new sender. A journal of no bytes has nothing in it, no ceiling either.
 fn check_empty<'a>(lines: &mut impl Iterator<Item = &'a str>) {
     for expected in [
         "read_header 2 0",
@@ -127,6 +150,10 @@ fn check_empty<'a>(lines: &mut impl Iterator<Item = &'a str>) {
         "inbound_network_key 0 16",
         "note_inbound_frame_counter 24 0",
         "forget_sender 0 0",
+        "recover_journal 0 0",
+        "its length 0",
+        "write_journal_record 18 0",
+        "next_counter 27 0",
         "encrypt_ccm 0 0",
         "decrypt_ccm 0 0",
         "split_mic 16 0",
@@ -140,7 +167,7 @@ fn check_texts<'a>(mut lines: impl Iterator<Item = &'a str>) {
     for refusal in Refusal::all() {
         assert_eq!(lines.next(), Some(format!("{} {}", refusal.number(), refusal.condition()).as_str()));
     }
-    assert_eq!(lines.next(), Some("25 a number that the list does not have"));
+    assert_eq!(lines.next(), Some("28 a number that the list does not have"));
     assert_eq!(lines.next(), None);
 }
 

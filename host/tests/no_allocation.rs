@@ -2,9 +2,10 @@
 use std::alloc::{GlobalAlloc, Layout, System};
 use std::cell::Cell;
 use store_reader::{
-    decrypt_ccm, encrypt_block, encrypt_ccm, hex, open, open_burst, read, seal, split_mic, timeout_seconds, write,
-    Eui64, Key, Nwk, NwkAuxHeader, NwkCommand, NwkFrameType, NwkHeader, NwkSourceRoute, OpenedFrame, OpenedRecord,
-    Refusal, SenderRecord, Senders, MAX_BURST, MAX_BURST_OUTPUT, MAX_FRAME, MAX_PAYLOAD, MAX_SENDERS,
+    decrypt_ccm, encrypt_block, encrypt_ccm, hex, next_counter, open, open_burst, read, recover, seal, split_mic,
+    timeout_seconds, write, write_record, Eui64, JournalRecord, Key, Nwk, NwkAuxHeader, NwkCommand, NwkFrameType,
+    NwkHeader, NwkSourceRoute, OpenedFrame, OpenedRecord, Refusal, SenderRecord, Senders, MAX_BURST, MAX_BURST_OUTPUT,
+    MAX_FRAME, MAX_JOURNAL_RECORD, MAX_PAYLOAD, MAX_SENDERS,
 };
 
 struct Counting;
@@ -50,6 +51,7 @@ fn everything() -> Result<(), Refusal> {
     opened.header.frame_control.frame_type.payload()?;
     NwkCommand::read(opened.payload)?;
     inbound(&key, &opened)?;
+    journal()?;
     read(&frame[..n])?;
     burst(&key, &frame[..n])?;
     header.frame_control.security = false;
@@ -83,6 +85,21 @@ fn inbound(key: &Key, frame: &OpenedFrame<'_>) -> Result<(), Refusal> {
     assert_eq!(lent.note_inbound_frame_counter(frame.nonce_ieee, counter), Err(Refusal::NO_PLACE));
     lent.forget(Eui64::from(0));
     lent.note_inbound_frame_counter(frame.nonce_ieee, counter)?;
+    Ok(())
+}
+
+/// A ceiling, as many senders as there are places for, and a key number, written and recovered.
+fn journal() -> Result<(), Refusal> {
+    let (mut journal, mut end) = ([0; (MAX_SENDERS + 2) * MAX_JOURNAL_RECORD], 0);
+    let senders = (0..MAX_SENDERS).map(|n| JournalRecord::Sender { address: Eui64::from(n as u64), counter: 7 });
+    for record in senders.chain([JournalRecord::Ceiling(5), JournalRecord::KeyNumber(1)]) {
+        let (front, out) = journal.split_at_mut(end);
+        end += write_record(front, record, out)?;
+    }
+    let recovered = recover(&journal[..end], &mut Senders::new())?;
+    assert_eq!((recovered.ceiling, recovered.key_number, recovered.complete), (5, Some(1), end));
+    assert_eq!(next_counter(&journal[..end], 4), Ok(5));
+    assert_eq!(next_counter(&journal[..end], recovered.ceiling), Err(Refusal::NO_CEILING));
     Ok(())
 }
 

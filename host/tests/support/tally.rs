@@ -8,7 +8,7 @@ use std::collections::BTreeMap;
 /// The longest input whose length is counted.
 pub const LONGEST: usize = 130;
 /// One more than the highest refusal number.
-pub const NUMBERS: usize = 25;
+pub const NUMBERS: usize = 28;
 /// Rooms are counted from 3 below what is exactly needed to 3 above.
 pub const AROUND: isize = 3;
 const ROOMS: usize = 2 * AROUND as usize + 1;

@@ -1,0 +1,137 @@
+//! The journal: counters, senders and the key number as records that survive a power cut.
+use crate::refusal::{is_known, key_number, length};
+use crate::{sys, Eui64, Refusal, SenderRecord, Senders};
+
+/// A record of a journal.
+#[derive(Debug, Clone, Copy, PartialEq, Eq)]
+pub enum JournalRecord {
+    /// Counters up to this one may be handed out. A lower ceiling than an earlier one changes nothing.
+    Ceiling(u32),
+    /// The last counter of a sender whose frames arrive.
+    Sender {
+        /// Its long address.
+        address: Eui64,
+        /// The counter that was noted last.
+        counter: u32,
+    },
+    /// The number of the active network key.
+    KeyNumber(u8),
+}
+
+impl JournalRecord {
+    /// The kind byte, and the fields as the C function takes them: sender, counter, key number.
+    fn parts(self) -> (u8, u64, u32, u8) {
+        match self {
+            Self::Ceiling(ceiling) => (1, 0, ceiling, 0),
+            Self::Sender { address, counter } => (2, address.into(), counter, 0),
+            Self::KeyNumber(number) => (3, 0, 0, number),
+        }
+    }
+}
+
+/// What a journal says, beside the senders.
+#[derive(Debug, Clone, Copy, PartialEq, Eq)]
+pub struct Recovered {
+    /// The largest ceiling; 0 if there is none. It is the last counter from which the next ones are handed out.
+    pub ceiling: u32,
+    /// The last key number, or none.
+    pub key_number: Option<u8>,
+    /// The length of the complete records. What is behind them is an incomplete one, to be cut off before anything is appended.
+    pub complete: usize,
+}
+
+/// Recovers what a journal says, after each start. An incomplete last record counts for nothing.
+///
+/// The list of senders is filled anew: each sender once, by first appearance, with its last counter. The places that are left over
+/// among the first [`MAX_SENDERS`](crate::MAX_SENDERS) become free. No record says that a sender was forgotten, so one that was comes
+/// back.
+///
+/// ```
+/// use store_reader::{next_counter, recover, write_record, JournalRecord, Refusal, Senders, MAX_JOURNAL_RECORD};
+///
+/// let mut journal = Vec::new();
+/// let mut record = [0; MAX_JOURNAL_RECORD];
+/// let n = write_record(&journal, JournalRecord::Ceiling(3), &mut record)?;
+/// journal.extend(&record[..n]);
+/// assert_eq!(journal, [1, 3, 0, 0, 0]);
+///
+/// // Counters up to the ceiling are handed out, and none above it.
+/// assert_eq!(next_counter(&journal, 0), Ok(1));
+/// assert_eq!(next_counter(&journal, 1), Ok(2));
+/// assert_eq!(next_counter(&journal, 3), Err(Refusal::NO_CEILING));
+///
+/// // A cut while the next ceiling was being written: the first one counts, and counter 2 does not come again.
+/// journal.extend([1, 6, 0]);
+/// let recovered = recover(&journal, &mut Senders::new())?;
+/// assert_eq!((recovered.ceiling, recovered.key_number, recovered.complete), (3, None, 5));
+/// journal.truncate(recovered.complete);
+/// assert_eq!(next_counter(&journal, recovered.ceiling), Err(Refusal::NO_CEILING));
+/// # Ok::<(), Refusal>(())
+/// ```
+///
+/// # Errors
+///
+/// Refusal 25 if a record's kind is not 1 to 3, also that of an incomplete last one, then 24 for a 65th sender or one past the places
+/// of the list. The list has then not changed.
+pub fn recover<Places: AsMut<[SenderRecord]>>(
+    journal: &[u8],
+    senders: &mut Senders<Places>,
+) -> Result<Recovered, Refusal> {
+    let places = senders.places();
+    let mut complete = 0;
+    // SAFETY: each pointer goes with the length of its slice, a place has the layout of a sender record, and the three do not
+    // overlap.
+    let answer = unsafe {
+        sys::nwk_recover_journal(
+            journal.as_ptr(),
+            journal.len(),
+            places.as_mut_ptr(),
+            places.len(),
+            core::ptr::from_mut(&mut complete),
+        )
+    };
+    // A ceiling has the 32 bits of a length.
+    let ceiling = length(answer)? as u32;
+    let complete = usize::try_from(complete).ok().filter(|complete| *complete <= journal.len());
+    let key_number = is_known(answer).then_some(key_number(answer));
+    Ok(Recovered { ceiling, key_number, complete: complete.ok_or(Refusal::INTERNAL)? })
+}
+
+/// Writes the record that is to be appended next to the front of `out`, and gives its length: 5, 13 or 2. The host then shortens
+/// the journal to its complete records and appends it.
+///
+/// # Errors
+///
+/// Refusal 25 if a record of the journal is of another kind than 1 to 3, then 24 if the journal with the new record names more than
+/// 64 senders, then 18 if `out` is shorter than the record.
+pub fn write_record(journal: &[u8], record: JournalRecord, out: &mut [u8]) -> Result<usize, Refusal> {
+    let (kind, sender, counter, number) = record.parts();
+    // SAFETY: each pointer goes with the length of its slice, and the two do not overlap.
+    let answer = unsafe {
+        sys::nwk_write_journal_record(
+            journal.as_ptr(),
+            journal.len(),
+            kind,
+            sender,
+            counter,
+            number,
+            out.as_mut_ptr(),
+            out.len(),
+        )
+    };
+    length(answer)
+}
+
+/// The next outgoing counter, one more than the last. After each recovery the last one is the recovered ceiling, then the one that was
+/// handed out last.
+///
+/// # Errors
+///
+/// Refusal 25 if a record's kind is not 1 to 3, then 26 if the last counter is `0xFFFF_FFFE` or above, then 27 if no complete ceiling
+/// record of the journal covers the next one.
+pub fn next_counter(journal: &[u8], last: u32) -> Result<u32, Refusal> {
+    // SAFETY: the pointer goes with the length of its slice.
+    let answer = unsafe { sys::nwk_next_counter(journal.as_ptr(), journal.len(), last) };
+    // A counter has the 32 bits of a length.
+    Ok(length(answer)? as u32)
+}
