@@ -10,6 +10,8 @@ pub mod generate;
 pub mod guarded;
 pub mod header_comments;
 pub mod hex;
+pub mod journal_tally;
+pub mod journals;
 pub mod model;
 pub mod nettle;
 pub mod operations;

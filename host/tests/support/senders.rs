@@ -4,7 +4,7 @@ use super::hex::hex;
 use store_reader::sys;
 
 /// How many bytes a record has in C, and how many of them are fields; the others are nobody's.
-const SIZE: usize = 16;
+pub const SIZE: usize = 16;
 pub const FIELDS: usize = 13;
 
 /// The bit of noting's answer that marks a known sender.
@@ -20,7 +20,7 @@ pub struct Record {
 
 impl Record {
     /// The record as `struct nwk_sender` has it, with some value in the bytes that are nobody's.
-    fn bytes(self, rest: u8) -> [u8; SIZE] {
+    pub fn bytes(self, rest: u8) -> [u8; SIZE] {
         let mut bytes = [rest; SIZE];
         bytes[..8].copy_from_slice(&self.address.to_le_bytes());
         bytes[8..12].copy_from_slice(&self.counter.to_le_bytes());

@@ -3,6 +3,7 @@ pub mod bursts;
 pub mod commands;
 pub mod damage;
 pub mod headers;
+pub mod journals;
 pub mod sealed;
 pub mod senders;
 

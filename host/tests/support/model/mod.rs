@@ -8,6 +8,7 @@ pub mod ccm;
 pub mod commands;
 pub mod frame;
 pub mod header;
+pub mod journal;
 pub mod opening;
 pub mod senders;
 

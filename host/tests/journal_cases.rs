@@ -1,0 +1,335 @@
+//! The journal, sentence by sentence: worked cases of document 02's request 6, the safe functions beside the model, and the same calls
+//! from C.
+#[allow(dead_code)]
+mod support;
+
+use store_reader::{
+    next_counter, recover, write_record, Eui64, JournalRecord, Recovered, Refusal, SenderRecord, Senders,
+    MAX_JOURNAL_RECORD, MAX_SENDERS,
+};
+use support::command::{scratch, tool};
+use support::generate::journals as generate;
+use support::hex::unhex;
+use support::journals::{line, perform, Done, Left, Request};
+use support::model::journal::{run, Entry, MOST};
+use support::random::Random;
+use support::senders::{Record, FIELDS};
+
+const SEED: u64 = 0x10C2_11A2;
+const FREE: Record = Record { used: 0, address: 0, counter: 0 };
+/// A place with something left in it.
+const STALE: Record = Record { used: 3, address: 0x99, counter: 99 };
+
+fn used(address: u64, counter: u32) -> Record {
+    Record { used: 1, address, counter }
+}
+
+/// A call that codec and model agree on.
+fn asked(request: Request, journal: &[u8], list: &[Record]) -> Done {
+    let done = perform(&request, journal, list, 0x96);
+    let (answer, left) = run(&request, journal, list);
+    assert_eq!(done, Done { answer, left }, "{}", line(&request, journal, list));
+    done
+}
+
+/// Ceiling, key number, list and length that recovery gives, or its refusal.
+fn recovered(journal: &[u8], list: &[Record]) -> Result<(u32, Option<u8>, Vec<Record>, u64), u8> {
+    let done = asked(Request::Recover, journal, list);
+    match done.refusal() {
+        0 => Ok((done.low(), done.key_number(), done.left.list, done.left.complete.expect("a length"))),
+        refusal => Err(refusal),
+    }
+}
+
+/// The bytes of a record of this kind, or the refusal.
+fn written(journal: &[u8], kind: u8, sender: u64, counter: u32, number: u8, room: usize) -> Result<Vec<u8>, u8> {
+    let done = asked(Request::Write { kind, sender, counter, number, room }, journal, &[]);
+    match done.refusal() {
+        0 => Ok(done.left.written),
+        refusal => Err(refusal),
+    }
+}
+
+fn next(journal: &[u8], last: u32) -> Result<u32, u8> {
+    let done = asked(Request::Next { last }, journal, &[]);
+    match done.refusal() {
+        0 => Ok(done.low()),
+        refusal => Err(refusal),
+    }
+}
+
+/// A journal that names so many senders, from 0, each with counter 7.
+fn naming(senders: u64) -> Vec<u8> {
+    (0..senders).flat_map(|sender| Entry::Sender(sender, 7).bytes()).collect()
+}
+
+#[test]
+fn an_empty_journal_has_nothing_in_it() {
+    assert_eq!(recovered(&[], &[]), Ok((0, None, vec![], 0)));
+    assert_eq!(recovered(&[], &[STALE; 3]), Ok((0, None, vec![FREE; 3], 0)));
+    assert_eq!((next(&[], 0), next(&[], 0xFFFF_FFFE)), (Err(27), Err(26)));
+}
+
+/// "1, a 4-byte ceiling; 2, an 8-byte sender and its 4-byte counter; 3, a 1-byte active key number."
+#[test]
+fn a_record_of_each_kind() {
+    let ceiling = written(&[], 1, 9, 0x0403_0201, 9, 13).expect("a ceiling");
+    let sender = written(&[], 2, 0x0807_0605_0403_0201, 0x0C0B_0A09, 9, 13).expect("a sender");
+    let key_number = written(&[], 3, 9, 9, 0xC1, 13).expect("a key number");
+    assert_eq!(ceiling, [1, 1, 2, 3, 4]);
+    assert_eq!(sender, [2, 1, 2, 3, 4, 5, 6, 7, 8, 9, 10, 11, 12]);
+    assert_eq!(key_number, [3, 0xC1]);
+    let journal = [ceiling, sender, key_number].concat();
+    let senders = vec![used(0x0807_0605_0403_0201, 0x0C0B_0A09), FREE];
+    assert_eq!(recovered(&journal, &[STALE; 2]), Ok((0x0403_0201, Some(0xC1), senders, 20)));
+}
+
+/// "Takes the largest ceiling": of 5, 9 and 7 it is 9, and counters up to 9 are given whichever ceiling came last.
+#[test]
+fn the_largest_ceiling_counts() {
+    let journal: Vec<u8> = [5, 9, 7].iter().flat_map(|&ceiling| Entry::Ceiling(ceiling).bytes()).collect();
+    assert_eq!(recovered(&journal, &[]), Ok((9, None, vec![], 15)));
+    assert_eq!([4, 5, 8, 9, 10].map(|last| next(&journal, last)), [Ok(5), Ok(6), Ok(9), Err(27), Err(27)]);
+}
+
+/// "Each sender's last counter", "by first appearance": the place of the first record, the counter of the second, also a lower one.
+#[test]
+fn a_sender_twice_keeps_its_place() {
+    let records = [Entry::Sender(7, 50), Entry::Sender(8, 1), Entry::Sender(7, 3)];
+    let journal: Vec<u8> = records.iter().flat_map(|record| record.bytes()).collect();
+    assert_eq!(recovered(&journal, &[STALE; 3]), Ok((0, None, vec![used(7, 3), used(8, 1), FREE], 39)));
+}
+
+/// "The last key number, or none": 0 is a key number.
+#[test]
+fn the_last_key_number_counts() {
+    assert_eq!(recovered(&[3, 5, 3, 0], &[]), Ok((0, Some(0), vec![], 4)));
+    assert_eq!(recovered(&[3, 0, 3, 5], &[]), Ok((0, Some(5), vec![], 4)));
+    assert_eq!(recovered(&[3, 5, 3], &[]), Ok((0, Some(5), vec![], 2)));
+}
+
+/// "Ignores an incomplete last record": after each byte of each kind, behind a record of each kind.
+#[test]
+fn a_cut_record_is_ignored() {
+    let front = [Entry::Ceiling(6), Entry::Sender(7, 50), Entry::KeyNumber(2)];
+    let whole: Vec<u8> = front.iter().flat_map(|record| record.bytes()).collect();
+    for record in [Entry::Ceiling(0xFFFF_FFFF), Entry::Sender(7, 51), Entry::Sender(8, 1), Entry::KeyNumber(3)] {
+        for n in 0..record.bytes().len() {
+            let journal = [&whole, &record.bytes()[..n]].concat();
+            assert_eq!(recovered(&journal, &[STALE]), Ok((6, Some(2), vec![used(7, 50)], 20)), "{record:?} cut at {n}");
+            assert_eq!((next(&journal, 5), next(&journal, 6)), (Ok(6), Err(27)), "{record:?} cut at {n}");
+        }
+    }
+}
+
+/// "25 if a record's kind, even the last one's, is not 1 to 3": also for writing and for the next counter, before all else.
+#[test]
+fn a_kind_that_is_none() {
+    let whole = [Entry::Ceiling(6).bytes(), naming(65)].concat();
+    for kind in [0, 4, 5, 0x80, 0xFF] {
+        for journal in [vec![kind], [&whole[..5], &[kind]].concat(), [&whole[..], &[kind]].concat()] {
+            assert_eq!(recovered(&journal, &[]), Err(25), "{kind}");
+            assert_eq!(written(&journal, 2, 99, 1, 0, 0), Err(25), "{kind}");
+            assert_eq!([0, 6, 0xFFFF_FFFE].map(|last| next(&journal, last)), [Err(25); 3], "{kind}");
+        }
+        assert_eq!(written(&[], kind, 0, 0, 0, 0), Err(25), "{kind}");
+        assert_eq!(written(&whole, kind, 0, 0, 0, 13), Err(25), "{kind}");
+    }
+}
+
+/// "24 for a 65th sender or one past the list's places": nothing is changed then, and places past the 64th never are.
+#[test]
+fn more_senders_than_places() {
+    let filled = |count: u64| (0..count).map(|sender| used(sender, 7)).collect::<Vec<_>>();
+    assert_eq!(recovered(&naming(64), &[STALE; 64]), Ok((0, None, filled(64), 832)));
+    assert_eq!(recovered(&naming(64), &[STALE; 66]), Ok((0, None, [filled(64), vec![STALE; 2]].concat(), 832)));
+    assert_eq!(recovered(&naming(64), &[STALE; 63]), Err(24));
+    for places in [0, 63, 64, 65, 70] {
+        assert_eq!(recovered(&naming(65), &vec![STALE; places]), Err(24), "{places}");
+    }
+    assert_eq!(recovered(&naming(3), &[STALE; 2]), Err(24));
+    assert_eq!(recovered(&naming(3), &[STALE; 3]), Ok((0, None, filled(3), 39)));
+    // The 65th is not named before its record is whole.
+    assert_eq!(recovered(&naming(65)[..65 * 13 - 1], &[STALE; 64]), Ok((0, None, filled(64), 832)));
+}
+
+/// "24 if the journal with it names more than 64 senders, then 18": a known sender of 64 may be written, a journal of 65 refuses every
+/// kind, and the next counter does not look at senders.
+#[test]
+fn writing_counts_the_senders() {
+    let (full, over) = (naming(64), naming(65));
+    assert_eq!(written(&naming(63), 2, 63, 7, 0, 13), Ok(Entry::Sender(63, 7).bytes()));
+    assert_eq!(written(&full, 2, 63, 8, 0, 13), Ok(Entry::Sender(63, 8).bytes()));
+    assert_eq!((written(&full, 2, 64, 8, 0, 13), written(&full, 2, 64, 8, 0, 12)), (Err(24), Err(24)));
+    assert_eq!(
+        (written(&full, 1, 64, 0, 0, 5), written(&full, 3, 64, 0, 0, 2)),
+        (Ok(vec![1, 0, 0, 0, 0]), Ok(vec![3, 0]))
+    );
+    for kind in [1, 2, 3] {
+        assert_eq!((written(&over, kind, 0, 8, 0, 13), written(&over, kind, 0, 8, 0, 0)), (Err(24), Err(24)), "{kind}");
+    }
+    let covered = [over, Entry::Ceiling(1).bytes()].concat();
+    assert_eq!((next(&covered, 0), next(&covered, 1)), (Ok(1), Err(27)));
+}
+
+#[test]
+fn an_output_shorter_than_the_record() {
+    for (kind, length) in [(1, 5), (2, 13), (3, 2)] {
+        for room in 0..=14 {
+            let given = written(&[], kind, 7, 8, 9, room);
+            assert_eq!(
+                given.as_ref().map(Vec::len),
+                if room < length { Err(&18) } else { Ok(length) },
+                "{kind} {room}"
+            );
+        }
+    }
+}
+
+/// "26 if the last one is `0xFFFFFFFE` or above, then 27": and a ceiling of 0 covers nothing, so counter 0 is never handed out.
+#[test]
+fn the_last_counters() {
+    let top = Entry::Ceiling(0xFFFF_FFFF).bytes();
+    assert_eq!([0xFFFF_FFFC, 0xFFFF_FFFD].map(|last| next(&top, last)), [Ok(0xFFFF_FFFD), Ok(0xFFFF_FFFE)]);
+    assert_eq!([0xFFFF_FFFE, 0xFFFF_FFFF].map(|last| next(&top, last)), [Err(26); 2]);
+    assert_eq!(next(&Entry::Ceiling(0xFFFF_FFFE).bytes(), 0xFFFF_FFFD), Ok(0xFFFF_FFFE));
+    assert_eq!(next(&Entry::Ceiling(0xFFFF_FFFD).bytes(), 0xFFFF_FFFD), Err(27));
+    assert_eq!((next(&Entry::Ceiling(0).bytes(), 0), next(&Entry::Ceiling(1).bytes(), 0)), (Err(27), Ok(1)));
+}
+
+// ---- the safe functions
+
+/// What a safe function answers, as the C function would, and what it leaves.
+fn asked_safely(request: &Request, journal: &[u8], list: &[Record]) -> Option<(u64, Left)> {
+    let number = |refusal: Refusal| u64::from(refusal.number()) << 32;
+    let mut places: Vec<SenderRecord> = list.iter().map(place).collect();
+    match *request {
+        Request::Recover => match recover(journal, &mut Senders::lent(&mut places)) {
+            Err(refusal) => Some((number(refusal), Left::nothing(list))),
+            Ok(Recovered { ceiling, key_number, complete }) => {
+                let number = key_number.map_or(0, |number| 1 << 41 | u64::from(number) << 48);
+                let list = places.iter().map(record).collect();
+                Some((u64::from(ceiling) | number, Left { list, complete: Some(complete as u64), written: vec![] }))
+            }
+        },
+        Request::Write { kind, sender, counter, number: given, room } => {
+            let entry = match kind {
+                1 => JournalRecord::Ceiling(counter),
+                2 => JournalRecord::Sender { address: Eui64::from(sender), counter },
+                3 => JournalRecord::KeyNumber(given),
+                _ => return None,
+            };
+            let mut out = vec![0xA5; room];
+            let (answer, length) = match write_record(journal, entry, &mut out) {
+                Ok(length) => (length as u64, length),
+                Err(refusal) => (number(refusal), 0),
+            };
+            assert!(out[length..].iter().all(|byte| *byte == 0xA5));
+            out.truncate(length);
+            Some((answer, Left { list: list.to_vec(), complete: None, written: out }))
+        }
+        Request::Next { last } => {
+            Some((next_counter(journal, last).map_or_else(number, u64::from), Left::nothing(list)))
+        }
+    }
+}
+
+fn place(record: &Record) -> SenderRecord {
+    match record.used {
+        0 => SenderRecord::FREE,
+        _ => SenderRecord::new(Eui64::from(record.address), record.counter),
+    }
+}
+
+fn record(place: &SenderRecord) -> Record {
+    place.noted().map_or(FREE, |(sender, counter)| used(sender.into(), counter))
+}
+
+#[test]
+fn the_safe_functions_say_the_same() {
+    let mut random = Random::new(SEED);
+    let mut answers = [0; 28];
+    for _ in 0..3000 {
+        let journal = generate::journal(&mut random);
+        let list = generate::list(generate::places(&journal, &mut random), &mut random);
+        let list: Vec<Record> = list.iter().map(|left| record(&place(left))).collect();
+        for request in [Request::Recover, generate::write(&journal, &mut random), generate::next(&journal, &mut random)]
+        {
+            let Some(found) = asked_safely(&request, &journal, &list) else { continue };
+            assert_eq!(found, run(&request, &journal, &list), "{}", line(&request, &journal, &list));
+            answers[(found.0 >> 32) as u8 as usize] += 1;
+        }
+    }
+    assert!([0, 18, 24, 25, 26, 27].iter().all(|&number| answers[number] >= 50), "{answers:?}");
+    assert_eq!((MAX_SENDERS, MAX_JOURNAL_RECORD), (MOST, Entry::Sender(0, 0).bytes().len()));
+}
+
+// ---- the same from C
+
+/// `JOURNALS` of `tests/agree_journal.c`, each with its three calls.
+const FROM_C: usize = 600 * 3;
+
+/// What `tests/agree_journal.c` prints, compiled without a warning.
+fn printed_from_c() -> String {
+    let program = scratch("agree_journal");
+    let program = program.to_str().expect("UTF-8");
+    let flags = ["-std=c11", "-Wall", "-Wextra", "-Wpedantic", "-Werror", "-Iinclude"];
+    let files = ["tests/agree_journal.c", "target/staticlib/libnwk.a", "-o", program];
+    let compiled = tool("cc", &[&flags[..], &files].concat()).expect("a C compiler called cc is needed");
+    assert!(compiled.status.success(), "{}", String::from_utf8_lossy(&compiled.stderr));
+    let ran = tool(program, &[]).expect("the program");
+    assert!(ran.status.success(), "ended with {}", ran.status);
+    String::from_utf8(ran.stdout).expect("UTF-8")
+}
+
+/// A number in hexadecimal digits.
+fn number<T: TryFrom<u64>>(text: &str) -> Option<T> {
+    T::try_from(u64::from_str_radix(text, 16).ok()?).ok()
+}
+
+fn list_of(text: &str) -> Option<Vec<Record>> {
+    Some(unhex(text)?.chunks(FIELDS).map(Record::of_bytes).collect())
+}
+
+/// A printed line: the request, the journal, the list before it, and what was answered from C.
+fn parsed(line: &str) -> Option<(Request, Vec<u8>, Vec<Record>, Done)> {
+    let (called, answered) = line.split_once(" = ")?;
+    let words: Vec<&str> = called.split(' ').collect();
+    let mut answered = answered.split(' ');
+    let answer = number(answered.next()?)?;
+    let (journal, rest) = (unhex(words.get(1)?)?, &words[2..]);
+    match (words[0], rest) {
+        ("nwk_recover_journal", [list]) => {
+            let list = list_of(list)?;
+            let left = Left { list: list_of(answered.next()?)?, complete: None, written: vec![] };
+            let complete = number(answered.next()?).filter(|complete| *complete != u64::MAX);
+            Some((Request::Recover, journal, list, Done { answer, left: Left { complete, ..left } }))
+        }
+        ("nwk_write_journal_record", [kind, sender, counter, given, room]) => {
+            let (kind, sender, counter) = (number(kind)?, number(sender)?, number(counter)?);
+            let request = Request::Write { kind, sender, counter, number: number(given)?, room: number(room)? };
+            let written = unhex(answered.next()?)?;
+            Some((request, journal, vec![], Done { answer, left: Left { list: vec![], complete: None, written } }))
+        }
+        ("nwk_next_counter", [last]) => {
+            let request = Request::Next { last: number(last)? };
+            Some((request, journal, vec![], Done { answer, left: Left::nothing(&[]) }))
+        }
+        _ => None,
+    }
+}
+
+#[test]
+fn c_gets_the_same_answers() {
+    let printed = printed_from_c();
+    let mut numbers = [0; 28];
+    for line in printed.lines() {
+        let (request, journal, list, from_c) =
+            parsed(line).unwrap_or_else(|| panic!("a line that says no call: {line}"));
+        assert_eq!(asked(request, &journal, &list), from_c, "{line}");
+        numbers[usize::from(from_c.refusal())] += 1;
+    }
+    println!("{} lines, by refusal {numbers:?}", printed.lines().count());
+    assert_eq!(printed.lines().count(), FROM_C);
+    assert!([0, 18, 24, 25, 26, 27].iter().all(|&number| numbers[number] >= 20), "{numbers:?}");
+}
