@@ -1,8 +1,8 @@
 //! Zigbee NWK frames for the gateway: reading, writing, sealing and opening through a codec whose every function is proved.
 //!
 //! An operation succeeds, or it is refused by a number whose condition is written down ([`Refusal`]) and nothing lent to it
-//! has changed. No input of any length or content makes an operation panic. The library needs neither the standard library
-//! nor an allocator, and depends on no other crate.
+//! has changed. No input of any length or content makes an operation panic. The library depends on no other crate, and without its
+//! feature `std`, which is on by default and adds `JournalFile` alone, it needs neither the standard library nor an allocator.
 //!
 //! ```
 //! use store_reader::{
@@ -30,10 +30,14 @@
 //! [`open`] takes clear frames too, whose security bit is off and whose payload nobody vouches for. So what it gives has a
 //! mark, [`Opened`], and there is no way to a payload but through it. The frames that a radio hands over at once are opened in
 //! one call by [`open_burst`]. That no frame is taken twice is for [`Senders`] to see to, which keeps the counters of up to
-//! [`MAX_SENDERS`] senders.
+//! [`MAX_SENDERS`] senders. That no outgoing counter is used twice, power cuts or not, is for a journal to see to: [`recover`],
+//! [`write_record`] and [`next_counter`] over bytes, and `JournalFile` over a file.
 #![no_std]
 #![deny(missing_docs)]
 #![warn(clippy::missing_errors_doc, clippy::must_use_candidate)]
+
+#[cfg(feature = "std")]
+extern crate std;
 
 mod address;
 mod burst;
@@ -43,6 +47,8 @@ mod command;
 mod frame;
 mod header;
 mod journal;
+#[cfg(feature = "std")]
+mod journal_file;
 mod list;
 mod opened;
 mod record;
@@ -66,6 +72,8 @@ pub use header::{
     NwkSecurityHeaderControlField, NwkSecurityHeaderKeyId, NwkSecurityLevel, NwkSourceRoute, OpenedRecord,
 };
 pub use journal::{next_counter, recover, write_record, JournalRecord, Recovered};
+#[cfg(feature = "std")]
+pub use journal_file::{JournalError, JournalFile};
 pub use list::{Full, List};
 pub use opened::{ClearFrame, Opened, OpenedFrame};
 pub use refusal::Refusal;
