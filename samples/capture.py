@@ -1,8 +1,8 @@
 #!/usr/bin/env python3
-"""Makes the sample captures: python3 samples/capture.py
+"""Makes the sample captures and the sample journal: python3 samples/capture.py
 
 store.pcap has everything that the command tells apart. store.pcapng has three of its frames as four kinds of interface
-capture them, in two sections of different byte order.
+capture them, in two sections of different byte order. store.journal is what a power cut left of the coordinator's journal.
 
 The frames are put together field by field from the Zigbee, IEEE 802.15.4 and pcapng formats and sealed with AESCCM of the
 Python package cryptography; nothing comes from the codec. The keys are those in store.keys, the first of them the one in
@@ -194,9 +194,25 @@ def pcapng():
     return little.out + big.out
 
 
+def ceiling(counter):
+    return struct.pack("<BI", 1, counter)
+
+
+def noted(sender, counter):
+    return b"\2" + wire(sender[1]) + struct.pack("<I", counter)
+
+
+def journal():
+    """The coordinator reserves 100 counters at a time, and had noted frames of the probe and the router. The power failed when four
+    bytes of the next ceiling had been written."""
+    taken = noted(PROBE, 74565) + noted(ROUTER, 6998) + noted(PROBE, 74571) + noted(ROUTER, 7002)
+    return b"\3\0" + ceiling(90300) + taken + ceiling(90400)[:4]
+
+
 def main():
     (FOLDER / "store.pcap").write_bytes(pcap())
     (FOLDER / "store.pcapng").write_bytes(pcapng())
+    (FOLDER / "store.journal").write_bytes(journal())
 
 
 main()

@@ -5,7 +5,7 @@ _store_reader() {
   local word=${COMP_WORDS[COMP_CWORD]} before=${COMP_WORDS[COMP_CWORD - 1]} command=${COMP_WORDS[1]} options
   COMPREPLY=()
   if ((COMP_CWORD == 1)); then
-    mapfile -t COMPREPLY < <(compgen -W "open read seal command refusals help --help --version" -- "$word")
+    mapfile -t COMPREPLY < <(compgen -W "open read seal command journal refusals help --help --version" -- "$word")
     return
   fi
   case $before in
@@ -20,6 +20,7 @@ _store_reader() {
   read) options="--full --json --csv --by-sender --summary-only --refused --source" ;;
   seal) options="--key --key-file --counter --ieee --key-sequence --json" ;;
   command) options="--full --json --csv --summary-only --refused" ;;
+  journal) options="--json" ;;
   refusals) options="--json --csv" ;;
   *) return ;;
   esac

@@ -1,10 +1,11 @@
-//! `store-reader`: shows what is in a capture of NWK frames, and why a frame was refused.
+//! `store-reader`: shows what is in a capture of NWK frames, why a frame was refused, and what is in a journal.
 mod cli {
     pub mod answer;
     pub mod arguments;
     pub mod bytes;
     pub mod csv;
     pub mod describe;
+    pub mod journal;
     pub mod keys;
     pub mod lines;
     pub mod link;

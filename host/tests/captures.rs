@@ -135,7 +135,7 @@ fn the_samples_are_as_they_are_made() {
     let script = folder.join("capture.py");
     let made = tool("python3", &[script.to_str().expect("UTF-8")]).expect("python3");
     assert!(made.status.success(), "{}", String::from_utf8_lossy(&made.stderr));
-    for file in ["store.pcap", "store.pcapng"] {
+    for file in ["store.pcap", "store.pcapng", "store.journal"] {
         let kept = fs::read(root().join("samples").join(file)).expect(file);
         assert_eq!(fs::read(folder.join(file)).expect(file), kept, "{file}");
     }

@@ -586,6 +586,9 @@ fn wrong_arguments_are_named() {
         (&["read", "a", "b"], "read takes one file here: \"b\""),
         (&["read", "--", "--json", "b"], "read takes one file here: \"b\""),
         (&["read", "--source", "0x12345"], "--source: an odd number of hexadecimal digits, 5"),
+        (&["journal", "--full"], "journal has no option --full"),
+        (&["journal", "--csv"], "journal has no option --csv"),
+        (&["journal", "a", "b"], "journal takes one file here: \"b\""),
         (&["refusals", "a"], "refusals takes no file here: \"a\""),
         (&["seal", "--key", KEY, "--key", KEY, "--counter", "1"], "seal takes one key"),
         (&["seal", "--key", KEY, "--counter", "1", "--counter", "2"], "--counter is given twice"),
@@ -627,7 +630,7 @@ fn help_shows_an_example_of_each_command() {
         let ran = run(arguments, b"");
         assert_eq!((ran.err.as_str(), ran.status), ("", 0));
         let examples = ran.out.split("Examples").nth(1).expect("examples");
-        for name in ["open", "read", "seal", "command", "refusals"] {
+        for name in ["open", "read", "seal", "command", "journal", "refusals"] {
             assert!(examples.contains(&format!("store-reader {name}")), "no example of {name}");
         }
     }
@@ -642,7 +645,7 @@ fn the_examples_of_the_help_run() {
     let path =
         format!("{}:{}", folder.parent().expect("a folder").display(), std::env::var("PATH").unwrap_or_default());
     let lines: Vec<&str> = examples.lines().filter(|line| !line.trim().is_empty()).collect();
-    assert_eq!(lines.len(), 8);
+    assert_eq!(lines.len(), 9);
     for line in lines {
         let ran =
             Command::new("sh").args(["-c", line]).env("PATH", &path).current_dir(root()).output().expect("a shell");

@@ -6,7 +6,7 @@ use std::collections::BTreeSet;
 use std::fs;
 use support::command::{root, run, tool, KEY};
 
-const COMMANDS: [&str; 5] = ["open", "read", "seal", "command", "refusals"];
+const COMMANDS: [&str; 6] = ["open", "read", "seal", "command", "journal", "refusals"];
 
 /// The long options that a text names, each behind a blank, a bracket, a bar or at the start of a line.
 fn options(text: &str) -> BTreeSet<String> {

@@ -182,10 +182,11 @@ fn counted_digits(bytes: &[u8]) -> String {
     format!("{} {unit}{colon}{}", bytes.len(), digits(bytes))
 }
 
-/// A refusal's condition, in fewer words where CCM alone cannot be meant.
+/// A frame's refusal in words, in fewer of them where CCM alone or a journal cannot be meant.
 pub fn condition(refusal: Refusal) -> &'static str {
     match refusal {
         Refusal::TOO_LONG => "a frame has more than 118 bytes",
+        Refusal::NO_PLACE => "the sender is new and no place is free",
         other => other.condition(),
     }
 }

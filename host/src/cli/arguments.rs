@@ -35,6 +35,7 @@ pub enum Task {
     Read,
     Seal(Sealing),
     Command,
+    Journal,
     Refusals,
 }
 
@@ -68,7 +69,7 @@ pub enum Parsed {
     Version,
 }
 
-const COMMANDS: [&str; 5] = ["open", "read", "seal", "command", "refusals"];
+const COMMANDS: [&str; 6] = ["open", "read", "seal", "command", "journal", "refusals"];
 
 /// The options: the commands that have them, whether they take a value, and whether they may be given more than once.
 const OPTIONS: [(&str, &[&str], bool, bool); 15] = [
@@ -180,6 +181,7 @@ fn arguments_of(name: &str, given: Given) -> Result<Arguments, String> {
         "seal" => Task::Seal(sealing(&given)?),
         "read" => Task::Read,
         "command" => Task::Command,
+        "journal" => Task::Journal,
         _ => Task::Refusals,
     };
     let filter = Filter {

@@ -2,6 +2,7 @@
 use super::answer::{as_read, command, opened, Answer};
 use super::arguments::{Arguments, Show, Task};
 use super::csv;
+use super::journal::recovered;
 use super::progress::Progress;
 use super::protocol::is_inter_pan;
 use super::replay::Replays;
@@ -46,6 +47,10 @@ pub fn run(arguments: &Arguments, colour: bool, out: &mut impl Write) -> Result<
         Task::Command => {
             let run = Run::new(arguments, Summary::new("command", "read", "read"), false);
             run.over(lines(arguments, "command")?, &mut printer, command)
+        }
+        Task::Journal => {
+            let answer = recovered(arguments.file.as_deref()).map_err(Failure::Input)?;
+            Ok(printer.journal(&answer).map(|()| 0)?)
         }
         Task::Seal(sealing) => Ok(seal_each(lines(arguments, "seal")?, sealing, &mut printer)?),
     }

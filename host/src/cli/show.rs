@@ -1,6 +1,7 @@
 //! What is printed of each input.
 use super::answer::{condition, Answer};
 use super::arguments::{Filter, Show, SourceAddress};
+use super::journal::Found;
 use super::mac::{MacAddress, MacHeader};
 use super::source::{Entry, Place};
 use super::value::{full, Fields, Value};
@@ -87,6 +88,24 @@ impl<W: Write> Printer<'_, W> {
         }
     }
 
+    /// What is in a journal, or why it is refused.
+    pub fn journal(&mut self, answer: &Result<Found, Refusal>) -> io::Result<()> {
+        match (self.show, answer) {
+            (Show::Json, Ok(found)) => {
+                let mut fields: Fields = vec![("refusal", 0u8.into())];
+                fields.extend(found.fields());
+                writeln!(self.out, "{}", Value::Object(fields).json())
+            }
+            (Show::Json, Err(refusal)) => {
+                let fields =
+                    vec![("refusal", refusal.number().into()), ("condition", Value::text(refusal.condition()))];
+                writeln!(self.out, "{}", Value::Object(fields).json())
+            }
+            (_, Ok(found)) => write!(self.out, "{found}"),
+            (_, Err(refusal)) => writeln!(self.out, "{}", self.coloured(refusal.to_string())),
+        }
+    }
+
     /// An input that cannot be read: among the answers for `--json`, else on standard error.
     pub fn broken(&mut self, entry: &Entry, why: &str) -> io::Result<()> {
         if self.show == Show::Json {
@@ -113,6 +132,10 @@ impl<W: Write> Printer<'_, W> {
             Refusal::INTERNAL => refusal.to_string(),
             _ => format!("refused by {}: {}", refusal.number(), condition(refusal)),
         };
+        self.coloured(text)
+    }
+
+    fn coloured(&self, text: String) -> String {
         match self.colour {
             true => format!("{RED}{text}{PLAIN}"),
             false => text,
