@@ -91,6 +91,25 @@ fn the_example_that_refuses_a_replay() {
     assert_eq!(output("replay", &root().join("examples/replay.c")), expected);
 }
 
+/// Three counters are reserved at a time, so the ceilings are 3 and 6 before the cut: 10 bytes, and 13 of a sender. By document 02 an
+/// incomplete record is ignored, and after recovery the last counter is the ceiling. Another kind is refused by 25.
+#[test]
+fn the_example_that_survives_a_power_cut() {
+    let expected = "start: ceiling 0, 0 of 0 bytes are complete records
+counter 1
+counter 2
+counter 3
+counter 4
+power cut
+start: ceiling 6, 23 of 27 bytes are complete records
+00124B001CA1B2C3 had counter 74565
+counter 7
+counter 8
+refused by 25: a record of a journal, or the one to be written, has a kind that is not 1 to 3
+";
+    assert_eq!(output("journal", &root().join("examples/journal.c")), expected);
+}
+
 /// The payloads are the reports that `samples/capture.py` put in: the neighbour's second with 1990 hundredths of a degree, the
 /// probe's sixth with 2200. The clear one needs no output, the sealed one does.
 #[test]
