@@ -33,6 +33,7 @@ static int software(void) {
   compare_with_kept_keys("software AES");
   times_alone();
   times_of_senders();
+  times_of_journals();
   compare_bursts_with_calls();
   print_spread();
   return 0;

@@ -3,6 +3,7 @@
 
 #include "bursts.h"
 #include "codecs.h"
+#include "journals.h"
 #include "readings.h"
 #include "senders.h"
 
@@ -134,6 +135,20 @@ static size_t over_senders(call *run) {
   return most;
 }
 
+/* A journal of 64 senders, whole, cut after each byte of its last record, and with a byte that is no kind. */
+static size_t over_journals(call *run) {
+  static struct journal j;
+  make_journal(&j, SHORT_JOURNAL);
+  const size_t whole = j.length;
+  size_t most = 0;
+  for (size_t cut = 0; cut < NWK_JOURNAL_RECORD; cut++) {
+    j.length = whole - cut;
+    most = larger(most, touched(run, &j));
+  }
+  j.bytes[0] = 0;
+  return larger(most, touched(run, &j));
+}
+
 /* Every second byte of frame control, which has the presence bits. */
 static size_t over_headers(call *run) {
   size_t most = 0;
@@ -190,6 +205,9 @@ void print_stack_use(void) {
       {"nwk_inbound_network_key", over_senders, ask_key},
       {"nwk_note_inbound_frame_counter", over_senders, note_known},
       {"nwk_forget_sender", over_senders, forget_sender},
+      {"nwk_recover_journal", over_journals, recover_journal},
+      {"nwk_write_journal_record", over_journals, write_journal_record},
+      {"nwk_next_counter", over_journals, next_counter},
       {"nwk_payload_kind", over_messages, payload_kind},
       {"nwk_read_command", over_commands, read_command},
       {"nwk_write_command", over_commands, write_command},

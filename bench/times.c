@@ -2,6 +2,7 @@
 
 #include "bursts.h"
 #include "codecs.h"
+#include "journals.h"
 #include "readings.h"
 #include "senders.h"
 #include "tables.h"
@@ -179,6 +180,30 @@ void times_of_senders(void) {
       sender_row("nwk_forget_sender, unknown", forget_sender, make_unknown_sender, &s[4]),
   };
   alone("A list of 64 senders", "call, sender", rows, sizeof rows / sizeof rows[0]);
+}
+
+/* A row of a call on a journal. */
+static struct row journal_row(const char *label, call *run, struct journal *j) {
+  struct row row = {.jobs = {{.run = run, .input = j}}};
+  snprintf(row.label, sizeof row.label, "%s, %zu bytes", label, j->length);
+  return row;
+}
+
+void times_of_journals(void) {
+  static struct journal shorter, longer;
+  make_journal(&shorter, SHORT_JOURNAL);
+  make_journal(&longer, LONG_JOURNAL);
+  check_journal(&shorter);
+  check_journal(&longer);
+  struct row rows[] = {
+      journal_row("nwk_recover_journal", recover_journal, &shorter),
+      journal_row("nwk_recover_journal", recover_journal, &longer),
+      journal_row("nwk_write_journal_record", write_journal_record, &shorter),
+      journal_row("nwk_write_journal_record", write_journal_record, &longer),
+      journal_row("nwk_next_counter", next_counter, &shorter),
+      journal_row("nwk_next_counter", next_counter, &longer),
+  };
+  alone("A journal of 64 senders", "call, journal", rows, sizeof rows / sizeof rows[0]);
 }
 
 /* A row of a burst, opened both ways. */

@@ -14,6 +14,9 @@ void times_alone(void);
 /* Asking, noting and forgetting in a list of 64 senders. */
 void times_of_senders(void);
 
+/* Recovery, writing and the next counter over journals of two lengths. */
+void times_of_journals(void);
+
 /* Bursts of 16 frames beside 16 calls of opening. */
 void compare_bursts_with_calls(void);
 
