@@ -2,11 +2,11 @@
 #[allow(dead_code)]
 mod support;
 
-use std::fs;
-use std::io::ErrorKind;
-use std::path::PathBuf;
+use std::fs::{self, OpenOptions};
+use std::io::{ErrorKind, Write};
+use std::path::{Path, PathBuf};
 use store_reader::{Eui64, JournalError, JournalFile, Refusal, SenderRecord, Senders, MAX_SENDERS};
-use support::command::{root, scratch};
+use support::command::{not_installed, root, scratch, tool};
 use support::generate::journals as generate;
 use support::model::journal::{Entry, Journal};
 use support::random::Random;
@@ -18,7 +18,7 @@ fn fresh(name: &str) -> PathBuf {
     path
 }
 
-fn open(path: &PathBuf, step: u32) -> (JournalFile, Senders) {
+fn open(path: &Path, step: u32) -> (JournalFile, Senders) {
     let mut senders = Senders::new();
     let journal = JournalFile::open(path, step, &mut senders).unwrap_or_else(|e| panic!("{}: {e}", path.display()));
     (journal, senders)
@@ -208,4 +208,55 @@ fn an_error_says_what_it_is() {
     assert_eq!(refused.to_string(), "refused by 26: the last counter is FFFFFFFE or above");
     let stopped = "the journal is to be opened anew: an earlier record may not be on disk";
     assert_eq!(JournalError::Stopped.to_string(), stopped);
+}
+
+// ---- what the system is told, and in which order
+
+/// The journal of a process that `strace` looks at.
+const TRACED: &str = "STORE_READER_TEST_TRACED";
+
+/// A new journal with a ceiling, and the same again with a part of a record behind it.
+fn two_lives(path: &Path) {
+    assert_eq!(open(path, 1).0.next_counter().expect("a counter"), 1);
+    let mut file = OpenOptions::new().append(true).open(path).expect("the journal");
+    file.write_all(&[1, 2]).expect("a part of a record");
+    drop(file);
+    assert_eq!(open(path, 1).0.next_counter().expect("a counter"), 2);
+}
+
+/// A new file's name is on disk before its first record, an incomplete record is gone from the disk before the next one is written, and
+/// each record is on disk before anything else happens. As `strace` sees it, where it is installed and may trace.
+#[test]
+fn each_step_waits_for_the_disk() {
+    const NAME: &str = "each_step_waits_for_the_disk";
+    if let Some(path) = std::env::var_os(TRACED) {
+        return two_lives(path.as_ref());
+    }
+    let folder = scratch("traced");
+    fs::create_dir_all(&folder).expect("a folder");
+    let (path, trace) = (folder.join("traced.journal"), fresh("trace"));
+    let _ = fs::remove_file(&path);
+    let (program, variable) = (std::env::current_exe().expect("this program"), format!("{TRACED}={}", path.display()));
+    let text = |path: &Path| path.to_str().expect("UTF-8").to_string();
+    let calls = "trace=flock,pwrite64,ftruncate,fsync,fdatasync";
+    let options = ["-f", "-y", "-e", calls, "-E", &variable, "-o", &text(&trace), &text(&program), "--exact", NAME];
+    let Some(ran) = tool("strace", &options) else { return };
+    let lines = fs::read_to_string(&trace).unwrap_or_default();
+    if lines.is_empty() {
+        return not_installed("strace that may trace");
+    }
+    assert!(ran.status.success(), "{}", String::from_utf8_lossy(&ran.stdout));
+    // `123 fsync(3</folder/traced.journal>) = 0`: the call, and whether it is for the file or the folder.
+    let seen: Vec<String> = lines
+        .lines()
+        .filter_map(|line| {
+            let call = line.split_whitespace().nth(1)?.split('(').next()?;
+            let of = if line.contains("/traced/traced.journal>") { "file" } else { "folder" };
+            line.contains("/traced").then(|| format!("{call} {of}"))
+        })
+        .collect();
+    let written = ["pwrite64 file", "fdatasync file", "flock file"];
+    let new = ["flock file", "fsync file", "fsync folder"];
+    let cut = ["flock file", "ftruncate file", "fsync file"];
+    assert_eq!(seen, [new, written, cut, written].concat(), "{lines}");
 }
