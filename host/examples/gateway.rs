@@ -1,12 +1,13 @@
 //! The gateway's loop: the frames that the radio hands over at once are opened in one call, each sealed one is asked for by its
-//! sender's last counter and noted, and what does not pass is counted by its number. Clear frames, for which nobody vouches, go
-//! another way than authenticated ones.
+//! sender's last counter and noted, in a journal too, and what does not pass is counted by its number. Clear frames, for which nobody
+//! vouches, go another way than authenticated ones. After a power cut the journal still knows which frames were taken.
 //!
 //!   cargo run --release --example gateway
 use std::collections::BTreeMap;
+use std::path::Path;
 use store_reader::{
-    hex, open_burst, ClearFrame, Key, NwkCommand, NwkPayload, Opened, OpenedFrame, OpenedRecord, Refusal, Senders,
-    MAX_BURST, MAX_BURST_OUTPUT, MAX_FRAME,
+    hex, open_burst, ClearFrame, JournalError, JournalFile, Key, NwkCommand, NwkPayload, Opened, OpenedFrame,
+    OpenedRecord, Refusal, Senders, MAX_BURST, MAX_BURST_OUTPUT, MAX_FRAME,
 };
 
 /// The number of the network key in use.
@@ -22,45 +23,57 @@ const HEARD: [&str; 6] = [
     "08020000107A1E0D284B230100C3B2A11C004B12000089413A1AB7E349F695D6D89B0AC7A3850567311A",
 ];
 
-/// Each sender's last counter, why frames did not pass, and how many were clear.
-#[derive(Default)]
+/// Outgoing counters are reserved so many at a time.
+const STEP: u32 = 1000;
+
+/// Each sender's last counter, in memory and on disk, why frames did not pass, and how many were clear.
 struct Gateway {
     senders: Senders,
+    journal: JournalFile,
     refused: BTreeMap<Refusal, u64>,
     clear: u64,
 }
 
 impl Gateway {
+    /// Starts with what the journal says.
+    fn start(journal: &Path) -> Result<Self, JournalError> {
+        let mut senders = Senders::new();
+        let journal = JournalFile::open(journal, STEP, &mut senders)?;
+        Ok(Self { senders, journal, refused: BTreeMap::new(), clear: 0 })
+    }
+
     /// Takes a burst from the radio: its frames end to end, and their lengths.
-    fn receive(&mut self, key: &Key, frames: &[u8], lengths: &[u16]) -> Result<(), Refusal> {
+    fn receive(&mut self, key: &Key, frames: &[u8], lengths: &[u16]) -> Result<(), JournalError> {
         let mut answers = [OpenedRecord::new(); MAX_BURST];
         let mut out = [0; MAX_BURST_OUTPUT];
         open_burst(key, frames, lengths, &mut answers, &mut out)?.try_for_each(|answer| self.take(key, answer))
     }
 
     /// Takes what was answered of a frame.
-    fn take(&mut self, key: &Key, answer: Result<Opened<'_>, Refusal>) -> Result<(), Refusal> {
+    fn take(&mut self, key: &Key, answer: Result<Opened<'_>, Refusal>) -> Result<(), JournalError> {
         match answer {
             Ok(Opened::Sealed(frame)) => match self.note(key, &frame) {
-                Ok(()) => deliver(&frame),
-                Err(refusal) => self.refuse(refusal),
+                Ok(()) => deliver(&frame)?,
+                Err(JournalError::Refused(refusal)) => self.refuse(refusal)?,
+                Err(error) => return Err(error),
             },
             Ok(Opened::Clear(frame)) => {
                 self.clear += 1;
-                show_to_staff(&frame)
+                show_to_staff(&frame)?;
             }
-            Err(refusal) => self.refuse(refusal),
+            Err(refusal) => self.refuse(refusal)?,
         }
+        Ok(())
     }
 
-    /// Asks whether a frame's key is the active one and its counter above its sender's last one, whose place it then takes. A
-    /// clear frame has no counter.
-    fn note(&mut self, key: &Key, frame: &OpenedFrame<'_>) -> Result<(), Refusal> {
+    /// Asks whether a frame's key is the active one and its counter above its sender's last one, whose place it then takes. The
+    /// frame is taken when that is on disk. A clear frame has no counter.
+    fn note(&mut self, key: &Key, frame: &OpenedFrame<'_>) -> Result<(), JournalError> {
         let (sender, counter) = (frame.nonce_ieee, frame.auxiliary.frame_counter);
         let number = frame.auxiliary.key_sequence_number;
         self.senders.inbound_network_key(key, ACTIVE_KEY_SEQUENCE_NUMBER, sender, number, counter)?;
         self.senders.note_inbound_frame_counter(sender, counter)?;
-        Ok(())
+        self.journal.note_sender(sender, counter)
     }
 
     /// Counts a frame that does not pass.
@@ -73,6 +86,15 @@ impl Gateway {
             Refusal::FRAME_COUNTER => println!("heard before"),
             other => println!("{other}"),
         }
+        Ok(())
+    }
+
+    /// Says what was counted, and which counter the next frame is sent with.
+    fn report(&mut self) -> Result<(), JournalError> {
+        for (refusal, count) in &self.refused {
+            println!("{count} {refusal}");
+        }
+        println!("{} clear; the next outgoing counter is {}", self.clear, self.journal.next_counter()?);
         Ok(())
     }
 }
@@ -101,17 +123,19 @@ fn show_to_staff(frame: &ClearFrame<'_>) -> Result<(), Refusal> {
 
 fn main() -> Result<(), Box<dyn std::error::Error>> {
     let key: Key = "C0C1C2C3C4C5C6C7C8C9CACBCCCDCECF".parse()?;
-    let mut gateway = Gateway::default();
     let (mut frames, mut lengths, mut end) = ([0; HEARD.len() * MAX_FRAME], [0; HEARD.len()], 0);
     for (text, length) in HEARD.iter().zip(&mut lengths) {
         let n = hex(text, &mut frames[end..])?;
         *length = u16::try_from(n)?;
         end += n;
     }
-    gateway.receive(&key, &frames[..end], &lengths)?;
-    for (refusal, count) in &gateway.refused {
-        println!("{count} {refusal}");
+    let journal = std::env::temp_dir().join(format!("gateway-{}.journal", std::process::id()));
+    for start in ["the first start", "after a power cut, the same frames again"] {
+        println!("{start}");
+        let mut gateway = Gateway::start(&journal)?;
+        gateway.receive(&key, &frames[..end], &lengths)?;
+        gateway.report()?;
     }
-    println!("{} clear", gateway.clear);
+    std::fs::remove_file(&journal)?;
     Ok(())
 }

@@ -97,7 +97,7 @@ pub const MAX_JOURNAL_RECORD: usize = 13;
 /// The bytes of output that the longest burst needs: a part of [`MAX_PAYLOAD`] for each frame.
 pub const MAX_BURST_OUTPUT: usize = MAX_BURST * MAX_PAYLOAD;
 
-/// The README's example.
-#[cfg(doctest)]
+/// The README's examples.
+#[cfg(all(doctest, feature = "std"))]
 #[doc = include_str!("../../README.md")]
 struct Readme;
