@@ -4,7 +4,7 @@
  *   name [key_first key_second] inputs = answer outputs
  *
  * in hexadecimal, an empty byte string as "-", a list as the bytes of its entries. The outputs were filled with A5 and are
- * printed whole. host/tests/agree.rs repeats each line from Rust. agree_senders.c has the other three functions.
+ * printed whole. host/tests/agree.rs repeats each line from Rust. agree_senders.c and agree_journal.c have the other functions.
  *
  *   cc -std=c11 -Wall -Wextra -Iinclude tests/agree.c target/staticlib/libnwk.a -o agree && ./agree */
 #include "nwk.h"

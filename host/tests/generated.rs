@@ -1,5 +1,5 @@
 //! Generated calls over the seventeen operations on bytes, each between guard bytes and compared with a model of documents 01
-//! and 02. `inbound.rs` has those over lists of senders.
+//! and 02. `inbound.rs` has those over lists of senders, `journal.rs` those over journals.
 #[allow(dead_code)]
 mod support;
 
