@@ -16,4 +16,121 @@ pub worked-hold : AllHold worked
 unfolding unless firstOf over le leAt written counted bodyLength recordAt recordBytes kindsFrom recordsFrom someUnknown totalLength noted
     ceilingAfter keyNumberAfter sendersAfter appliedAll stateOf recoverRefusal anew recoverAnswer recoveredList recordOfKind writeRefusal
     writeRecord someCeiling nextRefusal nextCounter after afterAll many listed worked
-worked-hold = ((refl, refl), ((refl, refl), ((refl, refl), ((refl, refl), ((refl, refl), ((refl, refl), ((refl, refl), ((refl, refl), ((refl, refl), ((refl, refl), ((refl, refl), ((refl, refl), ((refl, refl), ((refl, refl), ((refl, refl), ((refl, refl), ((refl, refl), ((refl, refl), ((refl, refl), ((refl, refl), ((refl, refl), ((refl, refl), ((refl, refl), ((refl, refl), ((refl, refl), ((refl, refl), ((refl, refl), ((refl, refl), ((refl, refl), ((refl, refl), ((refl, refl), ((refl, refl), ((refl, refl), ((refl, refl), (refl, (refl, (refl, (refl, (refl, (refl, (refl, (refl, (refl, (refl, (refl, (refl, (refl, (refl, (refl, (refl, (refl, (refl, (refl, (refl, (refl, (refl, (refl, tt)))))))))))))))))))))))))))))))))))))))))))))))))))))))))
+worked-hold = (
+  (refl, refl),
+  (
+    (refl, refl),
+    (
+      (refl, refl),
+      (
+        (refl, refl),
+        (
+          (refl, refl),
+          (
+            (refl, refl),
+            (
+              (refl, refl),
+              (
+                (refl, refl),
+                (
+                  (refl, refl),
+                  (
+                    (refl, refl),
+                    (
+                      (refl, refl),
+                      (
+                        (refl, refl),
+                        (
+                          (refl, refl),
+                          (
+                            (refl, refl),
+                            (
+                              (refl, refl),
+                              (
+                                (refl, refl),
+                                (
+                                  (refl, refl),
+                                  (
+                                    (refl, refl),
+                                    (
+                                      (refl, refl),
+                                      (
+                                        (refl, refl),
+                                        (
+                                          (refl, refl),
+                                          (
+                                            (refl, refl),
+                                            (
+                                              (refl, refl),
+                                              (
+                                                (refl, refl),
+                                                (
+                                                  (refl, refl),
+                                                  (
+                                                    (refl, refl),
+                                                    (
+                                                      (refl, refl),
+                                                      (
+                                                        (refl, refl),
+                                                        (
+                                                          (refl, refl),
+                                                          (
+                                                            (refl, refl),
+                                                            (
+                                                              (refl, refl),
+                                                              (
+                                                                (refl, refl),
+                                                                (
+                                                                  (refl, refl),
+                                                                  (
+                                                                    (refl, refl),
+                                                                    (
+                                                                      refl,
+                                                                      (
+                                                                        refl,
+                                                                        (
+                                                                          refl,
+                                                                          (
+                                                                            refl,
+                                                                            (
+                                                                              refl,
+                                                                              (refl, (refl, (refl, (refl, (refl, (refl, (refl, (refl, (refl, (refl, (refl, (refl, (refl, (refl, (refl, (refl, (refl, (refl, tt)))))))))))))))))),
+                                                                            ),
+                                                                          ),
+                                                                        ),
+                                                                      ),
+                                                                    ),
+                                                                  ),
+                                                                ),
+                                                              ),
+                                                            ),
+                                                          ),
+                                                        ),
+                                                      ),
+                                                    ),
+                                                  ),
+                                                ),
+                                              ),
+                                            ),
+                                          ),
+                                        ),
+                                      ),
+                                    ),
+                                  ),
+                                ),
+                              ),
+                            ),
+                          ),
+                        ),
+                      ),
+                    ),
+                  ),
+                ),
+              ),
+            ),
+          ),
+        ),
+      ),
+    ),
+  ),
+)

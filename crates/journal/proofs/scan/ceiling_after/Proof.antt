@@ -1,5 +1,6 @@
 -- `ceiling_after` meets its contract: the record's case, and a comparison. Assumes nothing.
 use borrow.Author.Needs.{needs}
+use native.Mathlib.Omega.{arith}
 use borrow.Author.Tests.{lt-ltb, le-ltb}
 use Rattle.journal.proofs.scan.ceiling_after.Statement.{statement}
 use Rattle.journal.proofs.scan.ceiling_after.Tie as tie
@@ -7,11 +8,15 @@ use Rattle.journal.specs.Recovery.{ceilingAfter}
 
 returns : tie.Need-returns
 unfolding ceilingAfter
-returns c = rw (c .before .before .r .given .1, lt-ltb _ _ (c .if1 .taken))
+returns c =
+    let r = c .before .before in
+    rw (r .r .given .1, lt-ltb (r .before .before .args .ceiling) (r .r .given .0 .0) (omega (arith, c .if1 .taken)))
 
 returns-2 : tie.Need-returns-2
 unfolding ceilingAfter
-returns-2 c = rw (c .before .before .r .given .1, le-ltb _ _ (c .if1 .left))
+returns-2 c =
+    let r = c .before .before in
+    rw (r .r .given .1, le-ltb (r .before .before .args .ceiling) (r .r .given .0 .0) (omega (arith, c .if1 .left)))
 
 returns-3 : tie.Need-returns-3
 unfolding ceilingAfter
