@@ -1,15 +1,15 @@
 -- What stands behind the complete records of a journal is read apart from them: its records come behind theirs, and its kinds alone decide
 -- whether one is unknown. By induction along the bytes, some of which belong to a body. Assumes nothing.
-use mathlib.Core.Path.{_≡_, refl, sym, ap, subst, _∙_}
-use mathlib.Core.Bool.{Bool, true, false, cond, not, true≢false, _||_}
+use mathlib.Core.Path.{_≡_, refl, sym, ap, _∙_}
+use mathlib.Core.Bool.{true, false, not, true≢false}
 use mathlib.Core.List.{List, [], _∷_, _++_}
 use Prim.Native.Nat.{ℕ, zero, suc, _+_, _<_, _≤_}
 use native.Mathlib.Omega.{arith}
-use native.Mathlib.Nat.{zero-add, add-zero}
-use lib.Dec.{eqb, leb}
-use lib.ListN.{length, getD, take, drop, length-append, length-take, List·getD-append}
+use native.Mathlib.Nat.{zero-add}
+use lib.Dec.{leb}
+use lib.ListN.{length, getD, take, length-append, length-take, List·getD-append}
 use lib.Seq.{getD-take}
-use borrow.Author.Tests.{leb-true, leb-false, le-leb, not-false}
+use borrow.Author.Tests.{leb-true, le-leb, not-false}
 use borrow.Table.Steps.{cases}
 use Rattle.octets.specs.Numbers.{leAt}
 use Rattle.octets.proofs.Conditions.{or-false}

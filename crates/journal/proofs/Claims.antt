@@ -2,8 +2,8 @@
 use mathlib.Core.Path.{_≡_, refl, sym, ap, subst, _∙_}
 use mathlib.Core.Bool.{true, false, not, true≢false}
 use mathlib.Core.List.{List, [], _∷_, _++_, append-nil}
-use mathlib.Core.Logic.{_⊎_, inl, inr}
-use Prim.Native.Nat.{ℕ, zero, suc, _+_, _<_, _≤_}
+use mathlib.Core.Logic.{inl, inr}
+use Prim.Native.Nat.{ℕ, zero, suc, _+_, _≤_}
 use native.Mathlib.Omega.{arith}
 use native.Mathlib.Nat.{zero-add, add-zero}
 use lib.Dec.{leb}
@@ -20,7 +20,7 @@ use Rattle.journal.specs.declared.format.JournalRecord.{JournalRecord}
 use Rattle.journal.specs.Format.{isKind, bodyLength, recordAt, recordBytes, kindsFrom, recordsFrom, records, someUnknown, unknownKind, totalLength, completeLength}
 use Rattle.journal.specs.Recovery.{blank, appliedAll, stateOf, recoverRefusal, recoverAnswer, recoveredList}
 use Rattle.journal.specs.Writing.{recordOfKind, writeRefusal, writeRecord, someCeiling}
-use Rattle.journal.specs.Life.{Writing, completePart, writes, given}
+use Rattle.journal.specs.Life.{completePart, writes, given}
 use Rattle.journal.specs.Claims.{Fits, RecordIsApplied, SameRecovery, PartChangesNothing, CompleteRecordsRecover, bytesOf, CompletePartIsRecords, lengthOfKind, ReadsBack, LargestCeiling}
 use Rattle.journal.proofs.Bodies.{by-kind}
 use Rattle.journal.proofs.Whole.{length-at}

@@ -2,18 +2,17 @@
 use mathlib.Core.Path.{_≡_, refl, sym, ap, _∙_}
 use mathlib.Core.Bool.{Bool, true, false, cond, not, _&&_, _||_}
 use mathlib.Core.List.{List, [], _∷_}
-use Prim.Native.Nat.{ℕ, suc, _≤_}
+use Prim.Native.Nat.{ℕ, suc}
 use native.Mathlib.Omega.{arith}
 use lib.Dec.{leb, ltb}
 use lib.ListN.{length}
-use borrow.Author.Tests.{leb-true, leb-false, ltb-true, ltb-false, le-leb, lt-leb, lt-ltb, le-ltb, not-true, not-false}
+use borrow.Author.Tests.{leb-true, leb-false, ltb-true, ltb-false, le-leb, lt-leb, lt-ltb}
 use borrow.Table.Steps.{cases}
-use Rattle.octets.specs.Refusals.{Condition, unless, on, firstOf}
-use Rattle.octets.proofs.Conditions.{none, or-false}
-use Rattle.senders.specs.declared.SenderRecord.{SenderRecord}
+use Rattle.octets.specs.Refusals.{unless, firstOf}
+use Rattle.octets.proofs.Conditions.{none}
 use Rattle.senders.specs.Walks.{counted}
-use Rattle.journal.specs.declared.{format.JournalRecord.JournalRecord, Recovered.Recovered, scan.Scanned.Scanned}
-use Rattle.journal.specs.Format.{isKind, recordBytes, records, unknownKind}
+use Rattle.journal.specs.declared.{format.JournalRecord.JournalRecord, scan.Scanned.Scanned}
+use Rattle.journal.specs.Format.{recordBytes, records, unknownKind}
 use Rattle.journal.specs.Recovery.{State, blank, larger, ceilingAfter, sendersAfter, applied, appliedAll, stateOf, recoverRefusal, recoverAnswer}
 use Rattle.journal.specs.Writing.{writeRefusal, someCeiling, nextRefusal}
 use Rattle.journal.specs.Scan.{tableOf, Holds, Scans, recoveredBy, writeRefusalBy, nextRefusalBy}

@@ -1,24 +1,22 @@
 -- No counter is handed out twice: in every life each one handed out is up to the largest complete ceiling of the store, which no event makes
 -- lower, and up to the last counter while the power is on. A recovery starts from that ceiling. Assumes nothing.
 use mathlib.Core.Path.{_≡_, refl, sym, ap, subst, _∙_}
-use mathlib.Core.Bool.{Bool, true, false, cond, not}
+use mathlib.Core.Bool.{true, false, not}
 use mathlib.Core.List.{List, [], _∷_, _++_, append-nil}
 use Prim.Native.Nat.{ℕ, zero, suc, _<_, _≤_}
 use native.Mathlib.Omega.{arith}
-use lib.Dec.{leb, ltb}
+use lib.Dec.{ltb}
 use lib.ListN.{length, take}
-use borrow.Author.Tests.{leb-false, leb-true, ltb-true, ltb-false, not-false}
+use borrow.Author.Tests.{leb-false, ltb-true, not-false}
 use borrow.Table.Steps.{cases}
-use Rattle.octets.specs.Refusals.{unless, firstOf}
-use Rattle.octets.specs.Writing.{Run, written}
+use Rattle.octets.specs.Refusals.{unless}
 use Rattle.octets.proofs.Conditions.{none, or-false, unless-either}
 use Rattle.octets.proofs.Writing.{written-number}
-use Rattle.types.specs.Counters.{lastCounter}
 use Rattle.senders.specs.declared.OptionCounter.{OptionCounter}
-use Rattle.journal.specs.declared.{format.JournalRecord.JournalRecord, Recovered.Recovered, NextCounter.NextCounter}
+use Rattle.journal.specs.declared.format.JournalRecord.{JournalRecord}
 use Rattle.journal.specs.Format.{records, unknownKind}
-use Rattle.journal.specs.Recovery.{State, blank, larger, ceilingAfter, applied, appliedAll, stateOf, recoverRefusal, recoverGiven, recoverNothing, recoverAnswer}
-use Rattle.journal.specs.Writing.{writeRefusal, writeRecord, recordOfKind, someCeiling, nextRefusal, nextGiven, nextNothing, nextCounter}
+use Rattle.journal.specs.Recovery.{State, blank, ceilingAfter, applied, appliedAll, stateOf, recoverRefusal, recoverGiven, recoverNothing, recoverAnswer}
+use Rattle.journal.specs.Writing.{writeRefusal, writeRecord, someCeiling, nextRefusal, nextGiven, nextNothing, nextCounter}
 use Rattle.journal.specs.Life.{Gateway, begun, Writing, Event, recovers, shortens, appends, hands, cuts, cutsAppending, completePart, writes, given, off, recovered, appended, handedOut, whileOn, after, afterAll, life}
 use Rattle.journal.specs.Claims.{AllBelow, NoCounterTwice, EachCanBeSealed, OneMoreIfCovered}
 use Rattle.journal.proofs.Appending.{records-append}

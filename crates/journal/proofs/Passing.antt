@@ -1,9 +1,9 @@
 -- One pass over a journal gathers its state: what was gathered before a place, with the records from there on applied, is the state
 -- of the whole. Assumes nothing.
 use mathlib.Core.Path.{_≡_, refl, sym, ap, subst, _∙_}
-use mathlib.Core.Bool.{Bool, true, false, cond, not, true≢false, _||_}
-use mathlib.Core.List.{List, [], _∷_}
-use Prim.Native.Nat.{ℕ, suc, _+_, _<_, _≤_}
+use mathlib.Core.Bool.{Bool, true, false, true≢false, _||_}
+use mathlib.Core.List.{List, []}
+use Prim.Native.Nat.{ℕ, _+_, _≤_}
 use native.Mathlib.Omega.{arith}
 use native.Mathlib.Nat.{zero-add}
 use lib.Dec.{leb}
@@ -11,8 +11,8 @@ use lib.ListN.{length, getD, drop}
 use borrow.Author.Tests.{le-leb}
 use borrow.Table.Steps.{cases}
 use Rattle.senders.specs.declared.SenderRecord.{SenderRecord}
-use Rattle.journal.specs.declared.{format.JournalRecord.JournalRecord, OptionKeyNumber.OptionKeyNumber, scan.Scanned.Scanned}
-use Rattle.journal.specs.Format.{isKind, bodyLength, recordAt, recordBytes, records, unknownKind, totalLength, completeLength}
+use Rattle.journal.specs.declared.{format.JournalRecord.JournalRecord, OptionKeyNumber.OptionKeyNumber}
+use Rattle.journal.specs.Format.{isKind, recordAt, records, unknownKind, totalLength, completeLength}
 use Rattle.journal.specs.Recovery.{State, ceilingAfter, keyNumberAfter, sendersAfter, appliedAll, stateOf}
 use Rattle.journal.specs.Scan.{wholeAt, tableOf, Holds, Keeps, Scans}
 use Rattle.journal.proofs.Whole.{whole-inv, records-at, unknown-at, length-at, ends-there, unknown-there}

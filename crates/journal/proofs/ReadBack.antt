@@ -1,15 +1,15 @@
 -- A record's bytes read back as the record, whatever stands behind them, and a part of them as none. The bytes of a complete record are the
 -- record's. Assumes nothing.
 use mathlib.Core.Path.{_≡_, refl, sym, ap, _∙_}
-use mathlib.Core.Bool.{Bool, true, false, cond, true≢false}
+use mathlib.Core.Bool.{true, false, true≢false}
 use mathlib.Core.List.{List, [], _∷_, _++_}
 use Prim.Native.Nat.{ℕ, zero, suc, _+_, _%_, _^_, _<_, _≤_}
 use native.Mathlib.Omega.{arith}
-use lib.ListN.{length, getD, take, drop, length-append, length-take}
+use lib.ListN.{length, getD, take, length-append, length-take}
 use lib.Seq.{drop-at, take-add}
 use Rattle.octets.specs.Strings.{Below}
 use Rattle.octets.specs.Numbers.{le, leAt}
-use Rattle.octets.proofs.Numbers.{length-le, leAt-behind, leAt-le, le-leAt}
+use Rattle.octets.proofs.Numbers.{leAt-behind, leAt-le, le-leAt}
 use Rattle.journal.specs.declared.format.JournalRecord.{JournalRecord}
 use Rattle.journal.specs.Format.{isKind, bodyLength, recordAt, recordBytes, kindsFrom, recordsFrom, records, someUnknown, unknownKind}
 use Rattle.journal.specs.Claims.{Fits}

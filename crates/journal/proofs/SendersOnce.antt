@@ -1,17 +1,17 @@
 -- The senders that records make are named once each, with their last counters, and recovery's list stores just them. By induction on the
 -- records, and along the list. Assumes nothing.
 use mathlib.Core.Path.{_≡_, refl, sym, ap, subst, _∙_}
-use mathlib.Core.Bool.{Bool, true, false, cond, not, true≢false, _&&_}
+use mathlib.Core.Bool.{Bool, true, false, cond, true≢false}
 use mathlib.Core.List.{List, [], _∷_}
 use Prim.Native.Nat.{ℕ, zero, suc, _<_, _≤_}
 use native.Mathlib.Omega.{arith}
-use lib.Dec.{eqb, ltb}
+use lib.Dec.{eqb}
 use lib.ListN.{length, getD}
-use borrow.Author.Tests.{eqb-true, eqb-false, eq-eqb, ne-eqb, ltb-false}
+use borrow.Author.Tests.{eqb-true, eqb-false, ne-eqb, ltb-false}
 use borrow.Table.Steps.{cases}
 use Rattle.octets.proofs.Conditions.{accepted, none, unless-either}
 use Rattle.senders.specs.declared.{SenderRecord.SenderRecord, OptionCounter.OptionCounter}
-use Rattle.senders.specs.Records.{names, recordOf, freeRecord}
+use Rattle.senders.specs.Records.{names}
 use Rattle.senders.specs.Senders.{countedPlaces, storedIn, stored}
 use Rattle.senders.specs.Walks.{counted}
 use Rattle.senders.proofs.Walks.{counted-within, counted-64}

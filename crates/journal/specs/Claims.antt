@@ -13,7 +13,7 @@ use Rattle.types.specs.Counters.{lastCounter}
 use Rattle.senders.specs.declared.{SenderRecord.SenderRecord, OptionCounter.OptionCounter}
 use Rattle.senders.specs.Records.{names}
 use Rattle.senders.specs.Senders.{countedPlaces, stored}
-use Rattle.journal.specs.declared.{format.JournalRecord.JournalRecord, NextCounter.NextCounter}
+use Rattle.journal.specs.declared.format.JournalRecord.{JournalRecord}
 use Rattle.journal.specs.Format.{recordBytes, records, unknownKind, completeLength}
 use Rattle.journal.specs.Recovery.{applied, stateOf, recoverRefusal, recoverAnswer, recoveredList}
 use Rattle.journal.specs.Writing.{recordOfKind, someCeiling, nextCounter}

@@ -1,6 +1,6 @@
 -- `find_in` meets its contract: what the pass gathered. Assumes nothing.
 use borrow.Author.Needs.{needs}
-use mathlib.Core.Path.{_≡_, ap, _∙_}
+use mathlib.Core.Path.{_∙_}
 use native.Mathlib.Omega.{arith}
 use Rattle.senders.specs.Walks.{counted}
 use Rattle.senders.proofs.Walks.{counted-64}

@@ -1,5 +1,4 @@
 -- `body_length` meets its contract: a kind is compared with each of the three. Assumes nothing.
-use mathlib.Core.Path.{refl}
 use native.Mathlib.Omega.{arith}
 use borrow.Author.Tests.{eq-eqb, ne-eqb}
 use Rattle.journal.proofs.format.body_length.Statement.{statement}

@@ -1,6 +1,5 @@
 -- `put_record` meets its contract: the record's case. Assumes nothing.
 use borrow.Author.Needs.{needs}
-use native.Mathlib.Omega.{arith}
 use Rattle.journal.proofs.format.put_record.Statement.{statement}
 use Rattle.journal.proofs.format.put_record.Tie as tie
 use Rattle.octets.specs.Numbers.{le}

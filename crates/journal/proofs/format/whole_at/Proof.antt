@@ -1,7 +1,6 @@
 -- `whole_at` meets its contract: each return is one of the four things that can stand at a place. Assumes nothing.
 use borrow.Author.Needs.{needs}
-use mathlib.Core.Path.{sym, ap, _∙_}
-use Prim.Native.Nat.{suc}
+use mathlib.Core.Path.{sym, _∙_}
 use native.Mathlib.Omega.{arith}
 use Rattle.journal.proofs.format.whole_at.Statement.{statement}
 use Rattle.journal.proofs.format.whole_at.Tie as tie

@@ -1,6 +1,5 @@
 -- `ends_known` meets its contract. Assumes nothing.
 use borrow.Author.Needs.{needs}
-use mathlib.Core.Path.{_∙_}
 use borrow.Author.Tests.{le-leb, lt-leb}
 use Rattle.journal.proofs.scan.ends_known.Statement.{statement}
 use Rattle.journal.proofs.scan.ends_known.Tie as tie
