@@ -76,9 +76,9 @@ static uint32_t next(void) {
 }
 
 int main(void) {
-  char path[] = "/tmp/nwk-journal-XXXXXX";
-  file = mkstemp(path);
-  must(file >= 0 && unlink(path) == 0, "no file for the journal");
+  FILE *store = tmpfile();
+  must(store != NULL, "no file for the journal");
+  file = fileno(store);
 
   start();
   for (uint32_t expected = 1; expected <= 4; expected++) {

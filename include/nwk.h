@@ -420,8 +420,9 @@ uint64_t nwk_forget_sender(struct nwk_sender *senders, size_t senders_count, uin
  *   3  NWK_JOURNAL_KEY_NUMBER     the active key number (1)                                          2
  *
  * A power cut may leave the last record incomplete: it counts for nothing, but its kind is looked at. The host keeps the journal
- * where it survives a cut and lends it whole to each call. It puts a record there in this order: nwk_write_journal_record, shorten the
- * journal to its complete records, append what was written, wait until the store has it. Only then does the record count.
+ * where it survives a cut and lends it whole to each call. It puts a record there in this order: nwk_write_journal_record; shorten the
+ * journal to its complete records, where it is longer, and wait until the store has it so, since bytes of the incomplete one could
+ * else stand behind the new one after a cut; append what was written, and wait again. Only then does the record count.
  *
  * The last counter is the recovered ceiling after each nwk_recover_journal, and from then on the one that was handed out last. So a
  * host that reserves 1,000 counters at a time writes a ceiling of the last counter + 1,000, hands out those up to it, and writes

@@ -10,13 +10,13 @@ use Rattle.journal.specs.Format.{bodyLength, recordAt, recordBytes, kind
 use Rattle.journal.specs.Recovery.{noted, ceilingAfter, keyNumberAfter, sendersAfter, appliedAll, stateOf, recoverRefusal, anew, recoverAnswer, recoveredList}
 use Rattle.journal.specs.Writing.{recordOfKind, writeRefusal, writeRecord, someCeiling, nextRefusal, nextCounter}
 use Rattle.journal.specs.Life.{after, afterAll}
-use Rattle.journal.specs.WorkedCases.{AllHold, many, listed, worked}
+use Rattle.journal.specs.WorkedCases.{AllWorked, AllHold, many, listed, recoveries, writings, counters}
 
-pub worked-hold : AllHold worked
+recoveries-hold : AllHold recoveries
 unfolding unless firstOf over le leAt written counted bodyLength recordAt recordBytes kindsFrom recordsFrom someUnknown totalLength noted
     ceilingAfter keyNumberAfter sendersAfter appliedAll stateOf recoverRefusal anew recoverAnswer recoveredList recordOfKind writeRefusal
-    writeRecord someCeiling nextRefusal nextCounter after afterAll many listed worked
-worked-hold = (
+    writeRecord someCeiling nextRefusal nextCounter after afterAll many listed recoveries
+recoveries-hold = (
   (refl, refl),
   (
     (refl, refl),
@@ -72,40 +72,7 @@ worked-hold = (
                                                       (refl, refl),
                                                       (
                                                         (refl, refl),
-                                                        (
-                                                          (refl, refl),
-                                                          (
-                                                            (refl, refl),
-                                                            (
-                                                              (refl, refl),
-                                                              (
-                                                                (refl, refl),
-                                                                (
-                                                                  (refl, refl),
-                                                                  (
-                                                                    (refl, refl),
-                                                                    (
-                                                                      refl,
-                                                                      (
-                                                                        refl,
-                                                                        (
-                                                                          refl,
-                                                                          (
-                                                                            refl,
-                                                                            (
-                                                                              refl,
-                                                                              (refl, (refl, (refl, (refl, (refl, (refl, (refl, (refl, (refl, (refl, (refl, (refl, (refl, (refl, (refl, (refl, (refl, (refl, tt)))))))))))))))))),
-                                                                            ),
-                                                                          ),
-                                                                        ),
-                                                                      ),
-                                                                    ),
-                                                                  ),
-                                                                ),
-                                                              ),
-                                                            ),
-                                                          ),
-                                                        ),
+                                                        ((refl, refl), ((refl, refl), ((refl, refl), ((refl, refl), ((refl, refl), ((refl, refl), tt)))))),
                                                       ),
                                                     ),
                                                   ),
@@ -134,3 +101,20 @@ worked-hold = (
     ),
   ),
 )
+
+writings-hold : AllHold writings
+unfolding unless firstOf over le leAt written counted bodyLength recordAt recordBytes kindsFrom recordsFrom someUnknown totalLength noted
+    ceilingAfter keyNumberAfter sendersAfter appliedAll stateOf recoverRefusal anew recoverAnswer recoveredList recordOfKind writeRefusal
+    writeRecord someCeiling nextRefusal nextCounter after afterAll many listed writings
+writings-hold =
+    (refl, (refl, (refl, (refl, (refl, (refl, (refl, (refl, (refl, (refl, (refl, tt)))))))))))
+
+counters-hold : AllHold counters
+unfolding unless firstOf over le leAt written counted bodyLength recordAt recordBytes kindsFrom recordsFrom someUnknown totalLength noted
+    ceilingAfter keyNumberAfter sendersAfter appliedAll stateOf recoverRefusal anew recoverAnswer recoveredList recordOfKind writeRefusal
+    writeRecord someCeiling nextRefusal nextCounter after afterAll many listed counters
+counters-hold =
+    (refl, (refl, (refl, (refl, (refl, (refl, (refl, (refl, (refl, (refl, (refl, (refl, tt))))))))))))
+
+pub worked-hold : AllWorked
+worked-hold = (recoveries-hold, (writings-hold, counters-hold))

@@ -87,10 +87,10 @@ listed (suc n) = listed n ++ (recordOf n 7 ∷ [])
 abbrev pub ceilingWritten : ℕ → Writing
 ceilingWritten c = record { kind = 1; sender = 0; counter = c; keyNumber = 0; out = replicate 5 0 }
 
--- ---- the table
+-- ---- the table, in three parts
 
-unfoldable pub worked : List Case
-worked =
+unfoldable pub recoveries : List Case
+recoveries =
     -- an empty journal: no ceiling, no key number, and a list of zeros
     gives [] used 0 OptionKeyNumber.Absent 0 (freeRecord ∷ freeRecord ∷ [])
     ∷ gives [] [] 0 OptionKeyNumber.Absent 0 []
@@ -120,8 +120,12 @@ worked =
     ∷ refuses (many 65) (replicate 70 freeRecord) 24
     -- 64 senders, and a place behind them
     ∷ gives (many 64) (replicate 64 freeRecord ++ used) 0 OptionKeyNumber.Absent 832 (listed 64 ++ used)
+    ∷ []
+
+unfoldable pub writings : List Case
+writings =
     -- a record behind 64 senders: of one of them, of a 65th, and of another kind; a journal of 65 takes none
-    ∷ puts (many 64) 2 0 8 0 (replicate 14 0xEE) (senderRecord 0 8)
+    puts (many 64) 2 0 8 0 (replicate 14 0xEE) (senderRecord 0 8)
     ∷ putRefuses (many 64) 2 64 8 0 (replicate 14 0xEE) 24
     ∷ puts (many 64) 1 64 8 0 (replicate 5 0xEE) (ceilingRecord 8)
     ∷ putRefuses (many 65) 3 0 0 1 (replicate 14 0xEE) 24
@@ -130,8 +134,12 @@ worked =
     ∷ putRefuses [] 1 0 8 0 (replicate 4 0xEE) 18 ∷ putRefuses (many 64) 2 64 8 0 [] 24
     -- behind an incomplete record the next one is given alone, and a ceiling of 0 is written too
     ∷ puts (three ++ (1 ∷ 9 ∷ [])) 3 probe 8 0xFF (replicate 3 0xEE) (3 ∷ 0xFF ∷ []) ∷ puts [] 1 0 0 0 (replicate 5 0xEE) (ceilingRecord 0)
+    ∷ []
+
+unfoldable pub counters : List Case
+counters =
     -- the next counter up to the ceiling, never 0, and none behind FFFFFFFE; a cut ceiling covers nothing
-    ∷ nexts (ceilingRecord 8) 7 ∷ nextRefuses (ceilingRecord 8) 8 27 ∷ nextRefuses (ceilingRecord 0) 0 27 ∷ nextRefuses [] 0 27
+    nexts (ceilingRecord 8) 7 ∷ nextRefuses (ceilingRecord 8) 8 27 ∷ nextRefuses (ceilingRecord 0) 0 27 ∷ nextRefuses [] 0 27
     ∷ nexts (ceilingRecord 9 ++ ceilingRecord 5) 8 ∷ nextRefuses (ceilingRecord 5 ++ take 4 (ceilingRecord 9)) 5 27
     ∷ nexts (ceilingRecord 0xFFFFFFFF) 0xFFFFFFFD ∷ nextRefuses (ceilingRecord 0xFFFFFFFF) 0xFFFFFFFE 26 ∷ nextRefuses [] 0xFFFFFFFF 26
     ∷ nextRefuses (4 ∷ []) 0xFFFFFFFF 25 ∷ nexts (many 65 ++ ceilingRecord 8) 0
@@ -141,3 +149,6 @@ worked =
     ∷ appends (ceilingWritten 9) ∷ hands ∷ cuts ∷ recovers [] ∷ hands ∷ appends (ceilingWritten 10) ∷ hands ∷ hands ∷ [])
     (1 ∷ 2 ∷ 6 ∷ 10 ∷ [])
     ∷ []
+
+abbrev pub AllWorked : Type 0
+AllWorked = AllHold recoveries × (AllHold writings × AllHold counters)
