@@ -21,6 +21,8 @@
 #define PLACES (46 * NWK_OPENED_RECORD)
 #define LENGTHS (NWK_MAX_BURST + 2)
 
+#include "generator.h"
+
 enum operation {
   READ_HEADER,
   WRITE_HEADER,
@@ -69,21 +71,6 @@ struct call {
   struct buffer in[4];
   struct buffer out[2];
 };
-
-/* ---- the generator: splitmix64 */
-
-static uint64_t state = SEED;
-
-static uint64_t number(void) {
-  uint64_t z = state += UINT64_C(0x9E3779B97F4A7C15);
-  z = (z ^ (z >> 30)) * UINT64_C(0xBF58476D1CE4E5B9);
-  z = (z ^ (z >> 27)) * UINT64_C(0x94D049BB133111EB);
-  return z ^ (z >> 31);
-}
-
-static size_t below(size_t bound) { return (size_t)(number() % bound); }
-
-static int percent(size_t share) { return below(100) < share; }
 
 static void fill_random(uint8_t *bytes, size_t n) {
   for (size_t i = 0; i < n; i++) {

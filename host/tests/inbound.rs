@@ -4,14 +4,14 @@
 mod support;
 
 use store_reader::{Eui64, Key, Refusal, SenderRecord, Senders, MAX_SENDERS};
-use support::command::{scratch, tool};
+use support::from_c;
 use support::generate::senders as generate;
 use support::header_comments;
 use support::hex::unhex;
 use support::model::senders::{run, COUNTED};
 use support::random::Random;
 use support::sender_tally::{SenderTally, LONGEST};
-use support::senders::{line, perform, Done, Record, Request, FIELDS};
+use support::senders::{line, perform, Done, Record, Request};
 
 const SEED: u64 = 0x5E4D_E125;
 /// For each length of a list from 0 to 70, so many lists, where places past the 64th are to be met more, and so many calls one after
@@ -334,54 +334,32 @@ fn a_list_of_ones_own_has_64_places() {
 const FROM_C: usize = 150 * 8;
 const FILL: u8 = 0xA5;
 
-/// What `tests/agree_senders.c` prints, compiled without a warning.
-fn printed_from_c() -> String {
-    let program = scratch("agree_senders");
-    let program = program.to_str().expect("UTF-8");
-    let flags = ["-std=c11", "-Wall", "-Wextra", "-Wpedantic", "-Werror", "-Iinclude"];
-    let files = ["tests/agree_senders.c", "target/staticlib/libnwk.a", "-o", program];
-    let compiled = tool("cc", &[&flags[..], &files].concat()).expect("a C compiler called cc is needed");
-    assert!(compiled.status.success(), "{}", String::from_utf8_lossy(&compiled.stderr));
-    let ran = tool(program, &[]).expect("the program");
-    assert!(ran.status.success(), "ended with {}", ran.status);
-    String::from_utf8(ran.stdout).expect("UTF-8")
-}
-
-/// A number in hexadecimal digits.
-fn number<T: TryFrom<u64>>(text: &str) -> Option<T> {
-    T::try_from(u64::from_str_radix(text, 16).ok()?).ok()
-}
-
-fn list_of(text: &str) -> Option<Vec<Record>> {
-    Some(unhex(text)?.chunks(FIELDS).map(Record::of_bytes).collect())
-}
-
 /// A printed line: the request, the list before it, and what was answered from C.
 fn parsed(line: &str) -> Option<(Request, Vec<Record>, Done)> {
     let (called, answered) = line.split_once(" = ")?;
     let words: Vec<&str> = called.split(' ').collect();
     let (request, list) = match words[..] {
         ["nwk_inbound_network_key", first, second, active, sender, given, counter, list] => {
-            let key = u128::from(number::<u64>(second)?) << 64 | u128::from(number::<u64>(first)?);
-            let (active, sender) = (number(active)?, number(sender)?);
-            let (number, counter) = (number(given)?, number(counter)?);
+            let key = u128::from(from_c::number::<u64>(second)?) << 64 | u128::from(from_c::number::<u64>(first)?);
+            let (active, sender) = (from_c::number(active)?, from_c::number(sender)?);
+            let (number, counter) = (from_c::number(given)?, from_c::number(counter)?);
             (Request::Ask { key: key.to_le_bytes(), active, sender, number, counter }, list)
         }
         ["nwk_note_inbound_frame_counter", sender, counter, list] => {
-            (Request::Note { sender: number(sender)?, counter: number(counter)? }, list)
+            (Request::Note { sender: from_c::number(sender)?, counter: from_c::number(counter)? }, list)
         }
-        ["nwk_forget_sender", sender, list] => (Request::Forget { sender: number(sender)? }, list),
+        ["nwk_forget_sender", sender, list] => (Request::Forget { sender: from_c::number(sender)? }, list),
         _ => return None,
     };
     let mut answered = answered.split(' ');
-    let (answer, after) = (number(answered.next()?)?, list_of(answered.next()?)?);
+    let (answer, after) = (from_c::number(answered.next()?)?, from_c::list_of(answered.next()?)?);
     let key = answered.next().and_then(|key| unhex(key)?.try_into().ok()).filter(|key| *key != [FILL; 16]);
-    Some((request, list_of(list)?, Done { answer, list: after, key }))
+    Some((request, from_c::list_of(list)?, Done { answer, list: after, key }))
 }
 
 #[test]
 fn c_gets_the_same_answers() {
-    let printed = printed_from_c();
+    let printed = from_c::printed("agree_senders");
     let mut numbers = [0; 25];
     for line in printed.lines() {
         let (request, list, from_c) = parsed(line).unwrap_or_else(|| panic!("a line that says no call: {line}"));

@@ -7,13 +7,13 @@ use store_reader::{
     next_counter, recover, write_record, Eui64, JournalRecord, Recovered, Refusal, SenderRecord, Senders,
     MAX_JOURNAL_RECORD, MAX_SENDERS,
 };
-use support::command::{scratch, tool};
+use support::from_c;
 use support::generate::journals as generate;
 use support::hex::unhex;
 use support::journals::{line, perform, Done, Left, Request};
 use support::model::journal::{run, Entry, MOST};
 use support::random::Random;
-use support::senders::{Record, FIELDS};
+use support::senders::Record;
 
 const SEED: u64 = 0x10C2_11A2;
 const FREE: Record = Record { used: 0, address: 0, counter: 0 };
@@ -269,50 +269,29 @@ fn the_safe_functions_say_the_same() {
 /// `JOURNALS` of `tests/agree_journal.c`, each with its three calls.
 const FROM_C: usize = 600 * 3;
 
-/// What `tests/agree_journal.c` prints, compiled without a warning.
-fn printed_from_c() -> String {
-    let program = scratch("agree_journal");
-    let program = program.to_str().expect("UTF-8");
-    let flags = ["-std=c11", "-Wall", "-Wextra", "-Wpedantic", "-Werror", "-Iinclude"];
-    let files = ["tests/agree_journal.c", "target/staticlib/libnwk.a", "-o", program];
-    let compiled = tool("cc", &[&flags[..], &files].concat()).expect("a C compiler called cc is needed");
-    assert!(compiled.status.success(), "{}", String::from_utf8_lossy(&compiled.stderr));
-    let ran = tool(program, &[]).expect("the program");
-    assert!(ran.status.success(), "ended with {}", ran.status);
-    String::from_utf8(ran.stdout).expect("UTF-8")
-}
-
-/// A number in hexadecimal digits.
-fn number<T: TryFrom<u64>>(text: &str) -> Option<T> {
-    T::try_from(u64::from_str_radix(text, 16).ok()?).ok()
-}
-
-fn list_of(text: &str) -> Option<Vec<Record>> {
-    Some(unhex(text)?.chunks(FIELDS).map(Record::of_bytes).collect())
-}
-
 /// A printed line: the request, the journal, the list before it, and what was answered from C.
 fn parsed(line: &str) -> Option<(Request, Vec<u8>, Vec<Record>, Done)> {
     let (called, answered) = line.split_once(" = ")?;
     let words: Vec<&str> = called.split(' ').collect();
     let mut answered = answered.split(' ');
-    let answer = number(answered.next()?)?;
+    let answer = from_c::number(answered.next()?)?;
     let (journal, rest) = (unhex(words.get(1)?)?, &words[2..]);
     match (words[0], rest) {
         ("nwk_recover_journal", [list]) => {
-            let list = list_of(list)?;
-            let left = Left { list: list_of(answered.next()?)?, complete: None, written: vec![] };
-            let complete = number(answered.next()?).filter(|complete| *complete != u64::MAX);
+            let list = from_c::list_of(list)?;
+            let left = Left { list: from_c::list_of(answered.next()?)?, complete: None, written: vec![] };
+            let complete = from_c::number(answered.next()?).filter(|complete| *complete != u64::MAX);
             Some((Request::Recover, journal, list, Done { answer, left: Left { complete, ..left } }))
         }
         ("nwk_write_journal_record", [kind, sender, counter, given, room]) => {
-            let (kind, sender, counter) = (number(kind)?, number(sender)?, number(counter)?);
-            let request = Request::Write { kind, sender, counter, number: number(given)?, room: number(room)? };
+            let (kind, sender, counter) = (from_c::number(kind)?, from_c::number(sender)?, from_c::number(counter)?);
+            let request =
+                Request::Write { kind, sender, counter, number: from_c::number(given)?, room: from_c::number(room)? };
             let written = unhex(answered.next()?)?;
             Some((request, journal, vec![], Done { answer, left: Left { list: vec![], complete: None, written } }))
         }
         ("nwk_next_counter", [last]) => {
-            let request = Request::Next { last: number(last)? };
+            let request = Request::Next { last: from_c::number(last)? };
             Some((request, journal, vec![], Done { answer, left: Left::nothing(&[]) }))
         }
         _ => None,
@@ -321,7 +300,7 @@ fn parsed(line: &str) -> Option<(Request, Vec<u8>, Vec<Record>, Done)> {
 
 #[test]
 fn c_gets_the_same_answers() {
-    let printed = printed_from_c();
+    let printed = from_c::printed("agree_journal");
     let mut numbers = [0; 28];
     for line in printed.lines() {
         let (request, journal, list, from_c) =

@@ -6,6 +6,7 @@ pub mod clear_tally;
 pub mod command;
 pub mod compare;
 pub mod counter_tally;
+pub mod from_c;
 pub mod generate;
 pub mod guarded;
 pub mod header_comments;
