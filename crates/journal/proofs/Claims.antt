@@ -57,13 +57,12 @@ alone-known r = ap unknownKind (sym (append-nil (recordBytes r))) ∙ record-kno
 
 pub record-is-applied : RecordIsApplied
 unfolding appliedAll totalLength
-record-is-applied j r u f = (
-  state-behind j u (recordBytes r) (r ∷ []) (alone r f),
-  (
-    unknown-append j u (recordBytes r) ∙ alone-known r,
-    length-behind j u (recordBytes r) (r ∷ []) (alone r f) ∙ ap (λ (n : ℕ). completeLength j + n) (add-zero (length (recordBytes r))),
-  ),
-)
+record-is-applied j r u f =
+    record {
+      state = state-behind j u (recordBytes r) (r ∷ []) (alone r f);
+      known = unknown-append j u (recordBytes r) ∙ alone-known r;
+      complete = length-behind j u (recordBytes r) (r ∷ []) (alone r f) ∙ ap (λ (n : ℕ). completeLength j + n) (add-zero (length (recordBytes r)));
+    }
 
 -- ---- the same recovery
 

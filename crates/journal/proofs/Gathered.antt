@@ -31,14 +31,14 @@ module _ (j : List ℕ) (places : ℕ) (r : Scanned) (xs cs : List ℕ) (h : Sca
   recovered-by =
       cases (unknownKind j) (λ u. rw (h .0, u) refl)
       (λ u. let s = h .1 u in
-      rw (h .0, u, more-same (counted places) (r .senders) (length (stateOf j .senders)) (s .1 .1 .1 .0))
-      (cases (ltb (counted places) (length (stateOf j .senders))) (λ o. rw o refl) (λ o. rw (o, s .0, s .1 .0, s .1 .1 .0) refl)))
+      rw (h .0, u, more-same (counted places) (r .senders) (length (stateOf j .senders)) (s .senders .0))
+      (cases (ltb (counted places) (length (stateOf j .senders))) (λ o. rw o refl) (λ o. rw (o, s .ceiling, s .keyNumber, s .complete) refl)))
 
   pub table-held : recoverRefusal j places ≡ 0 → tableOf (r .senders) xs cs ≡ stateOf j .senders
   unfolding recoverRefusal
   table-held z =
       let n = none _ z in
-      h .1 (n .0) .1 .1 .1 .1 (ltb-false (counted places) (length (stateOf j .senders)) (n .1 .0))
+      h .1 (n .0) .senders .1 (ltb-false (counted places) (length (stateOf j .senders)) (n .1 .0))
 
 -- ---- writing
 

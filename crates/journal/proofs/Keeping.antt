@@ -56,7 +56,7 @@ length-table (suc n) (x ∷ xs) (c ∷ cs) h g = ap suc (length-table n xs cs (o
 
 module _ (s c : ℕ) where
   -- noting never makes fewer
-  pub noted-longer : (l : List SenderRecord) → length l ≤ length (noted s c l)
+  noted-longer : (l : List SenderRecord) → length l ≤ length (noted s c l)
   unfolding noted
   noted-longer [] = omega arith
   noted-longer (r ∷ l) = cases (eqb (r .address) s) (λ e. rw e (omega arith)) (λ e. rw e (omega (arith, noted-longer l)))
@@ -96,6 +96,7 @@ module _ (s c : ℕ) where
       next : eqb x s ≡ false → firstAt s n xs ≡ n
       next e = let q : cond (eqb x s) 0 (suc (firstAt s n xs)) ≡ suc n = p in omega (arith, (rw e at q))
 
+  -- and makes one more
   more-new : (n : ℕ) (xs cs : List ℕ) → n ≤ length xs → n ≤ length cs → firstAt s n xs ≡ n → length (noted s c (tableOf n xs cs)) ≡ suc n
   unfolding firstAt tableOf noted
   more-new zero xs cs h g p = refl
@@ -110,22 +111,22 @@ module _ (s c : ℕ) where
 
 module _ (room n : ℕ) (xs cs : List ℕ) (ss : List SenderRecord) where
   -- there are more than there is room for
-  pub over : Holds room n xs cs ss → room < n → room < length ss
+  over : Holds room n xs cs ss → room < n → room < length ss
   over h r =
       cases (leb (length ss) room)
       (λ e. let q : n ≡ cond (leb (length ss) room) (length ss) (suc room) = h .0 in absurd (omega (arith, (rw e at q), leb-true (length ss) room e, r)))
       (λ e. leb-false (length ss) room e)
 
-  pub still-over : (ds ys : List ℕ) (m : ℕ) → m ≡ suc room → room < length ss → Holds room m ys ds ss
+  still-over : (ds ys : List ℕ) (m : ℕ) → m ≡ suc room → room < length ss → Holds room m ys ds ss
   still-over ds ys m e r = (rw (lt-leb _ _ r) e, λ l. absurd (omega (arith, l, r)))
 
-  pub all-held : Holds room n xs cs ss → n ≤ room → (length ss ≡ n) × (tableOf n xs cs ≡ ss)
+  all-held : Holds room n xs cs ss → n ≤ room → (length ss ≡ n) × (tableOf n xs cs ≡ ss)
   all-held h r =
       cases (leb (length ss) room)
       (λ e. let q : n ≡ cond (leb (length ss) room) (length ss) (suc room) = h .0 in (sym (rw e at q), h .1 (leb-true _ _ e)))
       (λ e. let q : n ≡ cond (leb (length ss) room) (length ss) (suc room) = h .0 in absurd (omega (arith, (rw e at q), r)))
 
-pub holding : (room n : ℕ) (xs cs : List ℕ) (ss : List SenderRecord) → length ss ≡ n → n ≤ room → tableOf n xs cs ≡ ss → Holds room n xs cs ss
+holding : (room n : ℕ) (xs cs : List ℕ) (ss : List SenderRecord) → length ss ≡ n → n ≤ room → tableOf n xs cs ≡ ss → Holds room n xs cs ss
 holding room n xs cs ss e r t = (rw (le-leb (length ss) room (omega (arith, e, r))) (sym e), λ _. t)
 
 -- ---- keeping s with the counter c

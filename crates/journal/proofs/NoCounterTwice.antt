@@ -88,8 +88,11 @@ UpToLast OptionCounter.Absent xs = Unit {0}
 UpToLast (OptionCounter.Present c) xs = UpTo c xs
 
 -- handed out so far: one larger than the other, all to be sealed, all up to the ceiling of the store and to the last one
-abbrev Safe : Gateway → Type 0
-Safe g = Rises 0 (g .handed) × (UpTo 0xFFFFFFFE (g .handed) × (UpTo (ceilingOf (g .stored)) (g .handed) × UpToLast (g .last) (g .handed)))
+record Safe (g : Gateway) : Type 0 where
+  rising : Rises 0 (g .handed)
+  sealable : UpTo 0xFFFFFFFE (g .handed)
+  covered : UpTo (ceilingOf (g .stored)) (g .handed)
+  upToLast : UpToLast (g .last) (g .handed)
 
 -- ---- what a call that is not refused says
 
@@ -128,16 +131,27 @@ module _ (j : List ℕ) where
 
 module _ (g : Gateway) (safe : Safe g) where
   off-safe : Safe (off g)
-  off-safe = (safe .0, (safe .1 .0, (safe .1 .1 .0, tt)))
+  off-safe = record { rising = safe .rising; sealable = safe .sealable; covered = safe .covered; upToLast = tt }
 
   -- with a store whose ceiling is no lower
   stored-safe : (j : List ℕ) → ceilingOf (g .stored) ≤ ceilingOf j → Safe (record { stored = j; last = g .last; handed = g .handed })
-  stored-safe j h = (safe .0, (safe .1 .0, (up-to-more _ _ (g .handed) h (safe .1 .1 .0), safe .1 .1 .1)))
+  stored-safe j h =
+      record {
+        rising = safe .rising;
+        sealable = safe .sealable;
+        covered = up-to-more (ceilingOf (g .stored)) (ceilingOf j) (g .handed) h (safe .covered);
+        upToLast = safe .upToLast;
+      }
 
   recovered-safe : (places : ℕ) → Safe (recovered (recoverAnswer (g .stored) places) g)
   recovered-safe places =
       unless-either Safe (recoverAnswer (g .stored) places .refusal) _ g
-      (λ z. (safe .0, (safe .1 .0, (safe .1 .1 .0, subst (λ (c : ℕ). UpTo c (g .handed)) (sym (recovered-ceiling (g .stored) places z)) (safe .1 .1 .0))))) safe
+      (λ z. record {
+        rising = safe .rising;
+        sealable = safe .sealable;
+        covered = safe .covered;
+        upToLast = subst (λ (c : ℕ). UpTo c (g .handed)) (sym (recovered-ceiling (g .stored) places z)) (safe .covered);
+      }) safe
 
   appended-safe : (w : Writing) (n : ℕ) → Safe (appended (writes (g .stored) w) n g)
   appended-safe w n =
@@ -148,16 +162,13 @@ module _ (g : Gateway) (safe : Safe g) where
   handed-safe c u =
       unless-either Safe (nextCounter (g .stored) c .refusal) _ g
       (λ z. let n = next-given (g .stored) c z in
-      subst (λ (x : ℕ). Safe (record { stored = g .stored; last = OptionCounter.Present x; handed = g .handed ++ (x ∷ []) })) (sym (n .0)) (
-        rises-snoc 0 c (g .handed) (safe .0) (omega arith) u,
-        (
-          up-to-snoc 0xFFFFFFFE (g .handed) (suc c) (safe .1 .0) (omega (arith, n .1 .0)),
-          (
-            up-to-snoc (ceilingOf (g .stored)) (g .handed) (suc c) (safe .1 .1 .0) (next-covered (g .stored) c (n .1 .1)),
-            up-to-snoc (suc c) (g .handed) (suc c) (up-to-more c (suc c) (g .handed) (omega arith) u) (omega arith),
-          ),
-        ),
-      )) safe
+      subst (λ (x : ℕ). Safe (record { stored = g .stored; last = OptionCounter.Present x; handed = g .handed ++ (x ∷ []) })) (sym (n .0))
+      (record {
+        rising = rises-snoc 0 c (g .handed) (safe .rising) (omega arith) u;
+        sealable = up-to-snoc 0xFFFFFFFE (g .handed) (suc c) (safe .sealable) (omega (arith, n .1 .0));
+        covered = up-to-snoc (ceilingOf (g .stored)) (g .handed) (suc c) (safe .covered) (next-covered (g .stored) c (n .1 .1));
+        upToLast = up-to-snoc (suc c) (g .handed) (suc c) (up-to-more c (suc c) (g .handed) (omega arith) u) (omega arith);
+      })) safe
 
 -- while the power is on
 while-on : (P : Gateway → Type 0) (o : OptionCounter) (f : ℕ → Gateway) (g : Gateway) → P g → ((c : ℕ) → o ≡ OptionCounter.Present c → P (f c)) → P (whileOn o f g)
@@ -176,7 +187,7 @@ safe-after (appends w) g safe =
     while-on Safe (g .last) (λ c. appended r (length (given r)) g) g safe (λ c _. appended-safe g safe w (length (given r)))
 safe-after hands g safe =
     while-on Safe (g .last) (λ c. handedOut (nextCounter (g .stored) c) g) g safe
-    (λ c e. handed-safe g safe c (subst (λ (o : OptionCounter). UpToLast o (g .handed)) e (safe .1 .1 .1)))
+    (λ c e. handed-safe g safe c (subst (λ (o : OptionCounter). UpToLast o (g .handed)) e (safe .upToLast)))
 safe-after cuts g safe = off-safe g safe
 safe-after (cutsAppending w n) g safe =
     let f : ℕ → Gateway = λ c. appended (writes (g .stored) w) n g in
@@ -188,17 +199,17 @@ safe-all [] g safe = safe
 safe-all (e ∷ es) g safe = safe-all es (after e g) (safe-after e g safe)
 
 safe-life : (es : List Event) → Safe (life es)
-safe-life es = safe-all es begun (tt, (tt, (tt, tt)))
+safe-life es = safe-all es begun (record { rising = tt; sealable = tt; covered = tt; upToLast = tt })
 
 -- ---- the claims
 
 pub no-counter-twice : NoCounterTwice
-no-counter-twice es before behind c e = rises-split 0 c before behind (subst (Rises 0) e (safe-life es .0)) .1
+no-counter-twice es before behind c e = rises-split 0 c before behind (subst (Rises 0) e (safe-life es .rising)) .1
 
 pub each-can-be-sealed : EachCanBeSealed
 each-can-be-sealed es before behind c e = (
-  rises-split 0 c before behind (subst (Rises 0) e (safe-life es .0)) .0,
-  omega (arith, up-to-split 0xFFFFFFFE c before behind (subst (UpTo 0xFFFFFFFE) e (safe-life es .1 .0))),
+  rises-split 0 c before behind (subst (Rises 0) e (safe-life es .rising)) .0,
+  omega (arith, up-to-split 0xFFFFFFFE c before behind (subst (UpTo 0xFFFFFFFE) e (safe-life es .sealable))),
 )
 
 pub one-more-if-covered : OneMoreIfCovered

@@ -49,11 +49,13 @@ Fits (JournalRecord.Sender s c) = (s < 2 ^ 64) × (c < 2 ^ 32)
 Fits (JournalRecord.KeyNumber k) = k < 2 ^ 8
 
 -- a whole record is applied: the larger ceiling, the sender's counter in its place, or the key number
+pub record WithRecord (j : List ℕ) (r : JournalRecord) (k : List ℕ) : Type 0 where
+  pub state : stateOf k ≡ applied r (stateOf j)
+  pub known : unknownKind k ≡ false
+  pub complete : completeLength k ≡ completeLength j + length (recordBytes r)
+
 abbrev pub RecordIsApplied : Type 0
-RecordIsApplied =
-    (j : List ℕ) (r : JournalRecord) → unknownKind j ≡ false → Fits r
-    → (stateOf (completePart j ++ recordBytes r) ≡ applied r (stateOf j))
-    × ((unknownKind (completePart j ++ recordBytes r) ≡ false) × (completeLength (completePart j ++ recordBytes r) ≡ completeLength j + length (recordBytes r)))
+RecordIsApplied = (j : List ℕ) (r : JournalRecord) → unknownKind j ≡ false → Fits r → WithRecord j r (completePart j ++ recordBytes r)
 
 -- what is recovered from one journal is what is recovered from the other, answer and list, refused or not
 abbrev pub SameRecovery : List ℕ → List ℕ → Type 0

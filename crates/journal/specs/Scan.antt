@@ -43,12 +43,16 @@ Keeps room f n xs cs m ys ds = (ss : List SenderRecord) → Holds room n xs cs s
 
 -- ---- the whole pass
 
--- where every kind is known it gathered the journal's state, and stopped behind its complete records
+-- it gathered the journal's state, with room for so many senders, and stopped behind the complete records
+pub record Gathers (room : ℕ) (j : List ℕ) (r : Scanned) (xs cs : List ℕ) : Type 0 where
+  pub ceiling : r .ceiling ≡ stateOf j .ceiling
+  pub keyNumber : r .«key_number» ≡ stateOf j .keyNumber
+  pub complete : r .complete ≡ completeLength j
+  pub senders : Holds room (r .senders) xs cs (stateOf j .senders)
+
+-- it says whether every kind is known, and gathered the state if so
 abbrev pub Scans : ℕ → List ℕ → Scanned → List ℕ → List ℕ → Type 0
-Scans room j r xs cs =
-    (r .known ≡ not (unknownKind j))
-    × (unknownKind j ≡ false
-    → (r .ceiling ≡ stateOf j .ceiling) × ((r .«key_number» ≡ stateOf j .keyNumber) × ((r .complete ≡ completeLength j) × Holds room (r .senders) xs cs (stateOf j .senders))))
+Scans room j r xs cs = (r .known ≡ not (unknownKind j)) × (unknownKind j ≡ false → Gathers room j r xs cs)
 
 -- what is found for a list of so many places: recovery's answer and, where it is not refused, the senders
 abbrev pub Finds : List ℕ → ℕ → Found → Type 0

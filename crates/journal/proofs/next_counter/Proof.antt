@@ -20,7 +20,7 @@ returns c =
     let n = c .before in
     let s = n .before .before .before in
     let a = s .before .before .before .before .args in
-    let e = n .next-refusal .ensures ∙ next-refusal-by (a .journal .now) (a .last) _ _ (s .scan .ensures .0) (λ u. s .scan .ensures .1 u .0) in
+    let e = n .next-refusal .ensures ∙ next-refusal-by (a .journal .now) (a .last) _ _ (s .scan .ensures .0) (λ u. s .scan .ensures .1 u .ceiling) in
     refused-by _ (n .next-refusal .result) (nextGiven (a .last)) nextNothing e (c .if1 .taken)
 
 add-t12 : tie.Need-add-t12
@@ -37,7 +37,7 @@ returns-2 c =
     let n = c .before in
     let s = n .before .before .before in
     let a = s .before .before .before .before .args in
-    let e = n .next-refusal .ensures ∙ next-refusal-by (a .journal .now) (a .last) _ _ (s .scan .ensures .0) (λ u. s .scan .ensures .1 u .0) in
+    let e = n .next-refusal .ensures ∙ next-refusal-by (a .journal .now) (a .last) _ _ (s .scan .ensures .0) (λ u. s .scan .ensures .1 u .ceiling) in
     let one : a .last + 1 ≡ suc (a .last) = omega arith in
     rw one (accepted-by _ (n .next-refusal .result) (nextGiven (a .last)) (nextNothing _) e (c .if1 .left))
 

@@ -20,7 +20,7 @@ returns c =
     let s = k .before .before .before .before .before in
     let a = s .before .before .before .before .args in
     let by = write-refusal-by (a .journal .now) (a .kind) (a .r) (a .room) (s .scan .result .known) (k .keep-record .result) _ _ (s .scan .ensures .0)
-    (λ u. k .keep-record .ensures _ (s .scan .ensures .1 u .1 .1 .1)) in
+    (λ u. k .keep-record .ensures _ (s .scan .ensures .1 u .senders)) in
     rw (n .record-length .ensures) at (c .write-refusal .ensures) ∙ by
 
 pub refusal-behind-spec : {M : Type 1} → statement M
