@@ -22,10 +22,10 @@ ghost use Rattle.journal.specs.Recovery.{recoverNothing, recoverAnswer, 
 ghost use Rattle.journal.specs.Writing.{writeRefusal, writeRecord, nextCounter};
 ghost use Rattle.journal.specs.Scan.{recoveredBy, Finds, filled, placeAt, writeRefusalBy, nextRefusalBy};
 
-pub mod format;
+mod format;
 pub mod ranges;
-pub mod scan;
-pub mod table;
+mod scan;
+mod table;
 
 // A key number, or none.
 pub enum OptionKeyNumber {
