@@ -17,18 +17,16 @@
 
 #define JOURNALS 600
 #define SEED UINT64_C(0x10C2)
-#define PLACES 70
 #define SENDERS 68
 #define RECORDS 100
 
 #include "generator.h"
+#include "list.h"
 
 /* ---- a journal, a list, and what is asked of them */
 
 static uint8_t journal[RECORDS * NWK_JOURNAL_RECORD + 1];
 static size_t length;
-static struct nwk_sender list[PLACES];
-static size_t places;
 
 /* Low ones and the last ones, so that ceilings and last counters meet. */
 static uint32_t counter(void) { return percent(15) ? 0xFFFFFFFFu - (uint32_t)below(4) : (uint32_t)below(8); }
@@ -72,19 +70,6 @@ static void print_bytes(const uint8_t *bytes, size_t n) {
   printf(n == 0 ? " -" : " ");
   for (size_t i = 0; i < n; i++) {
     printf("%02X", bytes[i]);
-  }
-}
-
-static void print_list(void) {
-  printf(places == 0 ? " -" : " ");
-  for (size_t i = 0; i < places; i++) {
-    for (int byte = 0; byte < 8; byte++) {
-      printf("%02X", (unsigned)(list[i].address >> 8 * byte & 0xFF));
-    }
-    for (int byte = 0; byte < 4; byte++) {
-      printf("%02X", (unsigned)(list[i].counter >> 8 * byte & 0xFF));
-    }
-    printf("%02X", list[i].used);
   }
 }
 

@@ -20,15 +20,13 @@
 #define CALLS 8
 #define SEED UINT64_C(0x5E4DE2)
 #define FILL 0xA5
-#define PLACES 70
 #define ADDRESSES 80
 
 #include "generator.h"
+#include "list.h"
 
 /* ---- a list, and what is asked of it */
 
-static struct nwk_sender list[PLACES];
-static size_t places;
 static uint64_t addresses[ADDRESSES];
 
 /* Full, or with some free places, in which something may be left; few senders, so that some are named twice, or many. */
@@ -47,22 +45,6 @@ static void make_list(void) {
 
 /* A counter beside the stored ones, which are small at first, or the last one. */
 static uint32_t counter(void) { return percent(10) ? 0xFFFFFFFFu : (uint32_t)below(6); }
-
-static void print_list(void) {
-  putchar(' ');
-  if (places == 0) {
-    putchar('-');
-  }
-  for (size_t i = 0; i < places; i++) {
-    for (int byte = 0; byte < 8; byte++) {
-      printf("%02X", (unsigned)(list[i].address >> 8 * byte & 0xFF));
-    }
-    for (int byte = 0; byte < 4; byte++) {
-      printf("%02X", (unsigned)(list[i].counter >> 8 * byte & 0xFF));
-    }
-    printf("%02X", list[i].used);
-  }
-}
 
 static void print_answer(uint64_t answer) {
   printf(" = %016" PRIX64, answer);

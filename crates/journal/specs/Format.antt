@@ -14,7 +14,7 @@ use Rattle.journal.specs.declared.format.JournalRecord.{JournalRecord}
 abbrev pub isKind : ℕ → Bool
 isKind k = eqb k 1 || (eqb k 2 || eqb k 3)
 
--- the length of the body; of another byte, behind which nothing is read, 0
+-- the length of the body; 0 for another byte, since what is read behind it does not matter: 25 comes first
 unfoldable pub bodyLength : ℕ → ℕ
 bodyLength k = cond (eqb k 1) 4 (cond (eqb k 2) 12 (cond (eqb k 3) 1 0))
 
