@@ -16,6 +16,7 @@ use Rattle.octets.proofs.Conditions.{or-false}
 use Rattle.octets.proofs.Numbers.{leAt-same}
 use Rattle.journal.specs.declared.format.JournalRecord.{JournalRecord}
 use Rattle.journal.specs.Format.{isKind, bodyLength, recordAt, recordBytes, kindsFrom, recordsFrom, records, someUnknown, unknownKind, totalLength, completeLength}
+use Rattle.journal.specs.Recovery.{State, applied, appliedAll}
 use Rattle.journal.specs.Life.{completePart}
 use Rattle.journal.proofs.Bodies.{by-kind}
 use Rattle.journal.proofs.Whole.{length-at}
@@ -130,3 +131,10 @@ total-within (suc n) (b ∷ l) h u = omega (arith, total-within n l (omega (arit
 
 pub complete-within : (j : List ℕ) → unknownKind j ≡ false → completeLength j ≤ length j
 complete-within j u = omega (arith, total-within 0 j (omega arith) u)
+
+-- ---- the state that records make
+
+pub applied-append : (rs qs : List JournalRecord) (g : State) → appliedAll (rs ++ qs) g ≡ appliedAll qs (appliedAll rs g)
+unfolding appliedAll
+applied-append [] qs g = refl
+applied-append (r ∷ rs) qs g = applied-append rs qs (applied r g)

@@ -17,17 +17,16 @@ use Rattle.octets.proofs.Conditions.{none, or-false}
 use Rattle.octets.proofs.Strings.{take-over}
 use Rattle.octets.proofs.Writing.{written-number, write-accepted}
 use Rattle.journal.specs.declared.format.JournalRecord.{JournalRecord}
-use Rattle.journal.specs.Format.{isKind, bodyLength, recordAt, recordBytes, kindsFrom, recordsFrom, records, someUnknown, unknownKind, totalLength, completeLength}
+use Rattle.journal.specs.Format.{isKind, bodyLength, recordAt, recordBytes, kindsFrom, recordsFrom, records, someUnknown, unknownKind, totalLength, bytesOf, completeLength}
 use Rattle.journal.specs.Recovery.{blank, appliedAll, stateOf, recoverRefusal, recoverAnswer, recoveredList}
 use Rattle.journal.specs.Writing.{recordOfKind, writeRefusal, writeRecord, someCeiling}
 use Rattle.journal.specs.Life.{completePart, writes, given}
-use Rattle.journal.specs.Claims.{Fits, RecordIsApplied, SameRecovery, PartChangesNothing, CompleteRecordsRecover, bytesOf, CompletePartIsRecords, lengthOfKind, ReadsBack, LargestCeiling}
+use Rattle.journal.specs.Claims.{Fits, RecordIsApplied, SameRecovery, PartChangesNothing, CompleteRecordsRecover, CompletePartIsRecords, lengthOfKind, ReadsBack, LargestCeiling}
 use Rattle.journal.proofs.Bodies.{by-kind}
 use Rattle.journal.proofs.Whole.{length-at}
-use Rattle.journal.proofs.Appending.{records-append, unknown-append, complete-within}
+use Rattle.journal.proofs.Appending.{records-append, unknown-append, complete-within, applied-append}
 use Rattle.journal.proofs.ReadBack.{one-record, record-known, part-of-record, record-bytes}
 use Rattle.journal.proofs.Gathered.{covered}
-use Rattle.journal.proofs.NoCounterTwice.{applied-append}
 
 total-append : (rs qs : List JournalRecord) → totalLength (rs ++ qs) ≡ totalLength rs + totalLength qs
 unfolding totalLength

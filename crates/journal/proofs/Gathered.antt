@@ -18,7 +18,7 @@ use Rattle.journal.specs.Writing.{writeRefusal, someCeiling, nextRefusal
 use Rattle.journal.specs.Scan.{tableOf, Holds, Scans, recoveredBy, writeRefusalBy, nextRefusalBy}
 
 -- the table's number is above the room exactly if the senders are more
-more-same : (room n m : ℕ) → n ≡ cond (leb m room) m (suc room) → ltb room n ≡ ltb room m
+pub more-same : (room n m : ℕ) → n ≡ cond (leb m room) m (suc room) → ltb room n ≡ ltb room m
 more-same room n m e =
     cases (leb m room) (λ l. ap (λ (x : ℕ). ltb room x) (rw l at e))
     (λ l. let n-is : n ≡ suc room = (rw l at e) in lt-ltb room n (omega (arith, n-is)) ∙ sym (lt-ltb room m (leb-false m room l)))

@@ -47,7 +47,7 @@ module _ (s n : ℕ) (xs : List ℕ) (i : ℕ) (p : Passed s n xs i) where
 
 -- ---- the table
 
-length-table : (n : ℕ) (xs cs : List ℕ) → n ≤ length xs → n ≤ length cs → length (tableOf n xs cs) ≡ n
+pub length-table : (n : ℕ) (xs cs : List ℕ) → n ≤ length xs → n ≤ length cs → length (tableOf n xs cs) ≡ n
 unfolding tableOf
 length-table zero xs cs h g = refl
 length-table (suc n) [] cs h g = absurd (omega (arith, h))

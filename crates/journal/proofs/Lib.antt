@@ -8,7 +8,14 @@ pub mod Filling
 pub mod Calls
 pub mod Appending
 pub mod ReadBack
-pub mod NoCounterTwice
 pub mod SendersOnce
+pub mod AddressOrder
+pub mod Sorting
+pub mod InRange
+pub mod Carrying
+pub mod ShrunkBytes
+pub mod ShrunkState
+pub mod ShrinkingClaims
+pub mod NoCounterTwice
 pub mod Claims
 pub mod WorkedCases

@@ -1,5 +1,6 @@
 -- No counter is handed out twice: in every life each one handed out is up to the largest complete ceiling of the store, which no event makes
--- lower, and up to the last counter while the power is on. A recovery starts from that ceiling. Assumes nothing.
+-- lower, and up to the last counter while the power is on. A recovery starts from that ceiling, and a shrunk journal has the same.
+-- Assumes nothing.
 use mathlib.Core.Path.{_≡_, refl, sym, ap, subst, _∙_}
 use mathlib.Core.Bool.{true, false, not}
 use mathlib.Core.List.{List, [], _∷_, _++_, append-nil}
@@ -10,17 +11,23 @@ use lib.ListN.{length, take}
 use borrow.Author.Tests.{leb-false, ltb-true, not-false}
 use borrow.Table.Steps.{cases}
 use Rattle.octets.specs.Refusals.{unless}
-use Rattle.octets.proofs.Conditions.{none, or-false, unless-either}
+use Rattle.octets.specs.Strings.{Below}
+use Rattle.octets.specs.Writing.{written}
+use Rattle.octets.proofs.Conditions.{none as no-condition, or-false, unless-either}
+use Rattle.octets.proofs.Strings.{take-over, take-below, append-below}
 use Rattle.octets.proofs.Writing.{written-number}
 use Rattle.senders.specs.declared.OptionCounter.{OptionCounter}
 use Rattle.journal.specs.declared.format.JournalRecord.{JournalRecord}
-use Rattle.journal.specs.Format.{records, unknownKind}
+use Rattle.journal.specs.Format.{recordBytes, recordsFrom, records, unknownKind, completeLength}
 use Rattle.journal.specs.Recovery.{State, blank, ceilingAfter, applied, appliedAll, stateOf, recoverRefusal, recoverGiven, recoverNothing, recoverAnswer}
-use Rattle.journal.specs.Writing.{writeRefusal, writeRecord, someCeiling, nextRefusal, nextGiven, nextNothing, nextCounter}
-use Rattle.journal.specs.Life.{Gateway, begun, Writing, Event, recovers, shortens, appends, hands, cuts, cutsAppending, completePart, writes, given, off, recovered, appended, handedOut, whileOn, after, afterAll, life}
+use Rattle.journal.specs.Writing.{recordOfKind, writeRefusal, writeRecord, someCeiling, nextRefusal, nextGiven, nextNothing, nextCounter}
+use Rattle.journal.specs.Shrinking.{shrink}
+use Rattle.journal.specs.Life.{Beside, none, complete, Gateway, begun, Writing, Event, recovers, shortens, appends, hands, cuts, cutsAppending, shrinks, cutsShrinking, replaces, completePart, writes, given, off, recovered, appended, handedOut, setBeside, replaced, whileOn, after, afterAll, life}
 use Rattle.journal.specs.Claims.{AllBelow, NoCounterTwice, EachCanBeSealed, OneMoreIfCovered}
-use Rattle.journal.proofs.Appending.{records-append}
+use Rattle.journal.proofs.Appending.{records-append, applied-append}
 use Rattle.journal.proofs.Gathered.{covered}
+use Rattle.journal.proofs.ShrunkState.{record-below, shrunk-alike, shrunk-below}
+use Rattle.journal.proofs.ShrinkingClaims.{given-shrunk}
 
 -- ---- the ceiling is never lower than before
 
@@ -38,17 +45,19 @@ unfolding appliedAll
 all-higher [] g = omega arith
 all-higher (r ∷ rs) g = omega (arith, one-higher r (g .ceiling), all-higher rs (applied r g))
 
-pub applied-append : (rs qs : List JournalRecord) (g : State) → appliedAll (rs ++ qs) g ≡ appliedAll qs (appliedAll rs g)
-unfolding appliedAll
-applied-append [] qs g = refl
-applied-append (r ∷ rs) qs g = applied-append rs qs (applied r g)
-
 -- whatever bytes t stand behind the complete records
 higher : (j : List ℕ) → unknownKind j ≡ false → (t : List ℕ) → ceilingOf j ≤ ceilingOf (completePart j ++ t)
 unfolding stateOf
 higher j u t =
     let e = ap (λ (rs : List JournalRecord). appliedAll rs blank) (records-append j u t) ∙ applied-append (records j) (records t) blank in
     subst (λ (g : State). appliedAll (records j) blank .ceiling ≤ g .ceiling) (sym e) (all-higher (records t) (appliedAll (records j) blank))
+
+-- nor is it higher for the complete records alone
+complete-same : (j : List ℕ) → unknownKind j ≡ false → ceilingOf (completePart j) ≡ ceilingOf j
+unfolding stateOf recordsFrom
+complete-same j u =
+    ap (λ (rs : List JournalRecord). appliedAll rs blank .ceiling)
+    (ap records (sym (append-nil (completePart j))) ∙ records-append j u [] ∙ append-nil (records j))
 
 -- ---- what holds in every life
 
@@ -87,12 +96,19 @@ abbrev UpToLast : OptionCounter → List ℕ → Type 0
 UpToLast OptionCounter.Absent xs = Unit {0}
 UpToLast (OptionCounter.Present c) xs = UpTo c xs
 
+-- what stands beside the journal j may take its place: bytes, whose ceiling is no lower
+abbrev StandsIn : Beside → List ℕ → Type 0
+StandsIn none j = Unit {0}
+StandsIn (complete k) j = (ceilingOf j ≤ ceilingOf k) × Below 256 k
+
 -- handed out so far: one larger than the other, all to be sealed, all up to the ceiling of the store and to the last one
 record Safe (g : Gateway) : Type 0 where
   rising : Rises 0 (g .handed)
   sealable : UpTo 0xFFFFFFFE (g .handed)
   covered : UpTo (ceilingOf (g .stored)) (g .handed)
   upToLast : UpToLast (g .last) (g .handed)
+  bytes : Below 256 (g .stored)
+  standsIn : StandsIn (g .beside) (g .stored)
 
 -- ---- what a call that is not refused says
 
@@ -108,7 +124,7 @@ module _ (j : List ℕ) where
   written-known : (w : Writing) → writes j w .answer .refusal ≡ 0 → unknownKind j ≡ false
   unfolding writeRecord writeRefusal
   written-known w h =
-      or-false (unknownKind j) _ (none _ (sym (written-number _ _ (w .out)) ∙ h) .0) .0
+      or-false (unknownKind j) _ (no-condition _ (sym (written-number _ _ (w .out)) ∙ h) .0) .0
 
   -- not refused: no number, and one more than the last
   next-number : (last n : ℕ) → unless n (nextGiven last) (nextNothing n) .refusal ≡ 0 → (n ≡ 0) × (unless n (nextGiven last) (nextNothing n) .counter ≡ suc last)
@@ -121,26 +137,49 @@ module _ (j : List ℕ) where
   unfolding nextCounter nextRefusal
   next-given last h =
       let n = next-number last (nextRefusal j last) h in
-      let cs = none _ (n .0) in
+      let cs = no-condition _ (n .0) in
       (n .1, (leb-false 0xFFFFFFFE last (cs .1 .0), not-false (someCeiling (suc last) (records j)) (cs .1 .1 .0)))
 
   next-covered : (last : ℕ) → someCeiling (suc last) (records j) ≡ true → suc last ≤ ceilingOf j
   next-covered last h = omega (arith, leb-false (ceilingOf j) last (covered j last ∙ ap not h))
 
+-- what the writer gave is bytes, all of a record or none
+given-below : (j : List ℕ) (w : Writing) → Below 256 (given (writes j w))
+unfolding writeRecord written unless
+given-below j w = by (writeRefusal j (w .kind) r (length (w .out)))
+  where
+    r : JournalRecord
+    r = recordOfKind (w .kind) (w .sender) (w .counter) (w .keyNumber)
+
+    by : (n : ℕ) → Below 256 (given (written n (recordBytes r) (w .out)))
+    by zero = subst (Below 256) (sym (take-over (w .out) (recordBytes r))) (record-below r)
+    by (suc n) = λ i. omega arith
+
 -- ---- each event keeps a gateway safe
 
 module _ (g : Gateway) (safe : Safe g) where
   off-safe : Safe (off g)
-  off-safe = record { rising = safe .rising; sealable = safe .sealable; covered = safe .covered; upToLast = tt }
+  off-safe =
+      record {
+        rising = safe .rising;
+        sealable = safe .sealable;
+        covered = safe .covered;
+        upToLast = tt;
+        bytes = safe .bytes;
+        standsIn = safe .standsIn;
+      }
 
   -- with a store whose ceiling is no lower
-  stored-safe : (j : List ℕ) → ceilingOf (g .stored) ≤ ceilingOf j → Safe (record { stored = j; last = g .last; handed = g .handed })
-  stored-safe j h =
+  stored-safe : (j : List ℕ) (b : Beside) → ceilingOf (g .stored) ≤ ceilingOf j → Below 256 j → StandsIn b j
+      → Safe (record { stored = j; beside = b; last = g .last; handed = g .handed })
+  stored-safe j b h bytes s =
       record {
         rising = safe .rising;
         sealable = safe .sealable;
         covered = up-to-more (ceilingOf (g .stored)) (ceilingOf j) (g .handed) h (safe .covered);
         upToLast = safe .upToLast;
+        bytes = bytes;
+        standsIn = s;
       }
 
   recovered-safe : (places : ℕ) → Safe (recovered (recoverAnswer (g .stored) places) g)
@@ -151,24 +190,57 @@ module _ (g : Gateway) (safe : Safe g) where
         sealable = safe .sealable;
         covered = safe .covered;
         upToLast = subst (λ (c : ℕ). UpTo c (g .handed)) (sym (recovered-ceiling (g .stored) places z)) (safe .covered);
+        bytes = safe .bytes;
+        standsIn = safe .standsIn;
       }) safe
+
+  complete-below : Below 256 (completePart (g .stored))
+  complete-below = take-below (g .stored) (completeLength (g .stored)) 256 (omega arith) (safe .bytes)
+
+  shortened-safe : unknownKind (g .stored) ≡ false
+      → Safe (record { stored = completePart (g .stored); beside = g .beside; last = g .last; handed = g .handed })
+  shortened-safe u =
+      let e = complete-same (g .stored) u in
+      stored-safe (completePart (g .stored)) (g .beside) (omega (arith, e)) complete-below (by (g .beside) e (safe .standsIn))
+    where
+      by : (b : Beside) → ceilingOf (completePart (g .stored)) ≡ ceilingOf (g .stored) → StandsIn b (g .stored) → StandsIn b (completePart (g .stored))
+      by none e s = tt
+      by (complete k) e s = (omega (arith, e, s .0), s .1)
 
   appended-safe : (w : Writing) (n : ℕ) → Safe (appended (writes (g .stored) w) n g)
   appended-safe w n =
+      let t = take n (given (writes (g .stored) w)) in
       unless-either Safe (writes (g .stored) w .answer .refusal) _ g
-      (λ z. stored-safe _ (higher (g .stored) (written-known (g .stored) w z) (take n (given (writes (g .stored) w))))) safe
+      (λ z. stored-safe _ none (higher (g .stored) (written-known (g .stored) w z) t)
+      (append-below (completePart (g .stored)) t 256 complete-below (take-below _ n 256 (omega arith) (given-below (g .stored) w))) tt) safe
 
   handed-safe : (c : ℕ) → UpTo c (g .handed) → Safe (handedOut (nextCounter (g .stored) c) g)
   handed-safe c u =
       unless-either Safe (nextCounter (g .stored) c .refusal) _ g
       (λ z. let n = next-given (g .stored) c z in
-      subst (λ (x : ℕ). Safe (record { stored = g .stored; last = OptionCounter.Present x; handed = g .handed ++ (x ∷ []) })) (sym (n .0))
+      subst (λ (x : ℕ). Safe (record { stored = g .stored; beside = g .beside; last = OptionCounter.Present x; handed = g .handed ++ (x ∷ []) })) (sym (n .0))
       (record {
         rising = rises-snoc 0 c (g .handed) (safe .rising) (omega arith) u;
         sealable = up-to-snoc 0xFFFFFFFE (g .handed) (suc c) (safe .sealable) (omega (arith, n .1 .0));
         covered = up-to-snoc (ceilingOf (g .stored)) (g .handed) (suc c) (safe .covered) (next-covered (g .stored) c (n .1 .1));
         upToLast = up-to-snoc (suc c) (g .handed) (suc c) (up-to-more c (suc c) (g .handed) (omega arith) u) (omega arith);
+        bytes = safe .bytes;
+        standsIn = safe .standsIn;
       })) safe
+
+  beside-safe : (b : Beside) → StandsIn b (g .stored) → Safe (setBeside b g)
+  beside-safe b s = stored-safe (g .stored) b (omega arith) (safe .bytes) s
+
+  -- a shrunk journal may take the place: it has the same ceiling
+  shrunk-safe : (o : List ℕ) → shrink (g .stored) o .answer .refusal ≡ 0 → Safe (setBeside (complete (given (shrink (g .stored) o))) g)
+  shrunk-safe o z =
+      let j = g .stored in
+      beside-safe (complete (given (shrink j o)))
+      (subst (λ (k : List ℕ). StandsIn (complete k) j) (sym (given-shrunk j o z)) (omega (arith, shrunk-alike j (safe .bytes) .ceiling), shrunk-below j))
+
+  replaced-safe : (b : Beside) → StandsIn b (g .stored) → Safe (replaced b g)
+  replaced-safe none s = safe
+  replaced-safe (complete k) s = stored-safe k none (s .0) (s .1) tt
 
 -- while the power is on
 while-on : (P : Gateway → Type 0) (o : OptionCounter) (f : ℕ → Gateway) (g : Gateway) → P g → ((c : ℕ) → o ≡ OptionCounter.Present c → P (f c)) → P (whileOn o f g)
@@ -180,8 +252,7 @@ unfolding after
 safe-after (recovers l) g safe = recovered-safe g safe (length l)
 safe-after shortens g safe =
     cases (unknownKind (g .stored)) (λ u. rw u safe)
-    (λ u. rw u (stored-safe g safe (completePart (g .stored))
-    (subst (λ (j : List ℕ). ceilingOf (g .stored) ≤ ceilingOf j) (append-nil (completePart (g .stored))) (higher (g .stored) u []))))
+    (λ u. rw u (shortened-safe g safe u))
 safe-after (appends w) g safe =
     let r = writes (g .stored) w in
     while-on Safe (g .last) (λ c. appended r (length (given r)) g) g safe (λ c _. appended-safe g safe w (length (given r)))
@@ -192,6 +263,9 @@ safe-after cuts g safe = off-safe g safe
 safe-after (cutsAppending w n) g safe =
     let f : ℕ → Gateway = λ c. appended (writes (g .stored) w) n g in
     off-safe (whileOn (g .last) f g) (while-on Safe (g .last) f g safe (λ c _. appended-safe g safe w n))
+safe-after (shrinks o) g safe = unless-either Safe (shrink (g .stored) o .answer .refusal) _ g (shrunk-safe g safe o) safe
+safe-after cutsShrinking g safe = off-safe (setBeside none g) (beside-safe g safe none tt)
+safe-after replaces g safe = replaced-safe g safe (g .beside) (safe .standsIn)
 
 safe-all : (es : List Event) (g : Gateway) → Safe g → Safe (afterAll es g)
 unfolding afterAll
@@ -199,7 +273,7 @@ safe-all [] g safe = safe
 safe-all (e ∷ es) g safe = safe-all es (after e g) (safe-after e g safe)
 
 safe-life : (es : List Event) → Safe (life es)
-safe-life es = safe-all es begun (record { rising = tt; sealable = tt; covered = tt; upToLast = tt })
+safe-life es = safe-all es begun (record { rising = tt; sealable = tt; covered = tt; upToLast = tt; bytes = λ i. omega arith; standsIn = tt })
 
 -- ---- the claims
 

@@ -21,13 +21,13 @@ use Rattle.journal.specs.Recovery.{State, blank, noted, sendersAfter, ap
 use Rattle.journal.specs.Claims.{lastOf, LastCounterIsStored, EachSenderOnce, PlacesBehindStay}
 
 -- the counter of s among senders
-abbrev counterOf : ℕ → List SenderRecord → OptionCounter
+abbrev pub counterOf : ℕ → List SenderRecord → OptionCounter
 counterOf s [] = OptionCounter.Absent
 counterOf s (r ∷ l) = cond (eqb (r .address) s) (OptionCounter.Present (r .counter)) (counterOf s l)
 
 -- ---- senders, each marked and named once
 
-abbrev Once : List SenderRecord → Type 0
+abbrev pub Once : List SenderRecord → Type 0
 Once [] = Unit {0}
 Once (r ∷ l) = (r .used ≡ 1) × ((counterOf (r .address) l ≡ OptionCounter.Absent) × Once l)
 
@@ -58,7 +58,7 @@ once-all (JournalRecord.Ceiling c ∷ rs) g o = once-all rs (applied (JournalRec
 once-all (JournalRecord.Sender s c ∷ rs) g o = once-all rs (applied (JournalRecord.Sender s c) g) (once-noted s c (g .senders) o)
 once-all (JournalRecord.KeyNumber k ∷ rs) g o = once-all rs (applied (JournalRecord.KeyNumber k) g) o
 
-last-all : (s : ℕ) (rs : List JournalRecord) (g : State) → counterOf s (appliedAll rs g .senders) ≡ lastOf s (counterOf s (g .senders)) rs
+pub last-all : (s : ℕ) (rs : List JournalRecord) (g : State) → counterOf s (appliedAll rs g .senders) ≡ lastOf s (counterOf s (g .senders)) rs
 unfolding appliedAll sendersAfter lastOf
 last-all s [] g = refl
 last-all s (JournalRecord.Ceiling c ∷ rs) g = last-all s rs (applied (JournalRecord.Ceiling c) g)
@@ -86,7 +86,7 @@ abbrev isThere : OptionCounter → Bool
 isThere OptionCounter.Absent = false
 isThere (OptionCounter.Present c) = true
 
-there : (c : ℕ) → OptionCounter.Present c ≡ OptionCounter.Absent → ⊥
+pub there : (c : ℕ) → OptionCounter.Present c ≡ OptionCounter.Absent → ⊥
 there c e = true≢false (ap isThere e)
 
 -- where a place names s, s is one of the senders
@@ -134,7 +134,7 @@ behind-stay (suc n) (r ∷ ss) (x ∷ l) (suc i) d h = behind-stay n ss l i d (o
 
 -- ---- the claims
 
-once-state : (j : List ℕ) → Once (stateOf j .senders)
+pub once-state : (j : List ℕ) → Once (stateOf j .senders)
 unfolding stateOf
 once-state j = once-all (records j) blank tt
 
@@ -148,13 +148,15 @@ module _ (j : List ℕ) (l : List SenderRecord) (z : recoverRefusal j (length l)
   unfolding recoverRefusal
   room = ltb-false (counted (length l)) (length (stateOf j .senders)) (none _ z .1 .0)
 
+  -- it stores each sender's counter
+  pub stored-counter : (s : ℕ) → stored s (recoveredList j l) ≡ counterOf s (stateOf j .senders)
+  stored-counter s =
+      ap (stored s) filled-anew
+      ∙ stored-anew s countedPlaces (stateOf j .senders) l (once-state j) (omega (arith, room, counted-64 (length l))) (omega (arith, room, counted-within (length l)))
+
 pub last-counter-is-stored : LastCounterIsStored
 unfolding stateOf
-last-counter-is-stored j l s z =
-    ap (stored s) (filled-anew j l z)
-    ∙ stored-anew s countedPlaces (stateOf j .senders) l (once-state j) (omega (arith, room j l z, counted-64 (length l)))
-    (omega (arith, room j l z, counted-within (length l)))
-    ∙ last-all s (records j) blank
+last-counter-is-stored j l s z = stored-counter j l z s ∙ last-all s (records j) blank
 
 pub each-sender-once : EachSenderOnce
 each-sender-once j l s i k d z h h′ g g′ =

@@ -9,8 +9,9 @@ use Rattle.senders.specs.Walks.{counted}
 use Rattle.journal.specs.Format.{bodyLength, recordAt, recordBytes, kindsFrom, recordsFrom, someUnknown, totalLength}
 use Rattle.journal.specs.Recovery.{noted, ceilingAfter, keyNumberAfter, sendersAfter, appliedAll, stateOf, recoverRefusal, anew, recoverAnswer, recoveredList}
 use Rattle.journal.specs.Writing.{recordOfKind, writeRefusal, writeRecord, someCeiling, nextRefusal, nextCounter}
+use Rattle.journal.specs.Shrinking.{before, addressBefore, inserted, sorted, keyNumberRecords, ceilingRecords, senderRecords, shrunk, shrinkRefusal, shrink}
 use Rattle.journal.specs.Life.{after, afterAll}
-use Rattle.journal.specs.WorkedCases.{AllWorked, AllHold, many, listed, recoveries, writings, counters}
+use Rattle.journal.specs.WorkedCases.{AllWorked, AllHold, many, listed, recoveries, writings, counters, shrinkings}
 
 recoveries-hold : AllHold recoveries
 unfolding unless firstOf over le leAt written counted bodyLength recordAt recordBytes kindsFrom recordsFrom someUnknown totalLength noted
@@ -116,5 +117,13 @@ unfolding unless firstOf over le leAt written counted bodyLength recordAt record
 counters-hold =
     (refl, (refl, (refl, (refl, (refl, (refl, (refl, (refl, (refl, (refl, (refl, (refl, tt))))))))))))
 
+shrinkings-hold : AllHold shrinkings
+unfolding unless firstOf over le leAt written counted bodyLength recordAt recordBytes kindsFrom recordsFrom someUnknown totalLength noted
+    ceilingAfter keyNumberAfter sendersAfter appliedAll stateOf recoverRefusal anew recoverAnswer recoveredList recordOfKind writeRefusal
+    writeRecord someCeiling nextRefusal nextCounter before addressBefore inserted sorted keyNumberRecords ceilingRecords senderRecords shrunk
+    shrinkRefusal shrink after afterAll many listed shrinkings
+shrinkings-hold =
+    (refl, (refl, (refl, (refl, (refl, (refl, (refl, (refl, (refl, (refl, (refl, (refl, (refl, (refl, (refl, tt)))))))))))))))
+
 pub worked-hold : AllWorked
-worked-hold = (recoveries-hold, (writings-hold, counters-hold))
+worked-hold = (recoveries-hold, (writings-hold, (counters-hold, shrinkings-hold)))

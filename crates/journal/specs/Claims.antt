@@ -14,7 +14,7 @@ use Rattle.senders.specs.declared.{SenderRecord.SenderRecord, OptionCounter.Opt
 use Rattle.senders.specs.Records.{names}
 use Rattle.senders.specs.Senders.{countedPlaces, stored}
 use Rattle.journal.specs.declared.format.JournalRecord.{JournalRecord}
-use Rattle.journal.specs.Format.{recordBytes, records, unknownKind, completeLength}
+use Rattle.journal.specs.Format.{recordBytes, records, unknownKind, bytesOf, completeLength}
 use Rattle.journal.specs.Recovery.{applied, stateOf, recoverRefusal, recoverAnswer, recoveredList}
 use Rattle.journal.specs.Writing.{recordOfKind, someCeiling, nextCounter}
 use Rattle.journal.specs.Life.{Event, Writing, completePart, writes, given, life}
@@ -71,10 +71,6 @@ PartChangesNothing =
 -- just they recover to the same, and the length given is theirs
 abbrev pub CompleteRecordsRecover : Type 0
 CompleteRecordsRecover = (j : List ℕ) → unknownKind j ≡ false → SameRecovery j (completePart j) × (length (completePart j) ≡ completeLength j)
-
-abbrev pub bytesOf : List JournalRecord → List ℕ
-bytesOf [] = []
-bytesOf (r ∷ rs) = recordBytes r ++ bytesOf rs
 
 -- they are the records' bytes, end to end
 abbrev pub CompletePartIsRecords : Type 0

@@ -67,6 +67,11 @@ unfoldable pub totalLength : List JournalRecord → ℕ
 totalLength [] = 0
 totalLength (r ∷ rs) = length (recordBytes r) + totalLength rs
 
+-- their bytes, end to end
+abbrev pub bytesOf : List JournalRecord → List ℕ
+bytesOf [] = []
+bytesOf (r ∷ rs) = recordBytes r ++ bytesOf rs
+
 -- the length of its complete records
 abbrev pub completeLength : List ℕ → ℕ
 completeLength j = totalLength (records j)

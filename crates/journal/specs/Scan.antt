@@ -1,9 +1,9 @@
 -- What one pass over a journal gathers: it goes from record to record, and keeps the senders in a table of two columns.
 -- Assumes nothing.
-use Prim.Native.Nat.{ℕ, zero, suc, _+_, _≤_}
+use Prim.Native.Nat.{ℕ, zero, suc, _+_, _*_, _≤_}
 use mathlib.Core.Path.{_≡_}
 use mathlib.Core.Bool.{Bool, false, cond, not, _&&_, _||_}
-use mathlib.Core.List.{List, [], _∷_}
+use mathlib.Core.List.{List, [], _∷_, _++_}
 use lib.Dec.{eqb, leb, ltb}
 use lib.ListN.{length, getD}
 use Rattle.octets.specs.Refusals.{unless, on, firstOf}
@@ -11,9 +11,10 @@ use Rattle.senders.specs.declared.SenderRecord.{SenderRecord}
 use Rattle.senders.specs.Records.{recordOf, freeRecord}
 use Rattle.senders.specs.Senders.{countedPlaces}
 use Rattle.senders.specs.Walks.{counted}
-use Rattle.journal.specs.declared.{Found.Found, Recovered.Recovered, scan.Scanned.Scanned}
-use Rattle.journal.specs.Format.{isKind, bodyLength, unknownKind, completeLength}
+use Rattle.journal.specs.declared.{Found.Found, Recovered.Recovered, OptionKeyNumber.OptionKeyNumber, scan.Scanned.Scanned}
+use Rattle.journal.specs.Format.{isKind, bodyLength, unknownKind, bytesOf, completeLength}
 use Rattle.journal.specs.Recovery.{stateOf, recoverRefusal, recoverAnswer, recoverNothing}
+use Rattle.journal.specs.Shrinking.{addressBefore, keyNumberRecords, ceilingRecords, senderRecords}
 
 -- the length of the record at place i, or 0 if no complete one of a known kind stands there
 unfoldable pub wholeAt : List ℕ → ℕ → ℕ
@@ -80,3 +81,30 @@ writeRefusalBy known kind senders room n =
 
 unfoldable pub nextRefusalBy : Bool → ℕ → ℕ → ℕ
 nextRefusalBy known ceiling last = firstOf (on 25 (not known) ∷ on 26 (leb 0xFFFFFFFE last) ∷ on 27 (leb ceiling last) ∷ [])
+
+-- ---- shrinking, by what was gathered
+
+-- the length of the records before the senders
+unfoldable pub frontLength : OptionKeyNumber → ℕ → ℕ
+frontLength o c = length (bytesOf (keyNumberRecords o)) + length (bytesOf (ceilingRecords c))
+
+unfoldable pub shrunkLengthBy : Scanned → ℕ
+shrunkLengthBy r = frontLength (r .«key_number») (r .ceiling) + 13 * r .senders
+
+unfoldable pub shrinkRefusalBy : Scanned → ℕ → ℕ
+shrinkRefusalBy r room =
+    firstOf (on 25 (not (r .known)) ∷ on 24 (ltb countedPlaces (r .senders)) ∷ on 18 (ltb room (shrunkLengthBy r)) ∷ [])
+
+-- a sender carried along others: of two the one with the lower address stays, and the other goes on
+unfoldable pub carried : SenderRecord → List SenderRecord → List SenderRecord
+carried r [] = r ∷ []
+carried r (q ∷ l) = cond (addressBefore (r .address) (q .address)) (r ∷ carried q l) (q ∷ carried r l)
+
+-- all of them, from the last to the first
+unfoldable pub carriedAll : List SenderRecord → List SenderRecord
+carriedAll [] = []
+carriedAll (r ∷ l) = carried r (carriedAll l)
+
+-- the bytes, with the senders in the order in which they are written
+unfoldable pub shrunkBy : Scanned → List SenderRecord → List ℕ
+shrunkBy r ss = bytesOf (keyNumberRecords (r .«key_number»)) ++ (bytesOf (ceilingRecords (r .ceiling)) ++ bytesOf (senderRecords ss))

@@ -1,4 +1,4 @@
--- Readings of document 02, 6 at its edges, as one table. What a row says of the definitions is `Holds`; that every row holds is one
+-- Readings of document 02, 6 and 7, at their edges, as one table. What a row says of the definitions is `Holds`; that every row holds is one
 -- claim, in proofs/WorkedCases.antt.
 -- Assumes nothing.
 use mathlib.Core.Path.{_≡_}
@@ -12,7 +12,8 @@ use Rattle.journal.specs.declared.{format.JournalRecord.JournalRecord, O
 use Rattle.journal.specs.Format.{recordBytes}
 use Rattle.journal.specs.Recovery.{recoverNothing, recoverAnswer, recoveredList}
 use Rattle.journal.specs.Writing.{writeRecord, nextGiven, nextNothing, nextCounter}
-use Rattle.journal.specs.Life.{Event, Writing, recovers, shortens, appends, hands, cuts, cutsAppending, life}
+use Rattle.journal.specs.Shrinking.{shrink}
+use Rattle.journal.specs.Life.{Event, Writing, recovers, shortens, appends, hands, cuts, cutsAppending, shrinks, cutsShrinking, replaces, life}
 
 -- ---- the rows
 
@@ -29,6 +30,10 @@ pub data Case : Type 0 where
   nexts : List ℕ → ℕ → Case
   -- it is refused by a number
   nextRefuses : List ℕ → ℕ → ℕ → Case
+  -- shrinking a journal into an output gives bytes
+  shrinksTo : List ℕ → List ℕ → List ℕ → Case
+  -- it refuses by a number, and changes nothing
+  shrinkRefuses : List ℕ → List ℕ → ℕ → Case
   -- in a life these counters are handed out
   lives : List Event → List ℕ → Case
 
@@ -41,6 +46,8 @@ Holds (puts j kind s c k o bs) = writeRecord j kind s c k o ≡ wrote bs o
 Holds (putRefuses j kind s c k o n) = writeRecord j kind s c k o ≡ wroteNothing n o
 Holds (nexts j last) = nextCounter j last ≡ nextGiven last
 Holds (nextRefuses j last n) = nextCounter j last ≡ nextNothing n
+Holds (shrinksTo j o bs) = shrink j o ≡ wrote bs o
+Holds (shrinkRefuses j o n) = shrink j o ≡ wroteNothing n o
 Holds (lives es cs) = life es .handed ≡ cs
 
 abbrev pub AllHold : List Case → Type 0
@@ -87,7 +94,7 @@ listed (suc n) = listed n ++ (recordOf n 7 ∷ [])
 abbrev pub ceilingWritten : ℕ → Writing
 ceilingWritten c = record { kind = 1; sender = 0; counter = c; keyNumber = 0; out = replicate 5 0 }
 
--- ---- the table, in three parts
+-- ---- the table, in four parts
 
 unfoldable pub recoveries : List Case
 recoveries =
@@ -150,5 +157,32 @@ counters =
     (1 ∷ 2 ∷ 6 ∷ 10 ∷ [])
     ∷ []
 
+unfoldable pub shrinkings : List Case
+shrinkings =
+    -- an empty journal, and one that says only that the ceiling is 0: nothing
+    shrinksTo [] [] [] ∷ shrinksTo [] (0xEE ∷ []) [] ∷ shrinksTo (ceilingRecord 0) (0xEE ∷ []) []
+    -- a key number alone, 0 too
+    ∷ shrinksTo (3 ∷ 1 ∷ 3 ∷ 5 ∷ []) (replicate 3 0xEE) (3 ∷ 5 ∷ []) ∷ shrinksTo (3 ∷ 0 ∷ []) (replicate 2 0xEE) (3 ∷ 0 ∷ [])
+    -- two senders: the lower number has the higher first byte
+    ∷ shrinksTo (senderRecord 0x0000000000000001 7 ++ senderRecord 0x0100000000000000 8) (replicate 26 0xEE)
+    (2 ∷ 0 ∷ 0 ∷ 0 ∷ 0 ∷ 0 ∷ 0 ∷ 0 ∷ 1 ∷ 8 ∷ 0 ∷ 0 ∷ 0 ∷ (2 ∷ 1 ∷ 0 ∷ 0 ∷ 0 ∷ 0 ∷ 0 ∷ 0 ∷ 0 ∷ 7 ∷ 0 ∷ 0 ∷ 0 ∷ []))
+    -- key number, ceiling, senders: the last key number, the largest ceiling, the last counter of each
+    ∷ shrinksTo (senderRecord other 9 ++ (ceilingRecord 5 ++ (senderRecord probe 9 ++ (ceilingRecord 9 ++ (3 ∷ 2 ∷ ceilingRecord 7 ++ senderRecord other 3)))))
+    (replicate 34 0xEE) (3 ∷ 2 ∷ ceilingRecord 9 ++ (senderRecord probe 9 ++ senderRecord other 3))
+    -- an incomplete last record is left out; into just the bytes that are to be written, and a byte too few
+    ∷ shrinksTo (three ++ (1 ∷ 9 ∷ [])) (replicate 20 0xEE) (3 ∷ 5 ∷ ceilingRecord 7 ++ senderRecord probe 1000)
+    ∷ shrinkRefuses (three ++ (1 ∷ 9 ∷ [])) (replicate 19 0xEE) 18
+    -- 64 senders and 65; 25 before 24, and 24 before 18
+    ∷ shrinksTo (many 64) (replicate 833 0xEE) (many 64) ∷ shrinkRefuses (many 64) (replicate 831 0xEE) 18
+    ∷ shrinkRefuses (many 65) [] 24 ∷ shrinkRefuses (many 65 ++ (4 ∷ [])) [] 25 ∷ shrinkRefuses (0 ∷ []) [] 25
+    -- a life: the shrunk journal takes the place, a cut while the next one is written, and a third that counts no more once a ceiling was
+    -- appended
+    ∷ lives
+    (recovers [] ∷ appends (ceilingWritten 5) ∷ appends (ceilingWritten 9) ∷ hands ∷ shrinks (replicate 5 0) ∷ hands ∷ replaces ∷ hands ∷ cutsShrinking
+    ∷ hands ∷ recovers [] ∷ hands ∷ appends (ceilingWritten 12) ∷ hands ∷ shrinks (replicate 5 0) ∷ appends (ceilingWritten 14) ∷ replaces ∷ cuts
+    ∷ recovers [] ∷ appends (ceilingWritten 15) ∷ hands ∷ [])
+    (1 ∷ 2 ∷ 3 ∷ 10 ∷ 15 ∷ [])
+    ∷ []
+
 abbrev pub AllWorked : Type 0
-AllWorked = AllHold recoveries × (AllHold writings × AllHold counters)
+AllWorked = AllHold recoveries × (AllHold writings × (AllHold counters × AllHold shrinkings))

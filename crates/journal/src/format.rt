@@ -114,39 +114,40 @@ pub fn record_length(r: JournalRecord) -> usize
     }
 }
 
-// Write a record to the front of the output, a function for each kind.
-fn put_ceiling(out: &mut [u8], ceiling: u32)
-    requires { ⌜ 5 ≤ length (now out) ⌝ }
-    ensures { λ _. ⌜ now (out .exit) ≡ over (now (out .entry)) 0 (recordBytes (JournalRecord.Ceiling ceiling)) ⌝ }
+// Write a record at a place of the output, a function for each kind.
+pub fn put_ceiling(out: &mut [u8], at: usize, ceiling: u32)
+    requires { ⌜ at + 5 ≤ length (now out) ⌝ }
+    ensures { λ _. ⌜ now (out .exit) ≡ over (now (out .entry)) at (recordBytes (JournalRecord.Ceiling ceiling)) ⌝ }
 {
-    put_u8(out, 0, CEILING);
-    put_u32(out, 1, ceiling);
+    put_u8(out, at, CEILING);
+    put_u32(out, at + 1, ceiling);
 }
 
-fn put_sender(out: &mut [u8], sender: u64, counter: u32)
-    requires { ⌜ 13 ≤ length (now out) ⌝ }
-    ensures { λ _. ⌜ now (out .exit) ≡ over (now (out .entry)) 0 (recordBytes (JournalRecord.Sender sender counter)) ⌝ }
+pub fn put_sender(out: &mut [u8], at: usize, sender: u64, counter: u32)
+    requires { ⌜ at + 13 ≤ length (now out) ⌝ }
+    ensures { λ _. ⌜ now (out .exit) ≡ over (now (out .entry)) at (recordBytes (JournalRecord.Sender sender counter)) ⌝ }
 {
-    put_u8(out, 0, SENDER);
-    put_u64(out, 1, sender);
-    put_u32(out, 9, counter);
+    put_u8(out, at, SENDER);
+    put_u64(out, at + 1, sender);
+    put_u32(out, at + 9, counter);
 }
 
-fn put_key_number(out: &mut [u8], key_number: u8)
-    requires { ⌜ 2 ≤ length (now out) ⌝ }
-    ensures { λ _. ⌜ now (out .exit) ≡ over (now (out .entry)) 0 (recordBytes (JournalRecord.KeyNumber «key_number»)) ⌝ }
+pub fn put_key_number(out: &mut [u8], at: usize, key_number: u8)
+    requires { ⌜ at + 2 ≤ length (now out) ⌝ }
+    ensures { λ _. ⌜ now (out .exit) ≡ over (now (out .entry)) at (recordBytes (JournalRecord.KeyNumber «key_number»)) ⌝ }
 {
-    put_u8(out, 0, KEY_NUMBER);
-    put_u8(out, 1, key_number);
+    put_u8(out, at, KEY_NUMBER);
+    put_u8(out, at + 1, key_number);
 }
 
+// Write a record to the front of the output.
 pub fn put_record(out: &mut [u8], r: JournalRecord)
     requires { ⌜ length (recordBytes r) ≤ length (now out) ⌝ }
     ensures { λ _. ⌜ now (out .exit) ≡ over (now (out .entry)) 0 (recordBytes r) ⌝ }
 {
     match r {
-        JournalRecord::Ceiling(ceiling) => put_ceiling(out, ceiling),
-        JournalRecord::Sender(sender, counter) => put_sender(out, sender, counter),
-        JournalRecord::KeyNumber(key_number) => put_key_number(out, key_number),
+        JournalRecord::Ceiling(ceiling) => put_ceiling(out, 0, ceiling),
+        JournalRecord::Sender(sender, counter) => put_sender(out, 0, sender, counter),
+        JournalRecord::KeyNumber(key_number) => put_key_number(out, 0, key_number),
     }
 }

@@ -173,3 +173,9 @@ take-below [] n m z b i = rw (take-nil n) (b i)
 take-below (x ∷ f) zero m z b i = z
 take-below (x ∷ f) (suc n) m z b zero = b 0
 take-below (x ∷ f) (suc n) m z b (suc i) = take-below f n m z (λ j. b (suc j)) i
+
+-- nor have two lists end to end
+pub append-below : (f g : List ℕ) (m : ℕ) → Below m f → Below m g → Below m (f ++ g)
+append-below [] g m p q i = q i
+append-below (x ∷ f) g m p q zero = p 0
+append-below (x ∷ f) g m p q (suc i) = append-below f g m (λ k. p (suc k)) q i

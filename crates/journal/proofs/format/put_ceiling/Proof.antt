@@ -1,9 +1,11 @@
 -- `put_ceiling` meets its contract: the kind, and the number behind it. Assumes nothing.
 use borrow.Author.Needs.{needs}
+use mathlib.Core.Path.{refl}
+use native.Mathlib.Omega.{arith}
 use Rattle.journal.proofs.format.put_ceiling.Statement.{statement}
 use Rattle.journal.proofs.format.put_ceiling.Tie as tie
 use Rattle.octets.specs.Numbers.{le}
-use Rattle.octets.proofs.Strings.{behind}
+use Rattle.octets.proofs.Strings.{over-then}
 use Rattle.journal.specs.Format.{recordBytes}
 
 returns : tie.Need-returns
@@ -11,7 +13,8 @@ unfolding recordBytes le
 returns c =
     let number = c .before .before in
     let kind = number .before .before .before .before in
-    behind _ _ _ (kind .put-u8 .ensures) (number .put-u32 .ensures)
+    let a = kind .before .before .before .args in
+    over-then (a .out .now) _ _ (a .at) _ _ _ (omega arith) refl (kind .put-u8 .ensures) (number .put-u32 .ensures)
 
 pub put-ceiling-spec : {M : Type 1} → statement M
-put-ceiling-spec = tie.close (tie.spec (λ c κs. search needs) (λ c κs. search needs) (λ c. search needs) returns)
+put-ceiling-spec = tie.close (tie.spec (λ c κs. search needs) (λ c. search needs) (λ c κs. search needs) (λ c. search needs) returns)
