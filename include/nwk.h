@@ -436,6 +436,9 @@ uint64_t nwk_forget_sender(struct nwk_sender *senders, size_t senders_count, uin
 /* The length of the longest record. */
 #define NWK_JOURNAL_RECORD 13
 
+/* The length of the longest journal that nwk_shrink_journal writes: a key number, a ceiling and 64 senders. */
+#define NWK_SHRUNK_JOURNAL 839
+
 /* Recover what a journal says, after each start. In place of the length: the largest ceiling, 0 if there is none. NWK_KNOWN(answer)
  * tells whether there is a key number, NWK_KEY_NUMBER(answer) the last one. Refusals: 25 a record's kind is not 1 to 3, also that of
  * an incomplete last one; 24 a 65th sender, or one past the places of the list.
@@ -458,6 +461,17 @@ uint64_t nwk_write_journal_record(const uint8_t *journal, size_t journal_len, ui
  * nwk_recover_journal; 26 last is FFFFFFFE or above; 27 no complete ceiling record of the journal is at least last + 1: write one,
  * and ask again. */
 uint64_t nwk_next_counter(const uint8_t *journal, size_t journal_len, uint32_t last);
+
+/* Shrink a journal: write the shortest one that recovers to the same ceiling, the same senders with their counters, and the same key
+ * number or none. Its records are the key number, if there is one; the ceiling, if it is above 0; then the senders by rising address
+ * bytes, the first byte on the wire compared first. An incomplete last record is left out. Length: at most NWK_SHRUNK_JOURNAL, and
+ * never more than the journal's. Refusals: 25 as nwk_recover_journal; 24 the journal names more than 64 senders; 18 out shorter than
+ * what is to be written.
+ * Afterwards out holds the shrunk journal in its first bytes. The journal is as it was.
+ * The shrunk journal may take the journal's place where nothing was appended to it meanwhile. Write it beside the journal, wait until
+ * the store has it whole, put it in the journal's place in one step, such as renaming a file, and wait until the store has it so:
+ * only then is anything appended to it. A cut before that step leaves the old journal, and no counter is handed out twice. */
+uint64_t nwk_shrink_journal(const uint8_t *journal, size_t journal_len, uint8_t *out, size_t out_len);
 
 /* ---- commands */
 
@@ -692,6 +706,10 @@ static inline uint64_t nwk_next_counter_or_null(const uint8_t *journal, size_t j
   return nwk_next_counter(nwk_given(journal, journal_len), journal_len, last);
 }
 
+static inline uint64_t nwk_shrink_journal_or_null(const uint8_t *journal, size_t journal_len, uint8_t *out, size_t out_len) {
+  return nwk_shrink_journal(nwk_given(journal, journal_len), journal_len, nwk_lent(out, out_len), out_len);
+}
+
 static inline uint64_t nwk_read_command_or_null(const uint8_t *bytes, size_t bytes_len, uint8_t *command,
                                                 size_t command_len) {
   return nwk_read_command(nwk_given(bytes, bytes_len), bytes_len, nwk_lent(command, command_len), command_len);
@@ -734,6 +752,7 @@ static inline uint64_t nwk_split_mic_or_null(const uint8_t *bytes, size_t bytes_
 #define nwk_recover_journal nwk_recover_journal_or_null
 #define nwk_write_journal_record nwk_write_journal_record_or_null
 #define nwk_next_counter nwk_next_counter_or_null
+#define nwk_shrink_journal nwk_shrink_journal_or_null
 #define nwk_read_command nwk_read_command_or_null
 #define nwk_write_command nwk_write_command_or_null
 #define nwk_encrypt_ccm nwk_encrypt_ccm_or_null

@@ -135,3 +135,34 @@ pub fn next_counter(journal: &[u8], last: u32) -> Result<u32, Refusal> {
     // A counter has the 32 bits of a length.
     Ok(length(answer)? as u32)
 }
+
+/// Shrinks a journal: writes the shortest one that recovers to the same to the front of `out`, and gives its length, at most
+/// [`MAX_SHRUNK_JOURNAL`](crate::MAX_SHRUNK_JOURNAL) and never more than the journal's. It has the key number, if there is one, the ceiling, if it is above 0,
+/// and the senders by rising address bytes, the first byte on the wire compared first. An incomplete last record is left out.
+///
+/// It may take the journal's place if nothing was appended meanwhile: no counter is handed out twice then either.
+///
+/// ```
+/// use store_reader::{recover, shrink, Refusal, Senders, MAX_SHRUNK_JOURNAL};
+///
+/// // Ceilings 3 and 6, key number 1, and the first two bytes of another ceiling.
+/// let journal = [1, 3, 0, 0, 0, 1, 6, 0, 0, 0, 3, 1, 1, 9];
+/// let mut out = [0; MAX_SHRUNK_JOURNAL];
+/// let n = shrink(&journal, &mut out)?;
+/// assert_eq!(out[..n], [3, 1, 1, 6, 0, 0, 0]);
+///
+/// let recovered = recover(&out[..n], &mut Senders::new())?;
+/// assert_eq!((recovered.ceiling, recovered.key_number, recovered.complete), (6, Some(1), n));
+/// # Ok::<(), Refusal>(())
+/// ```
+///
+/// # Errors
+///
+/// Refusal 25 if a record's kind is not 1 to 3, also that of an incomplete last one, then 24 if the journal names more than 64
+/// senders, then 18 if `out` is shorter than what is to be written. Nothing has then changed.
+pub fn shrink(journal: &[u8], out: &mut [u8]) -> Result<usize, Refusal> {
+    // SAFETY: each pointer goes with the length of its slice, and the two do not overlap.
+    let answer =
+        unsafe { sys::nwk_shrink_journal(journal.as_ptr(), journal.len(), out.as_mut_ptr(), out.len()) };
+    length(answer)
+}

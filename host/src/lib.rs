@@ -31,7 +31,7 @@
 //! mark, [`Opened`], and there is no way to a payload but through it. The frames that a radio hands over at once are opened in
 //! one call by [`open_burst`]. That no frame is taken twice is for [`Senders`] to see to, which keeps the counters of up to
 //! [`MAX_SENDERS`] senders. That no outgoing counter is used twice, power cuts or not, is for a journal to see to: [`recover`],
-//! [`write_record`] and [`next_counter`] over bytes, and `JournalFile` over a file.
+//! [`write_record`], [`next_counter`] and [`shrink`] over bytes, and `JournalFile` over a file.
 #![no_std]
 #![deny(missing_docs)]
 #![warn(clippy::missing_errors_doc, clippy::must_use_candidate)]
@@ -71,7 +71,7 @@ pub use header::{
     NwkAuxHeader, NwkFrameControl, NwkFrameType, NwkHeader, NwkPayload, NwkRouteDiscovery,
     NwkSecurityHeaderControlField, NwkSecurityHeaderKeyId, NwkSecurityLevel, NwkSourceRoute, OpenedRecord,
 };
-pub use journal::{next_counter, recover, write_record, JournalRecord, Recovered};
+pub use journal::{next_counter, recover, shrink, write_record, JournalRecord, Recovered};
 #[cfg(feature = "std")]
 pub use journal_file::{JournalError, JournalFile};
 pub use list::{Full, List};
@@ -93,6 +93,9 @@ pub const MAX_SENDERS: usize = 64;
 
 /// The most bytes that a record of a journal has.
 pub const MAX_JOURNAL_RECORD: usize = 13;
+
+/// The most bytes that a shrunk journal has: a key number, a ceiling and [`MAX_SENDERS`] senders.
+pub const MAX_SHRUNK_JOURNAL: usize = 2 + 5 + MAX_SENDERS * MAX_JOURNAL_RECORD;
 
 /// The bytes of output that the longest burst needs: a part of [`MAX_PAYLOAD`] for each frame.
 pub const MAX_BURST_OUTPUT: usize = MAX_BURST * MAX_PAYLOAD;

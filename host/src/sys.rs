@@ -93,6 +93,7 @@ extern "C" {
         out_len: usize,
     ) -> u64;
     pub fn nwk_next_counter(journal: *const u8, journal_len: usize, last: u32) -> u64;
+    pub fn nwk_shrink_journal(journal: *const u8, journal_len: usize, out: *mut u8, out_len: usize) -> u64;
     pub fn nwk_read_command(bytes: *const u8, bytes_len: usize, command: *mut u8, command_len: usize) -> u64;
     pub fn nwk_write_command(command: *const u8, command_len: usize, out: *mut u8, out_len: usize) -> u64;
     pub fn nwk_timeout_seconds(code: u8) -> u64;

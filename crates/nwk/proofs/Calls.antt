@@ -1,7 +1,7 @@
 -- What a C function answers and leaves in a buffer where its refusal number is known: refused, or passed. And the answer's
 -- parts can be read back.
 -- Assumes nothing.
-use mathlib.Core.Path.{_≡_, refl, _∙_}
+use mathlib.Core.Path.{_≡_, refl, ap, _∙_}
 use mathlib.Core.List.{List}
 use Prim.Native.Nat.{ℕ, zero, suc, _/_, _%_, _^_, _<_}
 use native.Mathlib.Omega.{arith}
@@ -17,7 +17,7 @@ use Rattle.journal.specs.declared.OptionKeyNumber.{OptionKeyNumber}
 use Rattle.journal.specs.Recovery.{recoverNothing}
 use Rattle.nwk.specs.Answer.{answer, clearBit, openedAnswer, answerBy, given}
 use Rattle.nwk.specs.Inbound.{earlierAnswer}
-use Rattle.nwk.specs.Recovery.{recoveredAnswer, nextAnswer}
+use Rattle.nwk.specs.Recovery.{recoveredAnswer, writtenAnswer, nextAnswer}
 
 -- ---- reading the answer
 
@@ -110,3 +110,8 @@ pub written-by : (n k : ℕ) (bs o o′ : List ℕ) (w : Written) (r : ℕ) → 
 unfolding written unless
 written-by n zero bs o o′ w r e p q s = rw (← e) (s ∙ (λ i. answer (p i .refusal) (p i .length)), q)
 written-by n (suc k) bs o o′ w r e p q s = rw (← e) (s ∙ (λ i. answer (p i .refusal) (p i .length)), q)
+
+-- ---- what a function over a journal wrote
+
+pub written-as : {r : ℕ} {w w′ : Written} {o o′ : List ℕ} → w ≡ w′ → o ≡ o′ → r ≡ writtenAnswer w → (r ≡ writtenAnswer w′) × (o ≡ o′)
+written-as e q p = (p ∙ ap writtenAnswer e, q)

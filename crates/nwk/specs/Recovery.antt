@@ -1,4 +1,4 @@
--- What the C functions over a journal answer (document 02, 6).
+-- What the C functions over a journal answer (document 02, 6 and 7).
 -- Assumes nothing.
 use Prim.Native.Nat.{ℕ, _+_, _*_, _^_}
 use Rattle.octets.specs.declared.Written.{Written}
@@ -21,7 +21,7 @@ recoveredAnswer r = unless (r .refusal) (r .ceiling + keyNumberBits (r .«key_nu
 unfoldable pub completeLeft : Recovered → ℕ → ℕ
 completeLeft r o = unless (r .refusal) (r .complete) o
 
--- ---- writing a record: its length
+-- ---- writing a record, and shrinking: the length of what is written
 
 abbrev pub writtenAnswer : Written → ℕ
 writtenAnswer w = answer (w .refusal) (w .length)

@@ -1,4 +1,4 @@
-// Recovering from a journal, writing its next record, and the next outgoing counter that it covers.
+// Recovering from a journal, writing its next record, the next outgoing counter that it covers, and shrinking it.
 use crate::answer::answer;
 use journal::OptionKeyNumber;
 use journal::Recovered;
@@ -8,6 +8,7 @@ ghost use Prim.Native.Nat.{_<_, _^_};
 ghost use lib.ListN.{length};
 ghost use Rattle.journal.specs.Recovery.{recoverAnswer, recoveredList};
 ghost use Rattle.journal.specs.Writing.{writeRecord, nextCounter};
+ghost use Rattle.journal.specs.Shrinking.{shrink};
 ghost use Rattle.nwk.specs.Recovery.{keyNumberBits, recoveredAnswer, completeLeft, writtenAnswer, nextAnswer};
 
 // Bit 41 set and the key number in bits 48 to 55, or 0 if there is none.
@@ -71,4 +72,15 @@ pub extern "C" fn nwk_next_counter(journal: &[u8], last: u32) -> u64
 {
     let next = journal::next_counter(journal, last);
     answer(next.refusal, next.counter as usize)
+}
+
+// Shrink a journal into a second output, of which the front is then the shortest journal that recovers to the same; refusals 25, 24
+// and 18.
+#[no_mangle]
+pub extern "C" fn nwk_shrink_journal(journal: &[u8], out: &mut [u8]) -> u64
+    ensures answer { λ r. ⌜ r ≡ writtenAnswer (shrink (now (journal .entry)) (now (out .entry)) .answer) ⌝ }
+    ensures out { λ _. ⌜ now (out .exit) ≡ shrink (now (journal .entry)) (now (out .entry)) .out ⌝ }
+{
+    let written = journal::shrink(journal, out);
+    answer(written.refusal, written.length)
 }

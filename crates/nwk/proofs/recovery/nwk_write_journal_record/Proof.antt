@@ -1,15 +1,8 @@
 -- `nwk_write_journal_record` meets its contract: the answer is made of what `write_record` gives. Assumes nothing.
 use borrow.Author.Needs.{needs}
-use Prim.Native.Nat.{ℕ}
-use mathlib.Core.Path.{_≡_, ap, _∙_}
-use mathlib.Core.List.{List}
-use Rattle.octets.specs.declared.Written.{Written}
 use Rattle.nwk.proofs.recovery.nwk_write_journal_record.Statement.{statement}
 use Rattle.nwk.proofs.recovery.nwk_write_journal_record.Tie as tie
-use Rattle.nwk.specs.Recovery.{writtenAnswer}
-
-written-as : {r : ℕ} {w w′ : Written} {o o′ : List ℕ} → w ≡ w′ → o ≡ o′ → r ≡ writtenAnswer w → (r ≡ writtenAnswer w′) × (o ≡ o′)
-written-as e q p = (p ∙ ap writtenAnswer e, q)
+use Rattle.nwk.proofs.Calls.{written-as}
 
 returns : tie.Need-returns
 returns c = written-as (c .before .before .before .write-record .ensures .0) (c .before .before .before .write-record .ensures .1) (c .answer .ensures)
