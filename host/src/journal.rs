@@ -162,7 +162,6 @@ pub fn next_counter(journal: &[u8], last: u32) -> Result<u32, Refusal> {
 /// senders, then 18 if `out` is shorter than what is to be written. Nothing has then changed.
 pub fn shrink(journal: &[u8], out: &mut [u8]) -> Result<usize, Refusal> {
     // SAFETY: each pointer goes with the length of its slice, and the two do not overlap.
-    let answer =
-        unsafe { sys::nwk_shrink_journal(journal.as_ptr(), journal.len(), out.as_mut_ptr(), out.len()) };
+    let answer = unsafe { sys::nwk_shrink_journal(journal.as_ptr(), journal.len(), out.as_mut_ptr(), out.len()) };
     length(answer)
 }
