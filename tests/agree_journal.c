@@ -1,8 +1,9 @@
-/* Calls the three functions of nwk.h over journals with generated inputs, from a fixed seed, and prints one line for each call:
+/* Calls the four functions of nwk.h over journals with generated inputs, from a fixed seed, and prints one line for each call:
  *
  *   nwk_recover_journal journal list = answer list complete
  *   nwk_write_journal_record journal kind sender counter key_number room = answer record
  *   nwk_next_counter journal last = answer
+ *   nwk_shrink_journal journal room = answer shrunk
  *
  * in hexadecimal, numbers with the most significant digit first, bytes as they stand, "-" for none. A list is the 13 bytes of each
  * record, address and counter lowest byte first and then used. complete was all ones. host/tests/journal_cases.rs repeats each line
@@ -31,6 +32,9 @@ static size_t length;
 /* Low ones and the last ones, so that ceilings and last counters meet. */
 static uint32_t counter(void) { return percent(15) ? 0xFFFFFFFFu - (uint32_t)below(4) : (uint32_t)below(8); }
 
+/* The address of each of the senders, whose order on the wire is another than that of their numbers. */
+static uint64_t address(size_t sender) { return sender * UINT64_C(0x9E3779B97F4A7C15); }
+
 static void add(uint8_t kind, uint64_t sender) {
   const size_t body = kind == NWK_JOURNAL_CEILING ? 4 : kind == NWK_JOURNAL_SENDER ? 12 : 1;
   const uint64_t second = counter();
@@ -44,11 +48,11 @@ static void add(uint8_t kind, uint64_t sender) {
 static void make_journal(void) {
   const size_t senders = percent(50) ? below(4) : 62 + below(SENDERS - 61), more = below(12);
   length = 0;
-  for (uint64_t sender = 0; sender < senders; sender++) {
-    add(NWK_JOURNAL_SENDER, sender);
+  for (size_t sender = 0; sender < senders; sender++) {
+    add(NWK_JOURNAL_SENDER, address(sender));
   }
   for (size_t i = 0; i < more; i++) {
-    add((uint8_t)(1 + below(3)), below(senders + 1));
+    add((uint8_t)(1 + below(3)), address(below(senders + 1)));
   }
   if (percent(30)) {
     length -= length > 13 ? below(14) : below(length + 1);
@@ -85,7 +89,7 @@ static void recover(void) {
 
 static void write_record(void) {
   const uint8_t kind = (uint8_t)(percent(80) ? 1 + below(3) : below(6)), key_number = (uint8_t)number();
-  const uint64_t sender = below(SENDERS);
+  const uint64_t sender = address(below(SENDERS));
   const uint32_t its = counter();
   uint8_t out[NWK_JOURNAL_RECORD + 1];
   const size_t room = percent(60) ? sizeof out : below(sizeof out);
@@ -105,6 +109,19 @@ static void next(void) {
   printf(" %08" PRIX32 " = %016" PRIX64 "\n", last, nwk_next_counter(journal, length, last));
 }
 
+/* With room for the longest, or with as much as is needed, or one byte less. */
+static void shrink(void) {
+  uint8_t out[NWK_SHRUNK_JOURNAL + 1];
+  const size_t needed = NWK_LENGTH(nwk_shrink_journal(journal, length, out, sizeof out));
+  const size_t room = percent(40) ? sizeof out : needed > 0 && percent(50) ? needed - 1 : needed;
+  printf("nwk_shrink_journal");
+  print_bytes(journal, length);
+  const uint64_t answer = nwk_shrink_journal(journal, length, out, room);
+  printf(" %zX = %016" PRIX64, room, answer);
+  print_bytes(out, NWK_LENGTH(answer));
+  printf("\n");
+}
+
 int main(void) {
   for (int journals = 0; journals < JOURNALS; journals++) {
     make_journal();
@@ -112,6 +129,7 @@ int main(void) {
     recover();
     write_record();
     next();
+    shrink();
   }
   return 0;
 }

@@ -1,5 +1,5 @@
-//! The journal: recovery, writing a record and the next counter over generated journals and lists, between guard bytes and compared
-//! with the model; and what the request promises of them, run on the codec.
+//! The journal: recovery, writing a record, the next counter and shrinking over generated journals and lists, between
+//! guard bytes and compared with the model; and what the request promises of them, run on the codec.
 #[allow(dead_code)]
 mod support;
 
@@ -50,10 +50,13 @@ fn check(request: &Request, journal: &[u8], done: &Done) {
     assert_eq!(done.answer >> 32, (if recovers { number } else { 0 }) >> 32, "other bits: {}", said());
 }
 
-/// Each function over a journal and a list, writing twice.
+/// Each function over a journal and a list, those that write twice.
 fn each(journal: &[u8], list: &[Record], random: &mut Random, tally: &mut JournalTally) {
-    let writes = [generate::write(journal, random), generate::write(journal, random)];
-    for request in [Request::Recover, writes[0], writes[1], generate::next(journal, random)] {
+    let mut requests = vec![Request::Recover, generate::next(journal, random)];
+    for _ in 0..2 {
+        requests.extend([generate::write(journal, random), generate::shrink(journal, random)]);
+    }
+    for request in requests {
         let done = compare(&request, journal, list, random.byte());
         check(&request, journal, &done);
         tally.count(&request, journal, list, &done);
@@ -74,7 +77,7 @@ fn every_call_answers_as_the_model() {
         each(&journal, &list, &mut random, &mut tally);
     }
     println!("{}", tally.report());
-    assert!(tally.calls() >= 60_000);
+    assert!(tally.calls() >= 90_000);
     tally.check(AT_LEAST);
 }
 
@@ -84,7 +87,7 @@ fn every_cut_answers_as_the_model() {
     let mut random = Random::new(SEED + 1);
     let mut tally = JournalTally::default();
     for _ in 0..60 {
-        let whole: Vec<u8> = generate::few(&mut random).iter().flat_map(|record| record.bytes()).collect();
+        let whole = generate::bytes_of(&generate::few(&mut random));
         for cut in 0..=whole.len() {
             let mut journal = whole[..cut].to_vec();
             let list = generate::list(generate::places(&journal, &mut random), &mut random);
@@ -93,7 +96,7 @@ fn every_cut_answers_as_the_model() {
             each(&journal, &list, &mut random, &mut tally);
         }
     }
-    assert!(tally.calls() >= 20_000, "{} calls", tally.calls());
+    assert!(tally.calls() >= 30_000, "{} calls", tally.calls());
 }
 
 #[test]
@@ -116,7 +119,7 @@ fn long_journals_answer_as_the_model() {
 #[test]
 fn the_refusals_are_those_of_the_header() {
     let write = Request::Write { kind: 1, sender: 0, counter: 0, number: 0, room: 5 };
-    for request in [Request::Recover, write, Request::Next { last: 0 }] {
+    for request in [Request::Recover, write, Request::Next { last: 0 }, Request::Shrink { room: 0 }] {
         assert_eq!(header_comments::refusals(request.name()), request.refusals(), "{}", request.name());
     }
 }

@@ -1,10 +1,11 @@
-//! The journal, sentence by sentence: worked cases of document 02's request 6, the safe functions beside the model, and the same calls
-//! from C.
+//! The journal, sentence by sentence: worked cases of document 02's request 6, the safe functions beside the
+//! model, and the same calls from C.
 #[allow(dead_code)]
 mod support;
 
+use std::collections::BTreeMap;
 use store_reader::{
-    next_counter, recover, write_record, Eui64, JournalRecord, Recovered, Refusal, SenderRecord, Senders,
+    next_counter, recover, shrink, write_record, Eui64, JournalRecord, Recovered, Refusal, SenderRecord, Senders,
     MAX_JOURNAL_RECORD, MAX_SENDERS,
 };
 use support::from_c;
@@ -43,7 +44,10 @@ fn recovered(journal: &[u8], list: &[Record]) -> Result<(u32, Option<u8>, Vec<Re
 
 /// The bytes of a record of this kind, or the refusal.
 fn written(journal: &[u8], kind: u8, sender: u64, counter: u32, number: u8, room: usize) -> Result<Vec<u8>, u8> {
-    let done = asked(Request::Write { kind, sender, counter, number, room }, journal, &[]);
+    bytes_of(asked(Request::Write { kind, sender, counter, number, room }, journal, &[]))
+}
+
+fn bytes_of(done: Done) -> Result<Vec<u8>, u8> {
     match done.refusal() {
         0 => Ok(done.left.written),
         refusal => Err(refusal),
@@ -122,7 +126,8 @@ fn a_cut_record_is_ignored() {
     }
 }
 
-/// "25 if a record's kind, even the last one's, is not 1 to 3": also for writing and for the next counter, before all else.
+/// "25 if a record's kind, even the last one's, is not 1 to 3": also for writing and for the next counter,
+/// before all else.
 #[test]
 fn a_kind_that_is_none() {
     let whole = [Entry::Ceiling(6).bytes(), naming(65)].concat();
@@ -197,41 +202,59 @@ fn the_last_counters() {
     assert_eq!((next(&Entry::Ceiling(0).bytes(), 0), next(&Entry::Ceiling(1).bytes(), 0)), (Err(27), Ok(1)));
 }
 
+/// How often each function gave each number, 0 where it accepted.
+type Met = BTreeMap<(&'static str, u8), usize>;
+
+/// Each of the four functions accepted, and gave each of its three or two numbers, at least so often.
+fn check_met(met: &Met, at_least: usize) {
+    assert_eq!(met.len(), 3 + 4 + 4 + 4, "{met:?}");
+    assert!(met.values().all(|n| *n >= at_least), "{met:?}");
+}
+
 // ---- the safe functions
+
+fn number(refusal: Refusal) -> u64 {
+    u64::from(refusal.number()) << 32
+}
+
+/// What a safe function that writes answers, and what it leaves of an output of this room.
+fn written_safely(room: usize, write: impl FnOnce(&mut [u8]) -> Result<usize, Refusal>) -> (u64, Vec<u8>) {
+    let mut out = vec![0xA5; room];
+    let (answer, length) = match write(&mut out) {
+        Ok(length) => (length as u64, length),
+        Err(refusal) => (number(refusal), 0),
+    };
+    assert!(out[length..].iter().all(|byte| *byte == 0xA5));
+    out.truncate(length);
+    (answer, out)
+}
 
 /// What a safe function answers, as the C function would, and what it leaves.
 fn asked_safely(request: &Request, journal: &[u8], list: &[Record]) -> Option<(u64, Left)> {
-    let number = |refusal: Refusal| u64::from(refusal.number()) << 32;
     let mut places: Vec<SenderRecord> = list.iter().map(place).collect();
-    match *request {
+    let (answer, written) = match *request {
         Request::Recover => match recover(journal, &mut Senders::lent(&mut places)) {
-            Err(refusal) => Some((number(refusal), Left::nothing(list))),
+            Err(refusal) => (number(refusal), vec![]),
             Ok(Recovered { ceiling, key_number, complete }) => {
                 let number = key_number.map_or(0, |number| 1 << 41 | u64::from(number) << 48);
                 let list = places.iter().map(record).collect();
-                Some((u64::from(ceiling) | number, Left { list, complete: Some(complete as u64), written: vec![] }))
+                let left = Left { list, complete: Some(complete as u64), written: vec![] };
+                return Some((u64::from(ceiling) | number, left));
             }
         },
-        Request::Write { kind, sender, counter, number: given, room } => {
+        Request::Write { kind, sender, counter, number, room } => {
             let entry = match kind {
                 1 => JournalRecord::Ceiling(counter),
                 2 => JournalRecord::Sender { address: Eui64::from(sender), counter },
-                3 => JournalRecord::KeyNumber(given),
+                3 => JournalRecord::KeyNumber(number),
                 _ => return None,
             };
-            let mut out = vec![0xA5; room];
-            let (answer, length) = match write_record(journal, entry, &mut out) {
-                Ok(length) => (length as u64, length),
-                Err(refusal) => (number(refusal), 0),
-            };
-            assert!(out[length..].iter().all(|byte| *byte == 0xA5));
-            out.truncate(length);
-            Some((answer, Left { list: list.to_vec(), complete: None, written: out }))
+            written_safely(room, |out| write_record(journal, entry, out))
         }
-        Request::Next { last } => {
-            Some((next_counter(journal, last).map_or_else(number, u64::from), Left::nothing(list)))
-        }
-    }
+        Request::Next { last } => (next_counter(journal, last).map_or_else(number, u64::from), vec![]),
+        Request::Shrink { room } => written_safely(room, |out| shrink(journal, out)),
+    };
+    Some((answer, Left { written, ..Left::nothing(list) }))
 }
 
 fn place(record: &Record) -> SenderRecord {
@@ -248,26 +271,26 @@ fn record(place: &SenderRecord) -> Record {
 #[test]
 fn the_safe_functions_say_the_same() {
     let mut random = Random::new(SEED);
-    let mut answers = [0; 28];
+    let mut met = Met::new();
     for _ in 0..3000 {
         let journal = generate::journal(&mut random);
         let list = generate::list(generate::places(&journal, &mut random), &mut random);
         let list: Vec<Record> = list.iter().map(|left| record(&place(left))).collect();
-        for request in [Request::Recover, generate::write(&journal, &mut random), generate::next(&journal, &mut random)]
-        {
+        let makers = [generate::write, generate::next, generate::shrink];
+        for request in makers.map(|make| make(&journal, &mut random)).into_iter().chain([Request::Recover]) {
             let Some(found) = asked_safely(&request, &journal, &list) else { continue };
             assert_eq!(found, run(&request, &journal, &list), "{}", line(&request, &journal, &list));
-            answers[(found.0 >> 32) as u8 as usize] += 1;
+            *met.entry((request.name(), (found.0 >> 32) as u8)).or_default() += 1;
         }
     }
-    assert!([0, 18, 24, 25, 26, 27].iter().all(|&number| answers[number] >= 50), "{answers:?}");
+    check_met(&met, 50);
     assert_eq!((MAX_SENDERS, MAX_JOURNAL_RECORD), (MOST, Entry::Sender(0, 0).bytes().len()));
 }
 
 // ---- the same from C
 
-/// `JOURNALS` of `tests/agree_journal.c`, each with its three calls.
-const FROM_C: usize = 600 * 3;
+/// `JOURNALS` of `tests/agree_journal.c`, each with its four calls.
+const FROM_C: usize = 600 * 4;
 
 /// A printed line: the request, the journal, the list before it, and what was answered from C.
 fn parsed(line: &str) -> Option<(Request, Vec<u8>, Vec<Record>, Done)> {
@@ -276,39 +299,36 @@ fn parsed(line: &str) -> Option<(Request, Vec<u8>, Vec<Record>, Done)> {
     let mut answered = answered.split(' ');
     let answer = from_c::number(answered.next()?)?;
     let (journal, rest) = (unhex(words.get(1)?)?, &words[2..]);
-    match (words[0], rest) {
+    let request = match (words[0], rest) {
         ("nwk_recover_journal", [list]) => {
             let list = from_c::list_of(list)?;
             let left = Left { list: from_c::list_of(answered.next()?)?, complete: None, written: vec![] };
             let complete = from_c::number(answered.next()?).filter(|complete| *complete != u64::MAX);
-            Some((Request::Recover, journal, list, Done { answer, left: Left { complete, ..left } }))
+            return Some((Request::Recover, journal, list, Done { answer, left: Left { complete, ..left } }));
         }
         ("nwk_write_journal_record", [kind, sender, counter, given, room]) => {
             let (kind, sender, counter) = (from_c::number(kind)?, from_c::number(sender)?, from_c::number(counter)?);
-            let request =
-                Request::Write { kind, sender, counter, number: from_c::number(given)?, room: from_c::number(room)? };
-            let written = unhex(answered.next()?)?;
-            Some((request, journal, vec![], Done { answer, left: Left { list: vec![], complete: None, written } }))
+            Request::Write { kind, sender, counter, number: from_c::number(given)?, room: from_c::number(room)? }
         }
-        ("nwk_next_counter", [last]) => {
-            let request = Request::Next { last: from_c::number(last)? };
-            Some((request, journal, vec![], Done { answer, left: Left::nothing(&[]) }))
-        }
-        _ => None,
-    }
+        ("nwk_next_counter", [last]) => Request::Next { last: from_c::number(last)? },
+        ("nwk_shrink_journal", [room]) => Request::Shrink { room: from_c::number(room)? },
+        _ => return None,
+    };
+    let written = answered.next().map_or(Some(vec![]), unhex)?;
+    Some((request, journal, vec![], Done { answer, left: Left { written, ..Left::nothing(&[]) } }))
 }
 
 #[test]
 fn c_gets_the_same_answers() {
     let printed = from_c::printed("agree_journal");
-    let mut numbers = [0; 28];
+    let mut met = Met::new();
     for line in printed.lines() {
         let (request, journal, list, from_c) =
             parsed(line).unwrap_or_else(|| panic!("a line that says no call: {line}"));
         assert_eq!(asked(request, &journal, &list), from_c, "{line}");
-        numbers[usize::from(from_c.refusal())] += 1;
+        *met.entry((request.name(), from_c.refusal())).or_default() += 1;
     }
-    println!("{} lines, by refusal {numbers:?}", printed.lines().count());
+    println!("{} lines, {met:?}", printed.lines().count());
     assert_eq!(printed.lines().count(), FROM_C);
-    assert!([0, 18, 24, 25, 26, 27].iter().all(|&number| numbers[number] >= 20), "{numbers:?}");
+    check_met(&met, 20);
 }

@@ -1,5 +1,6 @@
-//! What the generated calls over journals met: every size of a list, every cut inside a record, and each case of recovery, writing
-//! and the next counter that document 02's request 6 tells apart.
+//! What the generated calls over journals met: every size of a list, every cut inside a record, and each case of
+//! recovery, writing, the next counter and shrinking that document 02's requests 6 and 7 tell apart.
+use super::generate::journals::LONGEST_SHRUNK;
 use super::journals::{Done, Request};
 use super::model::journal::{Entry, Journal, MOST};
 use super::senders::Record;
@@ -25,10 +26,14 @@ impl JournalTally {
         let cases = match *request {
             Request::Recover => {
                 *self.sizes.entry(list.len()).or_default() += 1;
-                [found.recovered(list, done), found.cut(done)].concat()
+                [found.recovered(list, done), found.cut("recovered", done), found.no_kind("recovered", done)].concat()
             }
             Request::Write { kind, sender, room, .. } => found.written(kind, sender, room, done),
             Request::Next { last } => found.next(last, done),
+            Request::Shrink { room } => {
+                let cases = [found.shrunk(journal, room, done), found.state(done), found.near(done)].concat();
+                [cases, found.cut("shrunk", done), found.no_kind("shrunk", done)].concat()
+            }
         };
         for (name, met) in cases {
             *self.met.entry(name).or_default() += usize::from(met);
@@ -48,7 +53,7 @@ impl JournalTally {
         for (name, met) in &self.met {
             assert!(*met >= at_least, "{name}: met only {met} times");
         }
-        for function in ["recovered", "written", "next"] {
+        for function in ["recovered", "written", "next", "shrunk"] {
             assert!(self.met.keys().any(|name| name.starts_with(function)), "nothing was {function}");
         }
     }
@@ -103,6 +108,11 @@ impl Found {
         name.try_into().ok().map(u64::from_le_bytes)
     }
 
+    /// An incomplete last record names a sender in full that no complete one names.
+    fn half_new(&self) -> bool {
+        self.half_noted().is_some_and(|sender| !self.knows(sender))
+    }
+
     fn knows(&self, sender: u64) -> bool {
         self.senders.iter().any(|(known, _)| *known == sender)
     }
@@ -114,7 +124,7 @@ impl Found {
         let left = || list[count.min(self.counted)..self.counted].iter();
         let past = || list.iter().skip(MOST);
         let again = named.len() > count;
-        let half_new = self.half_noted().is_some_and(|sender| !self.knows(sender));
+        let half_new = self.half_new();
         let cases = [
             ("an empty journal", given && self.read.entries.is_empty() && self.tail.is_empty()),
             ("no ceiling", given && self.ceilings.is_empty() && count > 0),
@@ -148,11 +158,6 @@ impl Found {
             ("24, a 65th sender in more places", at_24 && count == MOST + 1 && list.len() > MOST),
             ("24, one past the places", at_24 && count == list.len() + 1 && count < MOST),
             ("24, no places", at_24 && list.is_empty()),
-            ("25, the first kind", at_25 && self.read.complete == 0),
-            ("25, a later kind", at_25 && self.read.complete > 0 && self.tail.len() > 1),
-            ("25, the last byte is 0", at_25 && self.tail == [0]),
-            ("25, the last byte is 4", at_25 && self.tail == [4]),
-            ("25, the last byte is FF", at_25 && self.tail == [0xFF]),
             ("25 with 24 for a 65th sender", at_25 && count > MOST),
             ("25 with 24 for the list's places", at_25 && count > list.len() && count <= MOST),
         ];
@@ -160,10 +165,23 @@ impl Found {
     }
 
     /// Each cut of each kind, by the bytes that are there.
-    fn cut(&self, done: &Done) -> Vec<Case> {
+    fn cut(&self, front: &str, done: &Done) -> Vec<Case> {
         let cuts = [(1, 5), (2, 13), (3, 2)].into_iter().flat_map(|(kind, length)| (1..length).map(move |n| (kind, n)));
         let met = |kind: u8, n: usize| done.refusal() == 0 && self.incomplete(kind) && self.tail.len() == n;
-        cuts.map(|(kind, n)| (format!("recovered, kind {kind} cut after {n} bytes"), met(kind, n))).collect()
+        cuts.map(|(kind, n)| (format!("{front}, kind {kind} cut after {n} bytes"), met(kind, n))).collect()
+    }
+
+    /// Where the kind that is none stands.
+    fn no_kind(&self, front: &str, done: &Done) -> Vec<Case> {
+        let at_25 = done.refusal() == 25;
+        let cases = [
+            ("25, the first kind", at_25 && self.read.complete == 0),
+            ("25, a later kind", at_25 && self.read.complete > 0 && self.tail.len() > 1),
+            ("25, the last byte is 0", at_25 && self.tail == [0]),
+            ("25, the last byte is 4", at_25 && self.tail == [4]),
+            ("25, the last byte is FF", at_25 && self.tail == [0xFF]),
+        ];
+        named_cases(front, &cases)
     }
 
     fn written(&self, kind: u8, sender: u64, room: usize, done: &Done) -> Vec<Case> {
@@ -243,6 +261,87 @@ impl Found {
         named_cases("next", &cases)
     }
 
+    fn shrunk(&self, journal: &[u8], room: usize, done: &Done) -> Vec<Case> {
+        let (given, at_18) = (done.refusal() == 0, done.refusal() == 18);
+        let (at_24, at_25) = (done.refusal() == 24, done.refusal() == 25);
+        let (count, top, shrunk) = (self.senders.len(), self.read.ceiling(), self.read.shrunk());
+        let needed = shrunk.len();
+        let (too_many, too_short) = (count > MOST, room < needed);
+        let in_order = self.senders.is_sorted_by_key(|(sender, _)| sender.to_le_bytes());
+        let one_short = at_18 && room + 1 == needed;
+        let cases = [
+            ("an empty journal", given && journal.is_empty()),
+            ("an incomplete record alone", given && !journal.is_empty() && self.read.complete == 0),
+            ("the last ceiling is not the largest", given && self.ceilings.last().is_some_and(|last| *last < top)),
+            ("the first ceiling is not the largest", given && self.ceilings.first().is_some_and(|first| *first < top)),
+            ("the ceiling FFFFFFFF", given && top == u32::MAX),
+            ("the first key number is another", given && self.key_numbers.first() != self.key_numbers.last()),
+            ("a sender again with a lower counter", given && self.lower_again()),
+            ("the sender 0", given && self.knows(0)),
+            ("the sender FFFFFFFFFFFFFFFF", given && self.knows(u64::MAX)),
+            ("a counter of 0", given && self.senders.iter().any(|(_, last)| *last == 0)),
+            ("a counter of FFFFFFFF", given && self.senders.iter().any(|(_, last)| *last == u32::MAX)),
+            ("the wire's order is not that of first appearance", given && !in_order),
+            ("the wire's order is not the numbers'", given && self.wire_order_matters()),
+            ("64 senders and an incomplete record of a new one", given && count == MOST && self.half_new()),
+            ("shrunk already", given && !journal.is_empty() && journal == shrunk),
+            ("64 senders, shrunk already", given && count == MOST && journal == shrunk),
+            ("the length stays and the order does not", given && journal.len() == needed && journal != shrunk),
+            ("room exactly enough", given && room == needed && needed > 0),
+            ("room exactly enough for the longest", given && room == needed && needed == LONGEST_SHRUNK),
+            ("no room needed and none lent", given && room == 0),
+            ("one byte more than enough", given && room == needed + 1),
+            ("room for the longest", given && room == LONGEST_SHRUNK && needed < room),
+            ("more room than for the longest", given && room > LONGEST_SHRUNK),
+            ("less room than the complete records have", given && room < self.read.complete),
+            ("18, one byte short", one_short && room > 0),
+            ("18, one byte short of 64 senders", one_short && count == MOST),
+            ("18, one byte short of the longest", one_short && needed == LONGEST_SHRUNK),
+            ("18, no room", at_18 && room == 0),
+            ("24 alone, a 65th sender", at_24 && count == MOST + 1 && !too_short),
+            ("24 alone, more senders", at_24 && count > MOST + 1 && !too_short),
+            ("24 with 18", at_24 && too_short && room > 0),
+            ("24 with no room", at_24 && room == 0),
+            ("25 alone", at_25 && !too_many && !too_short),
+            ("25 with 18", at_25 && !too_many && too_short),
+            ("25 with 24", at_25 && too_many && !too_short),
+            ("25 with 24 and 18", at_25 && too_many && too_short),
+        ];
+        named_cases("shrunk", &cases)
+    }
+
+    /// No key number, 0 or another, beside no ceiling, 0 alone or another, beside no sender, some or 64.
+    fn state(&self, done: &Done) -> Vec<Case> {
+        let numbers = ["no key number", "key number 0", "a key number"];
+        let ceilings = ["no ceiling", "ceiling 0", "a ceiling"];
+        let senders = ["no sender", "senders", "64 senders"];
+        let number = self.key_numbers.last().map_or(0, |number| 1 + usize::from(*number > 0));
+        let ceiling = self.ceilings.iter().max().map_or(0, |top| 1 + usize::from(*top > 0));
+        let sender = usize::from(!self.senders.is_empty()) + usize::from(self.senders.len() == MOST);
+        let is = [numbers[number], ceilings[ceiling], senders[sender]];
+        let each = (0..27).map(|n| [numbers[n / 9], ceilings[n / 3 % 3], senders[n % 3]]);
+        each.map(|state| (format!("shrunk, {}", state.join(", ")), done.refusal() == 0 && state == is)).collect()
+    }
+
+    /// Two addresses that differ in one byte alone, for each byte, and in the highest bit of one alone.
+    fn near(&self, done: &Done) -> Vec<Case> {
+        let (given, differences) = (done.refusal() == 0, self.differences());
+        let within = |byte: usize, bits: u64| differences.iter().any(|found| found & !(bits << (8 * byte)) == 0);
+        let bytes = (0..8).map(|byte| (format!("differ in byte {byte} alone"), within(byte, 0xFF)));
+        let highest = ("differ in a highest bit alone".to_string(), (0..8).any(|byte| within(byte, 0x80)));
+        bytes.chain([highest]).map(|(name, met)| (format!("shrunk, two addresses {name}"), given && met)).collect()
+    }
+
+    /// The bits in which two senders' addresses differ, where they are of one byte alone.
+    fn differences(&self) -> Vec<u64> {
+        let mut differences = Vec::new();
+        for (n, (sender, _)) in self.senders.iter().enumerate() {
+            let others = self.senders[..n].iter().map(|(other, _)| sender ^ other);
+            differences.extend(others.filter(|bits| bits >> (bits.trailing_zeros() / 8 * 8) <= 0xFF));
+        }
+        differences
+    }
+
     /// The senders of the records, one after the other.
     fn names(&self) -> Vec<u64> {
         let names = self.read.entries.iter().filter_map(|entry| match entry {
@@ -262,6 +361,13 @@ impl Found {
 
     fn order_matters(&self) -> bool {
         self.names().last().copied() != self.senders.last().map(|(sender, _)| *sender)
+    }
+
+    /// The senders by rising address bytes are not those by rising number.
+    fn wire_order_matters(&self) -> bool {
+        let mut addresses: Vec<u64> = self.senders.iter().map(|(sender, _)| *sender).collect();
+        addresses.sort_unstable();
+        !addresses.is_sorted_by_key(|address| address.to_le_bytes())
     }
 }
 

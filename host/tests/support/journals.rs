@@ -14,6 +14,7 @@ pub enum Request {
     Recover,
     Write { kind: u8, sender: u64, counter: u32, number: u8, room: usize },
     Next { last: u32 },
+    Shrink { room: usize },
 }
 
 impl Request {
@@ -23,6 +24,7 @@ impl Request {
             Self::Recover => "nwk_recover_journal",
             Self::Write { .. } => "nwk_write_journal_record",
             Self::Next { .. } => "nwk_next_counter",
+            Self::Shrink { .. } => "nwk_shrink_journal",
         }
     }
 
@@ -30,15 +32,15 @@ impl Request {
     pub fn refusals(&self) -> &'static [u8] {
         match self {
             Self::Recover => &[25, 24],
-            Self::Write { .. } => &[25, 24, 18],
+            Self::Write { .. } | Self::Shrink { .. } => &[25, 24, 18],
             Self::Next { .. } => &[25, 26, 27],
         }
     }
 
     fn room(&self) -> usize {
         match *self {
-            Self::Write { room, .. } => room,
-            _ => 0,
+            Self::Write { room, .. } | Self::Shrink { room } => room,
+            Self::Recover | Self::Next { .. } => 0,
         }
     }
 }
@@ -114,10 +116,10 @@ pub fn perform(request: &Request, journal: &[u8], list: &[Record], guard: u8) ->
     done
 }
 
-/// The bytes that a record was written to; none if a byte behind them is not as it was.
+/// The bytes that a record or a shrunk journal was written to; none if a byte behind them is not as it was.
 fn written(request: &Request, answer: u64, out: &Guarded, fill: u8) -> Option<Vec<u8>> {
-    let accepted = matches!(request, Request::Write { .. }) && answer >> 32 == 0;
-    let length = if accepted { answer as u32 as usize } else { 0 };
+    let writes = matches!(request, Request::Write { .. } | Request::Shrink { .. });
+    let length = if writes && answer >> 32 == 0 { answer as u32 as usize } else { 0 };
     let (front, rest) = out.content().split_at_checked(length)?;
     rest.iter().all(|byte| *byte == fill).then(|| front.to_vec())
 }
@@ -142,6 +144,7 @@ fn through_c(
                 sys::nwk_write_journal_record(bytes, length, kind, sender, counter, number, out.pointer_mut(), room)
             }
             Request::Next { last } => sys::nwk_next_counter(bytes, length, last),
+            Request::Shrink { room } => sys::nwk_shrink_journal(bytes, length, out.pointer_mut(), room),
         }
     }
 }

@@ -1,5 +1,5 @@
 //! The seventeen operations of `include/nwk.h` on frames and commands: their buffers, and the refusals each of them can answer.
-//! `senders` has the three over a list of senders, `journals` the three over a journal.
+//! `senders` has the three over a list of senders, `journals` the four over a journal.
 use std::ops::Range;
 
 pub const HEADER_RECORD: usize = 147;

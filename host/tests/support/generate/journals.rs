@@ -1,18 +1,25 @@
 //! Journals and what is asked of them: random bytes, whole records, cuts inside the last one, kinds that are none, few senders and
-//! more than 64, and a few thousand records.
+//! more than 64, journals that are shrunk already, and a few thousand records.
 use crate::support::journals::Request;
 use crate::support::model::journal::{Entry, Journal, MOST};
 use crate::support::random::Random;
 use crate::support::senders::Record;
 
-/// The longest output that is tried: one more than the longest record.
+/// The longest output that is tried for a record: one more than the longest record.
 pub const LONGEST_ROOM: usize = 14;
+
+/// The longest shrunk journal: a key number, a ceiling and 64 senders.
+pub const LONGEST_SHRUNK: usize = 2 + 5 + MOST * 13;
 
 /// A journal.
 pub fn journal(random: &mut Random) -> Vec<u8> {
     match random.below(20) {
         0 => random_bytes(random),
         1..=8 => damaged(&few(random), random),
+        9 => {
+            let records = if random.bit() { few(random) } else { many(random) };
+            Journal::of(&bytes_of(&records)).shrunk()
+        }
         _ => damaged(&many(random), random),
     }
 }
@@ -30,15 +37,11 @@ fn random_bytes(random: &mut Random) -> Vec<u8> {
     (0..n).map(|_| if random.percent(60) { random.between(0, 4) as u8 } else { random.byte() }).collect()
 }
 
-/// Up to 24 records that name up to four senders, with low ceilings or any.
+/// Up to 24 records that name up to four senders.
 pub fn few(random: &mut Random) -> Vec<Entry> {
-    let names = addresses(4, random);
-    let low = random.bit();
-    let lowered = |record: Entry| match record {
-        Entry::Ceiling(ceiling) if low => Entry::Ceiling(ceiling % 6),
-        other => other,
-    };
-    (0..random.below(25)).map(|_| lowered(entry(&names, random))).collect()
+    let names = addresses(random.below(5), random);
+    let records = (0..random.below(25)).map(|_| entry(&names, random)).collect();
+    lowered(records, random)
 }
 
 /// Records that name about 64 senders, each at least once and in any order, or fewer.
@@ -50,7 +53,21 @@ fn many(random: &mut Random) -> Vec<Entry> {
     for _ in 0..random.below(30) {
         records.insert(random.below(records.len() + 1), entry(&names, random));
     }
-    records
+    lowered(records, random)
+}
+
+/// The records with their ceilings as they are, low ones, 0, or none.
+fn lowered(records: Vec<Entry>, random: &mut Random) -> Vec<Entry> {
+    let below = random.pick(&[0, 1, 6, u64::MAX]);
+    let lower = |record: Entry| match record {
+        Entry::Ceiling(ceiling) => u64::from(ceiling).checked_rem(below).map(|lower| Entry::Ceiling(lower as u32)),
+        other => Some(other),
+    };
+    records.into_iter().filter_map(lower).collect()
+}
+
+pub fn bytes_of(records: &[Entry]) -> Vec<u8> {
+    records.iter().flat_map(|record| record.bytes()).collect()
 }
 
 /// Different addresses: the lowest and the highest, some that differ in one bit, and others.
@@ -75,9 +92,8 @@ fn addresses(count: usize, random: &mut Random) -> Vec<u64> {
 pub fn entry(names: &[u64], random: &mut Random) -> Entry {
     match random.below(8) {
         0..=2 => Entry::Ceiling(number(random)),
-        3 => Entry::KeyNumber(if random.percent(30) { 0 } else { random.byte() }),
-        _ if names.is_empty() => Entry::KeyNumber(random.byte()),
-        _ => Entry::Sender(random.pick(names), number(random)),
+        4.. if !names.is_empty() => Entry::Sender(random.pick(names), number(random)),
+        _ => Entry::KeyNumber(if random.percent(30) { 0 } else { random.byte() }),
     }
 }
 
@@ -94,7 +110,7 @@ fn number(random: &mut Random) -> u32 {
 /// The records' bytes: whole, cut inside the last one, with a part of one more behind them, or with a byte put in whose kind is none,
 /// at the end, at the front or between two records.
 fn damaged(records: &[Entry], random: &mut Random) -> Vec<u8> {
-    let mut bytes: Vec<u8> = records.iter().flat_map(|record| record.bytes()).collect();
+    let mut bytes = bytes_of(records);
     let last = records.last().map_or(0, |record| record.bytes().len());
     match random.below(12) {
         0..=3 => {}
@@ -102,8 +118,7 @@ fn damaged(records: &[Entry], random: &mut Random) -> Vec<u8> {
         7 => bytes.push(no_kind(random)),
         8 if !records.is_empty() => {
             let front = random.below(records.len());
-            let at = records[..front].iter().map(|record| record.bytes().len()).sum();
-            bytes.insert(at, no_kind(random));
+            bytes.insert(bytes_of(&records[..front]).len(), no_kind(random));
         }
         9 => bytes.extend(Entry::Ceiling(random.number() as u32 | 0xFF_0000).bytes().iter().take(random.between(1, 4))),
         _ => {
@@ -184,4 +199,20 @@ pub fn next(journal: &[u8], random: &mut Random) -> Request {
         _ => number(random),
     };
     Request::Next { last }
+}
+
+/// An output for the shrunk journal: often as long as that is, one byte shorter or longer, or none; about the longest,
+/// or any.
+pub fn shrink(journal: &[u8], random: &mut Random) -> Request {
+    let needed = Journal::of(journal).shrunk().len();
+    let room = match random.below(9) {
+        0..=2 => needed,
+        3 => needed.saturating_sub(1),
+        4 => needed + 1,
+        5 => 0,
+        6 => LONGEST_SHRUNK,
+        7 => random.between(LONGEST_SHRUNK - 1, LONGEST_SHRUNK + 40),
+        _ => random.below(journal.len() + 40),
+    };
+    Request::Shrink { room }
 }

@@ -1,5 +1,5 @@
-//! The journal (document 02, request 6): what recovery, writing a record and the next counter answer, and what they leave in the
-//! buffers.
+//! The journal (document 02, requests 6 and 7): what recovery, writing a record, the next counter and shrinking answer,
+//! and what they leave in the buffers.
 use crate::support::journals::{Left, Request, KEY_NUMBER_SHIFT};
 use crate::support::senders::{Record, KNOWN_BIT};
 use std::collections::BTreeMap;
@@ -105,19 +105,31 @@ impl Journal {
         senders.sort_unstable();
         senders.iter().map(|&(_, sender, last)| (sender, last)).collect()
     }
+
+    /// "A journal that recovers to the same ceiling, senders with their counters, and key number or none. Order: key
+    /// number if any, ceiling if above 0, then senders by rising address bytes, the first compared first."
+    pub fn shrunk(&self) -> Vec<u8> {
+        let key_number = self.key_number().map(Entry::KeyNumber);
+        let ceiling = Some(self.ceiling()).filter(|ceiling| *ceiling > 0).map(Entry::Ceiling);
+        let mut senders = self.senders();
+        senders.sort_unstable_by_key(|(sender, _)| sender.to_le_bytes());
+        let senders = senders.iter().map(|&(sender, last)| Entry::Sender(sender, last));
+        key_number.into_iter().chain(ceiling).chain(senders).flat_map(Entry::bytes).collect()
+    }
 }
 
 /// The answer as the C functions give it, and what they leave in the buffers lent.
 pub fn run(request: &Request, journal: &[u8], list: &[Record]) -> (u64, Left) {
     let read = Journal::of(journal);
-    match request {
-        Request::Recover => recover(&read, list),
+    let (answer, written) = match *request {
+        Request::Recover => return recover(&read, list),
         Request::Write { kind, sender, counter, number, room } => {
-            let (answer, written) = write(&read, new_entry(*kind, *sender, *counter, *number), *room);
-            (answer, Left { list: list.to_vec(), complete: None, written })
+            write(&read, new_entry(kind, sender, counter, number), room)
         }
-        Request::Next { last } => (next(&read, *last), Left::nothing(list)),
-    }
+        Request::Next { last } => (next(&read, last), Vec::new()),
+        Request::Shrink { room } => shrink(&read, room),
+    };
+    (answer, Left { list: list.to_vec(), complete: None, written })
 }
 
 fn refused(number: u64) -> u64 {
@@ -163,7 +175,11 @@ fn write(journal: &Journal, new: Option<Entry>, room: usize) -> (u64, Vec<u8>) {
     if with_it.senders().len() > MOST {
         return (refused(24), Vec::new());
     }
-    let bytes = new.bytes();
+    fitted(new.bytes(), room)
+}
+
+/// "Then 18": the output is shorter than what is to be written.
+fn fitted(bytes: Vec<u8>, room: usize) -> (u64, Vec<u8>) {
     match bytes.len() > room {
         true => (refused(18), Vec::new()),
         false => (bytes.len() as u64, bytes),
@@ -185,4 +201,15 @@ fn next(journal: &Journal, last: u32) -> u64 {
         true => u64::from(next),
         false => refused(27),
     }
+}
+
+/// "25, then 24 if the journal names more than 64 senders, then 18."
+fn shrink(journal: &Journal, room: usize) -> (u64, Vec<u8>) {
+    if journal.bad_kind {
+        return (refused(25), Vec::new());
+    }
+    if journal.senders().len() > MOST {
+        return (refused(24), Vec::new());
+    }
+    fitted(journal.shrunk(), room)
 }
