@@ -1,8 +1,9 @@
 //! The journal: recovery, writing a record, the next counter and shrinking over generated journals and lists, between
-//! guard bytes and compared with the model; and what the request promises of them, run on the codec.
+//! guard bytes and compared with the model; and what the requests promise of them, run on the codec.
 #[allow(dead_code)]
 mod support;
 
+use std::collections::BTreeMap;
 use support::generate::journals as generate;
 use support::header_comments;
 use support::journal_tally::{JournalTally, LONGEST};
@@ -124,7 +125,7 @@ fn the_refusals_are_those_of_the_header() {
     }
 }
 
-// ---- what the request promises, on the codec alone
+// ---- what the requests promise, on the codec alone
 
 /// What recovery of a journal gives over 64 places; none if it is refused.
 fn recovered(journal: &[u8]) -> Option<State> {
@@ -144,7 +145,16 @@ struct State {
     complete: u64,
 }
 
+/// What a shrunk journal keeps: the ceiling, the key number, and the senders with their counters, whatever their order.
+type Kept = (u32, Option<u8>, BTreeMap<u64, u32>);
+
 impl State {
+    fn kept(&self) -> Kept {
+        let senders: BTreeMap<u64, u32> = self.senders.iter().copied().collect();
+        assert_eq!(senders.len(), self.senders.len(), "a sender in two places");
+        (self.ceiling, self.key_number, senders)
+    }
+
     /// The state with one more record: the larger ceiling, the sender's counter in its place or in the next, the key number.
     fn with(mut self, entry: Entry) -> Self {
         self.complete += entry.bytes().len() as u64;
@@ -167,7 +177,16 @@ fn written(journal: &[u8], entry: Entry) -> Option<Vec<u8>> {
         Entry::Sender(sender, counter) => (2, sender, counter, 0),
         Entry::KeyNumber(number) => (3, 0, 0, number),
     };
-    let done = perform(&Request::Write { kind, sender, counter, number, room: 13 }, journal, &[], 0x3C);
+    given(&Request::Write { kind, sender, counter, number, room: 13 }, journal)
+}
+
+/// The codec's shrunk journal; none if it is refused.
+fn shrunk(journal: &[u8]) -> Option<Vec<u8>> {
+    given(&Request::Shrink { room: generate::LONGEST_SHRUNK }, journal)
+}
+
+fn given(request: &Request, journal: &[u8]) -> Option<Vec<u8>> {
+    let done = perform(request, journal, &[], 0x3C);
     (done.refusal() == 0).then_some(done.left.written)
 }
 
@@ -200,15 +219,16 @@ fn a_record_counts_when_it_is_whole() {
     assert!(applied >= 400 && parts >= 2000 && tails >= 100, "{applied} records, {parts} parts, {tails} tails");
 }
 
-/// A gateway whose store is a byte string: what it hands out rises over every cut, at rest or after any byte of a record.
+/// A gateway whose store is a byte string: what it hands out rises over every cut, at rest or after any byte of a
+/// record, and where a shrunk journal took the store's place, or a cut came before that.
 #[test]
 fn no_counter_is_handed_out_twice() {
     let mut random = Random::new(SEED + 4);
-    let (mut cuts_inside, mut handed_out) = (0, 0);
+    let (mut cuts_inside, mut handed_out, mut replaced) = (0, 0, 0);
     for life in 0..300 {
         let (mut store, mut last, mut highest) = (Vec::new(), 0, 0);
         for _ in 0..random.between(20, 120) {
-            match random.below(8) {
+            match random.below(9) {
                 0..=3 => {
                     let done = perform(&Request::Next { last }, &store, &[], 0x3C);
                     if done.refusal() == 0 {
@@ -220,6 +240,18 @@ fn no_counter_is_handed_out_twice() {
                 4 => {
                     // A cut, and recovery.
                     last = recovered(&store).map(|state| state.ceiling).unwrap_or_else(|| panic!("{store:02X?}"));
+                }
+                5 => {
+                    // The shrunk journal takes the store's place unless a cut comes first; one may come after it too.
+                    let shrunk = shrunk(&store).expect("a journal of this writer");
+                    let cut_first = random.percent(30);
+                    if !cut_first {
+                        replaced += usize::from(shrunk.len() < store.len());
+                        store = shrunk;
+                    }
+                    if cut_first || random.bit() {
+                        last = recovered(&store).expect("a journal of this writer").ceiling;
+                    }
                 }
                 _ => {
                     let ahead = Entry::Ceiling(last.saturating_add(random.below(9) as u32));
@@ -238,5 +270,92 @@ fn no_counter_is_handed_out_twice() {
             }
         }
     }
-    assert!(cuts_inside >= 500 && handed_out >= 2000, "{cuts_inside} cuts, {handed_out} counters");
+    let met = cuts_inside >= 500 && handed_out >= 2000 && replaced >= 500;
+    assert!(met, "{cuts_inside} cuts, {handed_out} counters, {replaced} stores made shorter");
+}
+
+/// "Recovers to the same ceiling, senders with their counters, and key number or none": and hands out the same
+/// counters. A shrunk journal has no more bytes than the complete records, shrinks to itself, and recovers to something
+/// else without any one of its records. What recovery into 64 places refuses is refused by the same number.
+#[test]
+fn a_shrunk_journal_recovers_to_the_same() {
+    let mut random = Random::new(SEED + 5);
+    let (mut shorter, mut as_long, mut refused) = (0, 0, 0);
+    for n in 0..2000 {
+        let journal = if n < LONG { generate::long(&mut random) } else { generate::journal(&mut random) };
+        let Some(before) = recovered(&journal) else {
+            let number = |request: Request| perform(&request, &journal, &[FREE; MOST], 0x3C).refusal();
+            assert_eq!(number(Request::Shrink { room: 0 }), number(Request::Recover));
+            refused += 1;
+            continue;
+        };
+        let short = shrunk(&journal).expect("what recovers is shrunk");
+        let after = recovered(&short).expect("what was shrunk recovers");
+        assert_eq!((after.kept(), after.complete), (before.kept(), short.len() as u64));
+        assert!(after.complete <= before.complete, "{} bytes from {}", after.complete, before.complete);
+        assert_eq!(shrunk(&short).as_ref(), Some(&short));
+        let next = generate::next(&journal, &mut random);
+        assert_eq!(perform(&next, &short, &[], 0x3C), perform(&next, &journal, &[], 0x3C));
+        let records = Journal::of(&short).entries;
+        for left_out in 0..records.len() {
+            let rest = [&records[..left_out], &records[left_out + 1..]].concat();
+            let state = recovered(&generate::bytes_of(&rest)).expect("fewer records");
+            assert_ne!(state.kept(), before.kept(), "without {:?}", records[left_out]);
+        }
+        let count = if after.complete < before.complete { &mut shorter } else { &mut as_long };
+        *count += 1;
+    }
+    let met = shorter >= 500 && as_long >= 100 && refused >= 300;
+    assert!(met, "{shorter} shorter, {as_long} as long, {refused} refused");
+}
+
+/// Every journal of these pieces, up to so many bytes.
+fn every_journal(pieces: &[Vec<u8>], longest: usize) -> Vec<Vec<u8>> {
+    let mut journals = vec![vec![]];
+    let mut extended = 0;
+    while let Some(journal) = journals.get(extended).cloned() {
+        let longer = pieces.iter().map(|piece| [&journal[..], piece].concat());
+        journals.extend(longer.filter(|journal| journal.len() <= longest));
+        extended += 1;
+    }
+    journals
+}
+
+/// "No journal with fewer bytes recovers to that state": of all rows of a few records, and of all bytes of a few
+/// values, the shortest that recovers to a state has the shrunk one's length, and all that recover to it are shrunk to
+/// the same bytes.
+#[test]
+fn no_shorter_journal_recovers_to_the_same() {
+    let values = |range: std::ops::RangeInclusive<u8>| range.map(|value| vec![value]).collect::<Vec<_>>();
+    let records = [
+        Entry::KeyNumber(0),
+        Entry::KeyNumber(1),
+        Entry::Ceiling(0),
+        Entry::Ceiling(9),
+        Entry::Sender(0x01, 0),
+        Entry::Sender(0x01, 5),
+        Entry::Sender(0x0100, 0),
+    ];
+    let each = [
+        // A key number or none and a ceiling or 0, beside no sender or one; a key number or none beside two senders.
+        (records.map(Entry::bytes).to_vec(), 28, 3 * 2 * (1 + 3) + 3 * 2),
+        // A key number or none, beside any ceiling of four such bytes.
+        (values(0..=3), 8, (1 + 4) * 4_usize.pow(4)),
+        // A key number or none, beside no sender or one of twelve such bytes.
+        (values(2..=3), 15, (1 + 2) * (1 + 2_usize.pow(12))),
+    ];
+    for (pieces, longest, states) in each {
+        let mut found: BTreeMap<Kept, (usize, Vec<u8>)> = BTreeMap::new();
+        for journal in every_journal(&pieces, longest) {
+            let Some(state) = recovered(&journal) else { continue };
+            let short = shrunk(&journal).expect("what recovers is shrunk");
+            let (shortest, same) = found.entry(state.kept()).or_insert((journal.len(), short.clone()));
+            assert_eq!(*same, short, "{journal:02X?}");
+            *shortest = journal.len().min(*shortest);
+        }
+        assert_eq!(found.len(), states);
+        for (state, (shortest, short)) in found {
+            assert_eq!(short.len(), shortest, "{state:X?}");
+        }
+    }
 }
