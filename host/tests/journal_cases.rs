@@ -1,4 +1,4 @@
-//! The journal, sentence by sentence: worked cases of document 02's request 6, the safe functions beside the
+//! The journal, sentence by sentence: worked cases of document 02's requests 6 and 7, the safe functions beside the
 //! model, and the same calls from C.
 #[allow(dead_code)]
 mod support;
@@ -6,7 +6,7 @@ mod support;
 use std::collections::BTreeMap;
 use store_reader::{
     next_counter, recover, shrink, write_record, Eui64, JournalRecord, Recovered, Refusal, SenderRecord, Senders,
-    MAX_JOURNAL_RECORD, MAX_SENDERS,
+    MAX_JOURNAL_RECORD, MAX_SENDERS, MAX_SHRUNK_JOURNAL,
 };
 use support::from_c;
 use support::generate::journals as generate;
@@ -45,6 +45,11 @@ fn recovered(journal: &[u8], list: &[Record]) -> Result<(u32, Option<u8>, Vec<Re
 /// The bytes of a record of this kind, or the refusal.
 fn written(journal: &[u8], kind: u8, sender: u64, counter: u32, number: u8, room: usize) -> Result<Vec<u8>, u8> {
     bytes_of(asked(Request::Write { kind, sender, counter, number, room }, journal, &[]))
+}
+
+/// The shrunk journal, or the refusal.
+fn shrunk(journal: &[u8], room: usize) -> Result<Vec<u8>, u8> {
+    bytes_of(asked(Request::Shrink { room }, journal, &[]))
 }
 
 fn bytes_of(done: Done) -> Result<Vec<u8>, u8> {
@@ -126,7 +131,7 @@ fn a_cut_record_is_ignored() {
     }
 }
 
-/// "25 if a record's kind, even the last one's, is not 1 to 3": also for writing and for the next counter,
+/// "25 if a record's kind, even the last one's, is not 1 to 3": also for writing, the next counter and shrinking,
 /// before all else.
 #[test]
 fn a_kind_that_is_none() {
@@ -135,6 +140,7 @@ fn a_kind_that_is_none() {
         for journal in [vec![kind], [&whole[..5], &[kind]].concat(), [&whole[..], &[kind]].concat()] {
             assert_eq!(recovered(&journal, &[]), Err(25), "{kind}");
             assert_eq!(written(&journal, 2, 99, 1, 0, 0), Err(25), "{kind}");
+            assert_eq!((shrunk(&journal, 0), shrunk(&journal, 1000)), (Err(25), Err(25)), "{kind}");
             assert_eq!([0, 6, 0xFFFF_FFFE].map(|last| next(&journal, last)), [Err(25); 3], "{kind}");
         }
         assert_eq!(written(&[], kind, 0, 0, 0, 0), Err(25), "{kind}");
@@ -200,6 +206,99 @@ fn the_last_counters() {
     assert_eq!(next(&Entry::Ceiling(0xFFFF_FFFE).bytes(), 0xFFFF_FFFD), Ok(0xFFFF_FFFE));
     assert_eq!(next(&Entry::Ceiling(0xFFFF_FFFD).bytes(), 0xFFFF_FFFD), Err(27));
     assert_eq!((next(&Entry::Ceiling(0).bytes(), 0), next(&Entry::Ceiling(1).bytes(), 0)), (Err(27), Ok(1)));
+}
+
+// ---- shrinking
+
+/// Journals and what they are shrunk to: "key number if any, ceiling if above 0, then senders by rising address bytes,
+/// the first compared first". What is longer by a byte than the output is 18, bytes behind the result stay, and the
+/// result shrinks to itself.
+#[test]
+fn journals_and_what_they_are_shrunk_to() {
+    let cases = [
+        ("nothing", "-", "-"),
+        ("an incomplete record alone", "02 07", "-"),
+        ("the ceiling 0", "01 00000000", "-"),
+        ("the ceiling 0 twice, and a key number", "01 00000000 03 07 01 00000000", "03 07"),
+        ("the ceilings 5, 9 and 7", "01 05000000 01 09000000 01 07000000", "01 09000000"),
+        ("a ceiling that is larger by its last byte", "01 FFFFFF00 01 00000080 01 FEFFFFFF 01 FFFFFF7F", "01 FEFFFFFF"),
+        ("a key number", "03 05", "03 05"),
+        ("the last key number", "03 05 03 07", "03 07"),
+        ("the key number 0", "03 05 03 00", "03 00"),
+        (
+            "each kind once",
+            "02 C3B2A11C004B1200 FEFFFFFF 01 03020100 03 00",
+            "03 00 01 03020100 02 C3B2A11C004B1200 FEFFFFFF",
+        ),
+        (
+            "a sender again with a lower counter",
+            "02 0700000000000000 32000000 02 0800000000000000 01000000 02 0700000000000000 03000000",
+            "02 0700000000000000 03000000 02 0800000000000000 01000000",
+        ),
+        (
+            "the sender 0 with the counter 0",
+            "02 0000000000000000 09000000 02 0000000000000000 00000000",
+            "02 0000000000000000 00000000",
+        ),
+        (
+            "the lower number has the higher first byte",
+            "02 0100000000000000 0A000000 02 0000000000000002 0B000000",
+            "02 0000000000000002 0B000000 02 0100000000000000 0A000000",
+        ),
+        (
+            "three senders, the last one first",
+            "02 0200000000000000 01000000 02 0300000000000000 02000000 02 0100000000000000 03000000",
+            "02 0100000000000000 03000000 02 0200000000000000 01000000 02 0300000000000000 02000000",
+        ),
+        ("an incomplete ceiling", "01 05000000 03 07 01 FFFFFF", "03 07 01 05000000"),
+        ("an incomplete sender", "01 05000000 03 07 02 0700000000000000 320000", "03 07 01 05000000"),
+        ("an incomplete key number", "01 05000000 03 07 03", "03 07 01 05000000"),
+    ];
+    for (name, journal, expected) in cases {
+        let bytes = |text: &str| unhex(&text.replace(' ', "")).expect("hexadecimal digits");
+        let (journal, expected) = (bytes(journal), bytes(expected));
+        let needed = expected.len();
+        for room in [needed, needed + 1, journal.len().max(needed), 839, 1000] {
+            assert_eq!(shrunk(&journal, room).as_ref(), Ok(&expected), "{name}, room {room}");
+            assert_eq!(shrunk(&expected, room).as_ref(), Ok(&expected), "{name}, again, room {room}");
+        }
+        for room in 0..needed {
+            assert_eq!(shrunk(&journal, room), Err(18), "{name}, room {room}");
+        }
+    }
+}
+
+/// "By rising address bytes, the first compared first": the first byte that differs decides, whatever stands behind it,
+/// and has no sign.
+#[test]
+fn the_first_byte_that_differs_decides() {
+    for (at, behind) in (0..8).flat_map(|at| [(at, [0xAA, 0xAA]), (at, [0xFF, 0x00])]) {
+        let sender = |byte: u8, behind: u8, counter: u8| {
+            [&[2][..], &[0xAA; 8][..at], &[byte], &[behind; 8][at + 1..], &[counter, 0, 0, 0]].concat()
+        };
+        let (lower, higher) = (sender(0x7F, behind[0], 11), sender(0x80, behind[1], 10));
+        let rising = [&lower[..], &higher].concat();
+        assert_eq!(shrunk(&[&higher[..], &lower].concat(), 26).as_ref(), Ok(&rising), "byte {at}");
+        assert_eq!(shrunk(&rising, 26).as_ref(), Ok(&rising), "byte {at}");
+    }
+}
+
+/// "24 if the journal names more than 64 senders, then 18": 64 take 832 bytes, with ceiling and key number 839. A 65th
+/// that is not whole is not named, and one that is named again is not another.
+#[test]
+fn as_many_senders_as_there_may_be() {
+    let falling: Vec<u8> = (0..64).rev().flat_map(|sender| Entry::Sender(sender, 7).bytes()).collect();
+    assert_eq!((shrunk(&falling, 832), shrunk(&falling, 831)), (Ok(naming(64)), Err(18)));
+    let again = [&falling[..], &Entry::Sender(0, 7).bytes()].concat();
+    assert_eq!(shrunk(&again, 832), Ok(naming(64)));
+    assert_eq!(shrunk(&naming(65)[..65 * 13 - 1], 832), Ok(naming(64)));
+    let longest = [vec![3, 0, 1, 1, 0, 0, 0], naming(64)].concat();
+    let journal = [&falling[..], &[1, 1, 0, 0, 0, 3, 0]].concat();
+    assert_eq!((shrunk(&journal, 839), shrunk(&journal, 838)), (Ok(longest), Err(18)));
+    for room in [0, 832, 844, 845, 1000] {
+        assert_eq!((shrunk(&naming(65), room), shrunk(&naming(66), room)), (Err(24), Err(24)), "{room}");
+    }
+    assert_eq!(MAX_SHRUNK_JOURNAL, 839);
 }
 
 /// How often each function gave each number, 0 where it accepted.
