@@ -151,26 +151,31 @@ static void print_recovered(const char *name, uint64_t answer, uint64_t complete
   printf("\n");
 }
 
+/* An answer that gives bytes, and these. */
+static void print_written(const char *name, uint64_t answer, const uint8_t *bytes) {
+  printf("%s %u %u", name, NWK_REFUSAL(answer), NWK_LENGTH(answer));
+  for (size_t i = 0; i < NWK_LENGTH(answer); i++) {
+    printf(" %02X", bytes[i]);
+  }
+  printf("\n");
+}
+
 /* Writes a record behind the journal's front of this length, and gives the length with it. */
 static size_t print_appended(const char *name, uint8_t *journal, size_t n, uint8_t kind, uint64_t sender, uint32_t counter,
                              uint8_t key_number) {
   uint8_t record[NWK_JOURNAL_RECORD] = {0};
   const uint64_t answer = nwk_write_journal_record(journal, n, kind, sender, counter, key_number, record, sizeof record);
-  const size_t length = NWK_LENGTH(answer);
-  printf("%s %u %zu", name, NWK_REFUSAL(answer), length);
-  for (size_t i = 0; i < length; i++) {
-    printf(" %02X", record[i]);
-  }
-  printf("\n");
-  memcpy(journal + n, record, length);
-  return n + length;
+  print_written(name, answer, record);
+  memcpy(journal + n, record, NWK_LENGTH(answer));
+  return n + NWK_LENGTH(answer);
 }
 
-/* The key number in an answer, and the three functions over a journal of three records, the last of them whole and cut. */
+/* The key number in an answer, and the four functions over a journal of three records, the last of them whole and cut. */
 static void print_journal(void) {
   const uint64_t number = NWK_CAST(uint64_t, 0xA5) << 48;
-  printf("journal %d %d %d of %d key number %u %" PRIu32 " %u %u\n", NWK_JOURNAL_CEILING, NWK_JOURNAL_SENDER, NWK_JOURNAL_KEY_NUMBER,
-         NWK_JOURNAL_RECORD, NWK_KEY_NUMBER(number | 16), NWK_LENGTH(number | 16), NWK_KNOWN(number), NWK_KEY_NUMBER(~number));
+  printf("journal %d %d %d of %d shrunk %d key number %u %" PRIu32 " %u %u\n", NWK_JOURNAL_CEILING, NWK_JOURNAL_SENDER,
+         NWK_JOURNAL_KEY_NUMBER, NWK_JOURNAL_RECORD, NWK_SHRUNK_JOURNAL, NWK_KEY_NUMBER(number | 16), NWK_LENGTH(number | 16),
+         NWK_KNOWN(number), NWK_KEY_NUMBER(~number));
   uint8_t journal[4 * NWK_JOURNAL_RECORD] = {0};
   struct nwk_sender list[2] = {{9, 9, 9}, {9, 9, 9}};
   uint64_t complete = 99;
@@ -187,6 +192,12 @@ static void print_journal(void) {
   print_answer("next", nwk_next_counter(journal, n, 0x00010202u));
   print_answer("next_used_up", nwk_next_counter(journal, n, 0xFFFFFFFEu));
   print_answer("next_no_ceiling", nwk_next_counter(journal, n, 0x00010203u));
+  uint8_t shrunk[NWK_SHRUNK_JOURNAL] = {0};
+  print_written("shrink", nwk_shrink_journal(journal, n, shrunk, sizeof shrunk), shrunk);
+  print_written("shrink_cut", nwk_shrink_journal(journal, n - 1, shrunk, sizeof shrunk), shrunk);
+  print_written("shrink_zero", nwk_shrink_journal(journal, n + 1, shrunk, sizeof shrunk), shrunk);
+  print_written("shrink_exact", nwk_shrink_journal(journal, n, shrunk, n), shrunk);
+  print_written("shrink_no_room", nwk_shrink_journal(journal, n, shrunk, n - 1), shrunk);
 }
 
 /* Bursts without frames, lengths or answers, and one whose only frame has no bytes. */
@@ -229,6 +240,7 @@ static void print_empty(void) {
   printf("its length %" PRIu64 "\n", complete);
   print_answer("write_journal_record", nwk_write_journal_record(NULL, 0, NWK_JOURNAL_CEILING, 0, 0, 0, NULL, 0));
   print_answer("next_counter", nwk_next_counter(NULL, 0, 0));
+  print_answer("shrink_journal", nwk_shrink_journal(NULL, 0, NULL, 0));
   uint8_t nonce[13] = {0};
   uint8_t mic[4] = {0};
   print_answer("encrypt_ccm", nwk_encrypt_ccm(0, 0, nonce, NULL, 0, NULL, 0, NULL, 0, mic));

@@ -5,7 +5,7 @@ mod support;
 
 use std::collections::{BTreeMap, BTreeSet};
 use std::fs;
-use store_reader::Refusal;
+use store_reader::{Refusal, MAX_SHRUNK_JOURNAL};
 use support::command::{root, scratch, tool};
 
 fn header() -> String {
@@ -102,13 +102,16 @@ fn check_senders<'a>(lines: &mut impl Iterator<Item = &'a str>) {
     }
 }
 
-/// The kinds and the longest record; bits 48 to 55 of an answer with a length of 16, and every bit but those. By document 02, request
-/// 6: each record is its kind and its body, lowest byte first, and another kind is 25; recovery gives the ceiling, the sender in the
-/// first place and zeros in the other, key number 0, which is told apart from none, and the length; a key number cut off is ignored;
-/// the byte 0 behind is 25 and changes nothing. The next counter is given up to the ceiling, 26 at `FFFFFFFE`, else 27.
+/// The kinds, the longest record and the longest shrunk journal; bits 48 to 55 of an answer with a length of 16, and
+/// every bit but those. By document 02, request 6: each record is its kind and its body, lowest byte first, and another
+/// kind is 25; recovery gives the ceiling, the sender in the first place and zeros in the other, key number 0, which is
+/// told apart from none, and the length; a key number cut off is ignored; the byte 0 behind is 25 and changes nothing.
+/// The next counter is given up to the ceiling, 26 at `FFFFFFFE`, else 27. By request 7 a shrunk journal has the key
+/// number, if it is whole, then the ceiling and the sender; 25 and 18 as before, and the exact room is enough.
 fn check_journal<'a>(lines: &mut impl Iterator<Item = &'a str>) {
+    assert_eq!(MAX_SHRUNK_JOURNAL, 839);
     for expected in [
-        "journal 1 2 3 of 13 key number 165 16 0 90",
+        "journal 1 2 3 of 13 shrunk 839 key number 165 16 0 90",
         "write_ceiling 0 5 01 03 02 01 00",
         "write_sender 0 13 02 C3 B2 A1 1C 00 4B 12 00 FE FF FF FF",
         "write_key_number 0 2 03 00",
@@ -119,16 +122,22 @@ fn check_journal<'a>(lines: &mut impl Iterator<Item = &'a str>) {
         "next 0 66051",
         "next_used_up 26 0",
         "next_no_ceiling 27 0",
+        "shrink 0 20 03 00 01 03 02 01 00 02 C3 B2 A1 1C 00 4B 12 00 FE FF FF FF",
+        "shrink_cut 0 18 01 03 02 01 00 02 C3 B2 A1 1C 00 4B 12 00 FE FF FF FF",
+        "shrink_zero 25 0",
+        "shrink_exact 0 20 03 00 01 03 02 01 00 02 C3 B2 A1 1C 00 4B 12 00 FE FF FF FF",
+        "shrink_no_room 18 0",
     ] {
         assert_eq!(lines.next(), Some(expected));
     }
 }
 
-/// The answers to empty slices, by document 01: a header of no bytes 2, an auxiliary header of none 9, no room 18. A record of
-/// no bytes is refused by 13, and one without an auxiliary header by 14. A header of zeros has 8 bytes, no bytes are an unparsed
-/// command, and nothing sealed opens again to nothing. By document 02 a burst of no frames is accepted with 0, and bytes
-/// without lengths and lengths without answers are refused by 20; a frame of no bytes is a frame, whose own answer is 2. A list
-/// without places names nobody, and has no place for a new sender. A journal of no bytes has nothing in it, no ceiling either.
+/// The answers to empty slices, by document 01: a header of no bytes 2, an auxiliary header of none 9, no room 18. A
+/// record of no bytes is refused by 13, and one without an auxiliary header by 14. A header of zeros has 8 bytes, no
+/// bytes are an unparsed command, and nothing sealed opens again to nothing. By document 02 a burst of no frames is
+/// accepted with 0, and bytes without lengths and lengths without answers are refused by 20; a frame of no bytes is a
+/// frame, whose own answer is 2. A list without places names nobody, and has no place for a new sender. A journal of no
+/// bytes has nothing in it, no ceiling either, and is shrunk to no bytes.
 fn check_empty<'a>(lines: &mut impl Iterator<Item = &'a str>) {
     for expected in [
         "read_header 2 0",
@@ -154,6 +163,7 @@ fn check_empty<'a>(lines: &mut impl Iterator<Item = &'a str>) {
         "its length 0",
         "write_journal_record 18 0",
         "next_counter 27 0",
+        "shrink_journal 0 0",
         "encrypt_ccm 0 0",
         "decrypt_ccm 0 0",
         "split_mic 16 0",

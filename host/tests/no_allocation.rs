@@ -2,10 +2,10 @@
 use std::alloc::{GlobalAlloc, Layout, System};
 use std::cell::Cell;
 use store_reader::{
-    decrypt_ccm, encrypt_block, encrypt_ccm, hex, next_counter, open, open_burst, read, recover, seal, split_mic,
-    timeout_seconds, write, write_record, Eui64, JournalRecord, Key, Nwk, NwkAuxHeader, NwkCommand, NwkFrameType,
-    NwkHeader, NwkSourceRoute, OpenedFrame, OpenedRecord, Refusal, SenderRecord, Senders, MAX_BURST, MAX_BURST_OUTPUT,
-    MAX_FRAME, MAX_JOURNAL_RECORD, MAX_PAYLOAD, MAX_SENDERS,
+    decrypt_ccm, encrypt_block, encrypt_ccm, hex, next_counter, open, open_burst, read, recover, seal, shrink,
+    split_mic, timeout_seconds, write, write_record, Eui64, JournalRecord, Key, Nwk, NwkAuxHeader, NwkCommand,
+    NwkFrameType, NwkHeader, NwkSourceRoute, OpenedFrame, OpenedRecord, Refusal, SenderRecord, Senders, MAX_BURST,
+    MAX_BURST_OUTPUT, MAX_FRAME, MAX_JOURNAL_RECORD, MAX_PAYLOAD, MAX_SENDERS, MAX_SHRUNK_JOURNAL,
 };
 
 struct Counting;
@@ -88,7 +88,7 @@ fn inbound(key: &Key, frame: &OpenedFrame<'_>) -> Result<(), Refusal> {
     Ok(())
 }
 
-/// A ceiling, as many senders as there are places for, and a key number, written and recovered.
+/// A ceiling, as many senders as there are places for, and a key number, written, recovered and shrunk.
 fn journal() -> Result<(), Refusal> {
     let (mut journal, mut end) = ([0; (MAX_SENDERS + 2) * MAX_JOURNAL_RECORD], 0);
     let senders = (0..MAX_SENDERS).map(|n| JournalRecord::Sender { address: Eui64::from(n as u64), counter: 7 });
@@ -100,6 +100,9 @@ fn journal() -> Result<(), Refusal> {
     assert_eq!((recovered.ceiling, recovered.key_number, recovered.complete), (5, Some(1), end));
     assert_eq!(next_counter(&journal[..end], 4), Ok(5));
     assert_eq!(next_counter(&journal[..end], recovered.ceiling), Err(Refusal::NO_CEILING));
+    let mut shrunk = [0; MAX_SHRUNK_JOURNAL];
+    assert_eq!(shrink(&journal[..end], &mut shrunk), Ok(MAX_SHRUNK_JOURNAL));
+    assert_eq!(shrink(&journal[..end], &mut shrunk[1..]), Err(Refusal::NO_ROOM));
     Ok(())
 }
 
