@@ -465,12 +465,12 @@ uint64_t nwk_next_counter(const uint8_t *journal, size_t journal_len, uint32_t l
 /* Shrink a journal: write the shortest one that recovers to the same ceiling, the same senders with their counters, and the same key
  * number or none. Its records are the key number, if there is one; the ceiling, if it is above 0; then the senders by rising address
  * bytes, the first byte on the wire compared first. An incomplete last record is left out. Length: at most NWK_SHRUNK_JOURNAL, and
- * never more than the journal's. Refusals: 25 as nwk_recover_journal; 24 the journal names more than 64 senders; 18 out shorter than
- * what is to be written.
+ * never more than that of the complete records. Refusals: 25 as nwk_recover_journal; 24 the journal names more than 64 senders; 18 out
+ * shorter than what is to be written.
  * Afterwards out holds the shrunk journal in its first bytes. The journal is as it was.
- * The shrunk journal may take the journal's place where nothing was appended to it meanwhile. Write it beside the journal, wait until
- * the store has it whole, put it in the journal's place in one step, such as renaming a file, and wait until the store has it so:
- * only then is anything appended to it. A cut before that step leaves the old journal, and no counter is handed out twice. */
+ * The shrunk journal may take the journal's place if nothing was appended meanwhile. Write it beside the journal, wait until the store
+ * has it whole, put it in the journal's place in one step, such as renaming a file, and wait until the store has it so: only then
+ * append to it. A cut before that step leaves the old journal. The last counter stays what it was, and none is handed out twice. */
 uint64_t nwk_shrink_journal(const uint8_t *journal, size_t journal_len, uint8_t *out, size_t out_len);
 
 /* ---- commands */

@@ -137,8 +137,9 @@ pub fn next_counter(journal: &[u8], last: u32) -> Result<u32, Refusal> {
 }
 
 /// Shrinks a journal: writes the shortest one that recovers to the same to the front of `out`, and gives its length, at most
-/// [`MAX_SHRUNK_JOURNAL`](crate::MAX_SHRUNK_JOURNAL) and never more than the journal's. It has the key number, if there is one, the ceiling, if it is above 0,
-/// and the senders by rising address bytes, the first byte on the wire compared first. An incomplete last record is left out.
+/// [`MAX_SHRUNK_JOURNAL`](crate::MAX_SHRUNK_JOURNAL) and never more than that of the complete records. It has the key number, if there
+/// is one, the ceiling, if it is above 0, and the senders by rising address bytes, the first byte on the wire compared first. An
+/// incomplete last record is left out.
 ///
 /// It may take the journal's place if nothing was appended meanwhile: no counter is handed out twice then either.
 ///
