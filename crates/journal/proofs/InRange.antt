@@ -1,5 +1,4 @@
 -- The values of a journal's records, and of the state that they make, are in their ranges. Assumes nothing.
-use mathlib.Core.Bool.{true, false}
 use mathlib.Core.List.{List, [], _∷_, _++_}
 use Prim.Native.Nat.{ℕ, zero, suc, _^_, _<_}
 use native.Mathlib.Omega.{arith}
@@ -10,7 +9,7 @@ use Rattle.octets.specs.Strings.{Below}
 use Rattle.octets.proofs.Numbers.{leAt-lt}
 use Rattle.senders.specs.declared.SenderRecord.{SenderRecord}
 use Rattle.senders.specs.Records.{recordOf}
-use Rattle.journal.specs.declared.{format.JournalRecord.JournalRecord, OptionKeyNumber.OptionKeyNumber}
+use Rattle.journal.specs.declared.format.JournalRecord.{JournalRecord}
 use Rattle.journal.specs.Format.{bodyLength, recordAt, recordsFrom, records}
 use Rattle.journal.specs.Recovery.{State, blank, noted, ceilingAfter, keyNumberAfter, sendersAfter, applied, appliedAll, stateOf}
 use Rattle.journal.specs.Shrinking.{sorted, keyNumberRecords, ceilingRecords, senderRecords, shrunkRecords}

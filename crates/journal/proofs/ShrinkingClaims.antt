@@ -1,30 +1,28 @@
 -- The claims about shrinking, from what a shrunk journal reads as. Assumes nothing.
-use mathlib.Core.Path.{_≡_, refl, sym, ap, subst, _∙_}
-use mathlib.Core.Bool.{true, false}
-use mathlib.Core.List.{List, [], _∷_}
-use Prim.Native.Nat.{ℕ, zero, suc, _+_, _*_, _≤_}
+use mathlib.Core.Path.{_≡_, refl, sym, ap, _∙_}
+use mathlib.Core.Bool.{false}
+use mathlib.Core.List.{List}
+use Prim.Native.Nat.{ℕ, zero, suc, _≤_}
 use native.Mathlib.Omega.{arith}
-use lib.Dec.{ltb}
-use lib.ListN.{length, take}
+use lib.ListN.{length}
 use borrow.Author.Tests.{ltb-false, le-ltb}
-use Rattle.octets.specs.Refusals.{unless, on, firstOf}
+use Rattle.octets.specs.Refusals.{unless, firstOf}
 use Rattle.octets.specs.Strings.{Below}
 use Rattle.octets.specs.Writing.{Run, wrote, written}
-use Rattle.octets.proofs.Conditions.{accepted, none, none-refuse, unless-either}
+use Rattle.octets.proofs.Conditions.{accepted, none}
 use Rattle.octets.proofs.Strings.{take-over}
 use Rattle.octets.proofs.Writing.{written-number, write-accepted}
-use Rattle.senders.specs.declared.{SenderRecord.SenderRecord, OptionCounter.OptionCounter}
-use Rattle.senders.specs.Senders.{countedPlaces, stored}
-use Rattle.senders.specs.Walks.{counted}
+use Rattle.senders.specs.declared.SenderRecord.{SenderRecord}
+use Rattle.senders.specs.Senders.{stored}
 use Rattle.journal.specs.declared.Recovered.{Recovered}
-use Rattle.journal.specs.Format.{records, unknownKind, bytesOf, completeLength}
-use Rattle.journal.specs.Recovery.{stateOf, anew, recoverRefusal, recoverGiven, recoverNothing, recoverAnswer, recoveredList}
+use Rattle.journal.specs.Format.{records, unknownKind, bytesOf}
+use Rattle.journal.specs.Recovery.{stateOf, recoverRefusal, recoverGiven, recoverNothing, recoverAnswer, recoveredList}
 use Rattle.journal.specs.Shrinking.{shrunkRecords, shrunk, shrinkRefusal, shrink}
 use Rattle.journal.specs.Life.{given}
 use Rattle.journal.specs.ShrinkingClaims.{SameState, RecoversTheSame, RisingAddressBytes, NoneIsShorter, NeverLonger, SameStateSameBytes, ShrunkTwice}
 use Rattle.journal.specs.Scan.{frontLength}
 use Rattle.journal.proofs.Appending.{complete-within}
-use Rattle.journal.proofs.SendersOnce.{counterOf, once-state, stored-counter}
+use Rattle.journal.proofs.SendersOnce.{once-state, stored-counter}
 use Rattle.journal.proofs.Sorting.{rising-sorted}
 use Rattle.journal.proofs.InRange.{state-fits}
 use Rattle.journal.proofs.ShrunkBytes.{length-ceiling, length-key-number, length-shrunk}
@@ -48,7 +46,7 @@ module _ (j o : List ℕ) (z : shrink j o .answer .refusal ≡ 0) where
   length-given : shrink j o .answer .length ≡ length (shrunk j)
   length-given = ap (λ (r : Run). r .answer .length) (sym wrote-shrunk)
 
-  pub known : unknownKind j ≡ false
+  known : unknownKind j ≡ false
   unfolding shrinkRefusal
   known = none _ not-refused .0
 

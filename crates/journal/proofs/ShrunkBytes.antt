@@ -1,9 +1,9 @@
 -- The bytes of a shrunk journal: their lengths, one sender's record behind the others, and all of them from what a pass gathered. Assumes
 -- nothing.
 use mathlib.Core.Path.{_≡_, refl, sym, ap, _∙_}
-use mathlib.Core.Bool.{true, false}
+use mathlib.Core.Bool.{false}
 use mathlib.Core.List.{List, [], _∷_, _++_, append-assoc, append-nil}
-use Prim.Native.Nat.{ℕ, zero, suc, _+_, _*_, _<_, _≤_}
+use Prim.Native.Nat.{ℕ, suc, _+_, _*_, _<_, _≤_}
 use native.Mathlib.Omega.{arith}
 use lib.Dec.{eqb, ltb}
 use lib.ListN.{length, getD, length-append}
@@ -30,7 +30,7 @@ use Rattle.journal.proofs.Carrying.{table-suc}
 
 -- ---- end to end
 
-pub bytes-append : (rs qs : List JournalRecord) → bytesOf (rs ++ qs) ≡ bytesOf rs ++ bytesOf qs
+bytes-append : (rs qs : List JournalRecord) → bytesOf (rs ++ qs) ≡ bytesOf rs ++ bytesOf qs
 bytes-append [] qs = refl
 bytes-append (r ∷ rs) qs =
     ap (λ (l : List ℕ). recordBytes r ++ l) (bytes-append rs qs) ∙ sym (append-assoc (recordBytes r) (bytesOf rs) (bytesOf qs))
@@ -63,7 +63,7 @@ module _ (o : List ℕ) (at : ℕ) (rs : List JournalRecord) where
 
 -- ---- lengths
 
-pub length-senders : (l : List SenderRecord) → length (bytesOf (senderRecords l)) ≡ 13 * length l
+length-senders : (l : List SenderRecord) → length (bytesOf (senderRecords l)) ≡ 13 * length l
 unfolding senderRecords recordBytes le
 length-senders [] = refl
 length-senders (r ∷ l) = omega (arith, length-senders l)
@@ -112,7 +112,7 @@ module _ (xs cs : List ℕ) (i : ℕ) (h : i < length xs) (g : i < length cs) wh
 -- ---- the whole journal, of a state
 
 -- the three parts end to end
-pub shrunk-parts : (g : State) → bytesOf (shrunkRecords g)
+shrunk-parts : (g : State) → bytesOf (shrunkRecords g)
     ≡ bytesOf (keyNumberRecords (g .keyNumber)) ++ (bytesOf (ceilingRecords (g .ceiling)) ++ bytesOf (senderRecords (sorted (g .senders))))
 shrunk-parts g =
     bytes-append (keyNumberRecords (g .keyNumber)) _

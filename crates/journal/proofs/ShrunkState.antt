@@ -3,9 +3,9 @@
 use mathlib.Core.Path.{_≡_, refl, sym, ap, subst, _∙_}
 use mathlib.Core.Bool.{Bool, true, false, cond}
 use mathlib.Core.List.{List, [], _∷_, _++_}
-use Prim.Native.Nat.{ℕ, zero, suc, _+_, _*_, _≤_}
+use Prim.Native.Nat.{ℕ, zero, suc, _+_, _≤_}
 use native.Mathlib.Omega.{arith}
-use lib.Dec.{eqb, ltb}
+use lib.Dec.{eqb}
 use lib.ListN.{length, length-append}
 use borrow.Author.Tests.{eqb-true, eqb-false, ne-eqb, lt-ltb}
 use borrow.Table.Steps.{cases}
@@ -18,7 +18,7 @@ use Rattle.journal.specs.declared.{format.JournalRecord.JournalRecord, O
 use Rattle.journal.specs.Format.{recordBytes, kindsFrom, recordsFrom, records, someUnknown, unknownKind, totalLength, bytesOf, completeLength}
 use Rattle.journal.specs.Recovery.{State, blank, noted, ceilingAfter, keyNumberAfter, sendersAfter, applied, appliedAll, stateOf}
 use Rattle.journal.specs.Shrinking.{sorted, keyNumberRecords, ceilingRecords, senderRecords, shrunkRecords, shrunk}
-use Rattle.journal.specs.Claims.{Fits, lastOf}
+use Rattle.journal.specs.Claims.{lastOf}
 use Rattle.journal.specs.Scan.{frontLength}
 use Rattle.journal.proofs.Appending.{applied-append}
 use Rattle.journal.proofs.ReadBack.{one-record, record-known}
@@ -29,7 +29,7 @@ use Rattle.journal.proofs.ShrunkBytes.{length-ceiling, length-key-numbe
 
 -- ---- records end to end
 
-pub read-all : (rs : List JournalRecord) → AllFit rs → (records (bytesOf rs) ≡ rs) × (unknownKind (bytesOf rs) ≡ false)
+read-all : (rs : List JournalRecord) → AllFit rs → (records (bytesOf rs) ≡ rs) × (unknownKind (bytesOf rs) ≡ false)
 unfolding recordsFrom kindsFrom someUnknown
 read-all [] f = (refl, refl)
 read-all (r ∷ rs) f =
@@ -54,7 +54,7 @@ record-below (JournalRecord.Ceiling c) = kind-below 1 (le 4 c) (omega arith) (le
 record-below (JournalRecord.Sender s c) = kind-below 2 (le 8 s ++ le 4 c) (omega arith) (append-below (le 8 s) (le 4 c) 256 (le-below 8 s) (le-below 4 c))
 record-below (JournalRecord.KeyNumber k) = kind-below 3 (le 1 k) (omega arith) (le-below 1 k)
 
-pub bytes-below : (rs : List JournalRecord) → Below 256 (bytesOf rs)
+bytes-below : (rs : List JournalRecord) → Below 256 (bytesOf rs)
 bytes-below [] i = omega arith
 bytes-below (r ∷ rs) i = append-below (recordBytes r) (bytesOf rs) 256 (record-below r) (bytes-below rs) i
 

@@ -1,9 +1,6 @@
 -- `put_shrunk` meets its contract: the three parts end to end. Assumes nothing.
 use borrow.Author.Needs.{needs}
-use mathlib.Core.Path.{_≡_, refl, _∙_}
-use Prim.Native.Nat.{_+_, _≤_}
 use native.Mathlib.Omega.{arith}
-use lib.ListN.{length}
 use Rattle.octets.proofs.Strings.{over-three}
 use Rattle.journal.proofs.shrunk.put_shrunk.Statement.{statement}
 use Rattle.journal.proofs.shrunk.put_shrunk.Tie as tie
