@@ -1,16 +1,24 @@
 //! A journal in a file, kept so that no counter is handed out twice, whatever byte the power fails at.
-use crate::{recover, write_record, Eui64, JournalRecord, Refusal, SenderRecord, Senders, MAX_JOURNAL_RECORD};
+use crate::{
+    recover, write_record, Eui64, JournalRecord, Refusal, SenderRecord, Senders, MAX_JOURNAL_RECORD, MAX_SHRUNK_JOURNAL,
+};
 use core::error::Error;
 use core::fmt;
 use std::fs::{self, File, OpenOptions};
 use std::io::{self, ErrorKind, Read};
 use std::os::fd::AsRawFd;
-use std::os::unix::fs::FileExt;
-use std::path::Path;
+use std::os::unix::fs::{FileExt, MetadataExt, OpenOptionsExt};
+use std::path::{Path, PathBuf};
 use std::vec::Vec;
 
 /// The last counter that is handed out: sealing refuses the one behind it.
 const LAST_COUNTER: u32 = 0xFFFF_FFFE;
+
+/// What the name of the file has behind the journal's in which a shrunk journal is made ready.
+const BESIDE: &str = ".shrunk";
+
+/// How often opening tries again where the file that it has opened lost its name before it was locked.
+const TRIES: usize = 100;
 
 /// A journal in a file of its own: outgoing counters, the counters of senders and the key number, as they survive a power cut.
 ///
@@ -44,24 +52,26 @@ const LAST_COUNTER: u32 = 0xFFFF_FFFE;
 /// ```
 ///
 /// The file is locked while it is open, so that no two processes hand out counters from it, and the lock is gone with the process. It
-/// only grows, by 5, 13 or 2 bytes a record, and each call looks at all of it.
+/// grows by 5, 13 or 2 bytes a record, and each call looks at all of it, until [`Self::shrink`] puts a short one in its place.
 #[derive(Debug)]
 pub struct JournalFile {
     /// It has the records of `journal` on disk and nothing behind them, unless writing has stopped.
     file: Locked,
+    /// Where the file is, whatever folder the process works in later: no link, and no link on the way.
+    path: PathBuf,
     journal: Vec<u8>,
     step: u32,
     last: u32,
     ceiling: u32,
     key_number: Option<u8>,
-    /// A record may be on disk in part, or only in memory.
+    /// A record may be on disk in part, or only in memory, or a cut could bring a journal back that was shrunk.
     stopped: bool,
 }
 
 impl JournalFile {
     /// Opens the journal of this path, or begins an empty one, and recovers it into the list of senders, which is filled anew
-    /// ([`recover`]). An incomplete last record is cut off. When this returns, all that was recovered is on disk, and so is the name
-    /// of a file that is new. A `step` of 0 counts as 1.
+    /// ([`recover`]). An incomplete last record is cut off. When this returns, all that was recovered is on disk, and so is the
+    /// file's name. A `step` of 0 counts as 1.
     ///
     /// # Errors
     ///
@@ -72,12 +82,7 @@ impl JournalFile {
         step: u32,
         senders: &mut Senders<Places>,
     ) -> Result<Self, JournalError> {
-        let path = path.as_ref();
-        let file = OpenOptions::new().read(true).write(true).create(true).truncate(false).open(path)?;
-        if !file.metadata()?.is_file() {
-            return Err(io::Error::new(ErrorKind::InvalidInput, "a journal has to be a regular file").into());
-        }
-        let file = Locked::new(file)?;
+        let (file, path) = Locked::open(path.as_ref())?;
         let mut journal = Vec::new();
         (&file.0).read_to_end(&mut journal)?;
         let recovered = recover(&journal, senders)?;
@@ -87,11 +92,10 @@ impl JournalFile {
         }
         // On disk before anything is written behind it: else a cut could leave bytes of the incomplete record behind the next one.
         file.0.sync_all()?;
-        if journal.is_empty() {
-            sync_name(path)?;
-        }
-        let (last, ceiling) = (recovered.ceiling, recovered.ceiling);
-        Ok(Self { file, journal, step: step.max(1), last, ceiling, key_number: recovered.key_number, stopped: false })
+        // The name too, each time: who made the file, or put a shrunk journal in its place, may have been cut off before that.
+        folder(&path)?.sync_all()?;
+        let (step, last, ceiling) = (step.max(1), recovered.ceiling, recovered.ceiling);
+        Ok(Self { file, path, journal, step, last, ceiling, key_number: recovered.key_number, stopped: false })
     }
 
     /// The next outgoing counter, one more than the last. A ceiling that covers it is on disk when this returns; where there is none
@@ -151,6 +155,53 @@ impl JournalFile {
         self.append(JournalRecord::KeyNumber(number))
     }
 
+    /// Puts the shortest journal that recovers to the same in this one's place ([`shrink`](crate::shrink)), and gives how many bytes
+    /// that saves. Where it saves none nothing is written. The last counter stays what it was, and the next one goes on behind it.
+    ///
+    /// The shrunk journal is written to a file beside this one, whose name has `.shrunk` behind the journal's, and takes the
+    /// journal's name in one step when it is on disk as a whole. So a cut leaves the old journal or the new one. What it leaves of
+    /// the file beside counts for nothing, and the next shrinking removes it, as it does any file of that name.
+    ///
+    /// The journal is another file then, with the old one's permissions. Its owner is the process's. A hard link still names the old
+    /// one, which is no journal to hand out counters from any more. Of a symbolic link the file that it points to is replaced.
+    ///
+    /// ```
+    /// use store_reader::{Eui64, JournalError, JournalFile, Senders};
+    ///
+    /// let path = std::env::temp_dir().join(format!("store-reader-{}-shrunk.journal", std::process::id()));
+    /// let mut journal = JournalFile::open(&path, 1000, &mut Senders::new())?;
+    /// assert_eq!(journal.next_counter()?, 1);
+    /// for counter in 1..=100 {
+    ///     journal.note_sender(Eui64::from(7), counter)?;
+    /// }
+    ///
+    /// // A ceiling and a hundred counters of one sender, of which the last one is left.
+    /// assert_eq!(journal.records().len(), 5 + 100 * 13);
+    /// assert_eq!(journal.shrink()?, 99 * 13);
+    /// assert_eq!(journal.next_counter()?, 2);
+    /// # drop(journal);
+    /// # std::fs::remove_file(&path)?;
+    /// # Ok::<(), JournalError>(())
+    /// ```
+    ///
+    /// # Errors
+    ///
+    /// An error of the system before the new file has the journal's name: the old journal stands and goes on being used. If there is
+    /// one behind that, a cut could still bring the old journal back, and from then on it is [`JournalError::Stopped`].
+    pub fn shrink(&mut self) -> Result<usize, JournalError> {
+        if self.stopped {
+            return Err(JournalError::Stopped);
+        }
+        let mut out = [0; MAX_SHRUNK_JOURNAL];
+        let length = crate::shrink(&self.journal, &mut out)?;
+        let shrunk = out.get(..length).ok_or(Refusal::INTERNAL)?;
+        let saved = self.journal.len().saturating_sub(length);
+        if saved > 0 {
+            self.replace(shrunk)?;
+        }
+        Ok(saved)
+    }
+
     /// The counter that was handed out last, or after opening the ceiling that was recovered.
     #[must_use]
     pub fn last_counter(&self) -> u32 {
@@ -196,13 +247,50 @@ impl JournalFile {
         }
         Ok(())
     }
+
+    /// Puts a file of these records in the journal's place. They recover to what the journal does.
+    fn replace(&mut self, records: &[u8]) -> io::Result<()> {
+        let mut beside = self.path.clone().into_os_string();
+        beside.push(BESIDE);
+        let (beside, folder) = (Path::new(&beside), folder(&self.path)?);
+        let file = self.write_beside(beside, records).and_then(|file| self.rename(beside).map(|()| file));
+        let file = file.inspect_err(|_| drop(fs::remove_file(beside)))?;
+        // Until the folder has the new file under the journal's name, a cut could bring the old one back without what is appended.
+        self.stopped = true;
+        folder.sync_all()?;
+        self.stopped = false;
+        (self.file, self.journal) = (file, records.to_vec());
+        Ok(())
+    }
+
+    /// A file of these records, on disk, locked before it can have the journal's name, and with the journal's permissions. One that is
+    /// there already, or a link, is removed and not written to.
+    fn write_beside(&self, beside: &Path, records: &[u8]) -> io::Result<Locked> {
+        match fs::remove_file(beside) {
+            Err(error) if error.kind() != ErrorKind::NotFound => return Err(error),
+            _ => {}
+        }
+        let file = OpenOptions::new().read(true).write(true).create_new(true).mode(0o600).open(beside)?;
+        let file = Locked::new(file)?;
+        file.0.set_permissions(self.file.0.metadata()?.permissions())?;
+        file.0.write_all_at(records, 0)?;
+        file.0.sync_all()?;
+        Ok(file)
+    }
+
+    /// Gives a file the journal's name, unless somebody has put another file there.
+    fn rename(&mut self, beside: &Path) -> io::Result<()> {
+        if !self.file.is_at(&self.path)? {
+            return Err(io::Error::other("another file has the journal's name"));
+        }
+        // What is reported as failed may yet be done, as over a network: the old journal goes on only where it still has the name.
+        fs::rename(beside, &self.path).inspect_err(|_| self.stopped = !matches!(self.file.is_at(&self.path), Ok(true)))
+    }
 }
 
-/// Waits until the folder that a file is in has the file's name on disk: a cut could else lose the whole file, and counters would
-/// start again.
-fn sync_name(path: &Path) -> io::Result<()> {
-    let path = fs::canonicalize(path)?;
-    path.parent().map_or(Ok(()), |folder| File::open(folder)?.sync_all())
+/// The folder that a file is in, to be flushed: a cut could else lose the file's name, and counters would start again.
+fn folder(path: &Path) -> io::Result<File> {
+    File::open(path.parent().unwrap_or(path))
 }
 
 /// A file that no other process has locked, and that is unlocked when this goes away, also where a process that is just being started
@@ -216,6 +304,28 @@ impl Locked {
             0 => Ok(Self(file)),
             _ => Err(io::Error::last_os_error()),
         }
+    }
+
+    /// Opens and locks the file of this path, or an empty one that it makes, and gives the path without links. Before it is locked
+    /// another process may have put a shrunk journal in its place: no start would find what is appended to the old file then.
+    fn open(path: &Path) -> io::Result<(Self, PathBuf)> {
+        for _ in 0..TRIES {
+            let file = OpenOptions::new().read(true).write(true).create(true).truncate(false).open(path)?;
+            if !file.metadata()?.is_file() {
+                return Err(io::Error::new(ErrorKind::InvalidInput, "a journal has to be a regular file"));
+            }
+            let (file, path) = (Self::new(file)?, fs::canonicalize(path)?);
+            if file.is_at(&path)? {
+                return Ok((file, path));
+            }
+        }
+        Err(ErrorKind::WouldBlock.into())
+    }
+
+    /// Whether the path itself, and no link at it, names this file.
+    fn is_at(&self, path: &Path) -> io::Result<bool> {
+        let (file, named) = (self.0.metadata()?, fs::symlink_metadata(path)?);
+        Ok((file.dev(), file.ino()) == (named.dev(), named.ino()))
     }
 }
 
@@ -243,8 +353,8 @@ fn locking(file: &File, operation: i32) -> i32 {
 pub enum JournalError {
     /// The codec refused it. The file has not changed.
     Refused(Refusal),
-    /// The system reported an error. If it was in writing, nothing more is written or handed out until the file is opened anew, because
-    /// what is on disk is not known.
+    /// The system reported an error. If it was in writing a record, nothing more is written or handed out until the file is opened
+    /// anew, because what is on disk is not known; if it was in shrinking, [`JournalFile::shrink`] says when.
     Io(io::Error),
     /// An earlier error in writing: the file is to be opened anew.
     Stopped,
@@ -255,7 +365,7 @@ impl fmt::Display for JournalError {
         match self {
             Self::Refused(refusal) => refusal.fmt(f),
             Self::Io(error) => error.fmt(f),
-            Self::Stopped => f.write_str("the journal is to be opened anew: an earlier record may not be on disk"),
+            Self::Stopped => f.write_str("the journal is to be opened anew: what of it is on disk is not known"),
         }
     }
 }

@@ -4,6 +4,7 @@ mod support;
 
 use std::fs;
 use support::command::{root, run, scratch};
+use support::journal_files::bytes;
 use support::model::journal::Entry;
 
 /// The ceiling before the one that was being written, key number 0, and each sender's second counter in the place of its first; 2 and 5
@@ -20,10 +21,6 @@ fn printed(journal: &[u8], options: &[&str]) -> String {
     let ran = run(&[&["journal"], options].concat(), journal);
     assert_eq!((ran.err.as_str(), ran.status), ("", 0), "{journal:02X?}");
     ran.out
-}
-
-fn bytes(entries: &[Entry]) -> Vec<u8> {
-    entries.iter().flat_map(|entry| entry.bytes()).collect()
 }
 
 /// From a file and from standard input, which may be called `-`; the file is as it was.

@@ -11,6 +11,7 @@ pub mod generate;
 pub mod guarded;
 pub mod header_comments;
 pub mod hex;
+pub mod journal_files;
 pub mod journal_tally;
 pub mod journals;
 pub mod model;
