@@ -1,23 +1,26 @@
-//! The power is cut for real: a process that keeps its counters in a journal file is killed at random moments, and the file loses a
-//! random part of what was being appended. No counter comes twice, and nothing is lost that the process was told is on disk.
+//! The power is cut for real: a process that keeps its counters in a journal file, and shrinks it now and then, is killed at random
+//! moments. The file loses a random part of what was being appended, or shrinking is undone. No counter comes twice, and nothing is
+//! lost that the process was told is on disk.
 #[allow(dead_code)]
 mod support;
 
 use std::collections::BTreeMap;
 use std::fs::{self, OpenOptions};
 use std::io::{BufRead, BufReader, Write};
+use std::os::unix::fs::MetadataExt;
 use std::path::{Path, PathBuf};
 use std::process::{Command, Stdio};
 use std::thread::sleep;
 use std::time::Duration;
 use store_reader::{Eui64, JournalError, JournalFile, SenderRecord, Senders};
-use support::command::{scratch, tool};
+use support::command::tool;
+use support::journal_files::{beside, fresh, on_disk, state};
 use support::model::journal::Journal;
 use support::random::Random;
 
 const SEED: u64 = 0xC075;
 /// How often the power is cut.
-const CUTS: usize = 400;
+const CUTS: usize = 600;
 /// How much a process does at most before it waits for its end.
 const STEPS: usize = 60;
 /// The senders whose counters are noted; the key number is kept as one more value behind them.
@@ -27,20 +30,21 @@ const SENDERS: usize = 4;
 const JOURNAL: &str = "STORE_READER_TEST_JOURNAL";
 const LIFE: &str = "STORE_READER_TEST_LIFE";
 
-fn fresh(name: &str) -> PathBuf {
-    let path = scratch(name);
-    let _ = fs::remove_file(&path);
-    path
+/// The other name of a file that is about to be shrunk.
+fn old(path: &Path) -> PathBuf {
+    path.with_extension("old")
 }
 
 // ---- the process
 
-/// A gateway: each line that it reports stands for something that is done, but for `try`.
+/// A gateway: each line that it reports stands for something that is done, but for `try` and `shrinking`.
 ///
 ///   opened LENGTH VALUE..     the records on disk, and what was recovered: each sender's counter, then the key number
 ///   counter N LENGTH          a counter was handed out
 ///   try PLACE VALUE           a value is about to be written
 ///   done PLACE VALUE LENGTH   it is on disk
+///   shrinking LENGTH          the journal is about to be shrunk, and its file has another name besides
+///   shrunk LENGTH             it is done, and so are the records that are left
 fn live(path: &Path, random: &mut Random, report: &mut dyn FnMut(String)) -> Result<(), JournalError> {
     let mut senders = Senders::new();
     let mut journal = JournalFile::open(path, random.between(1, 5) as u32, &mut senders)?;
@@ -51,8 +55,15 @@ fn live(path: &Path, random: &mut Random, report: &mut dyn FnMut(String)) -> Res
     values[SENDERS] = journal.key_number().unwrap_or(0).into();
     let words: Vec<String> = values.iter().map(u32::to_string).collect();
     report(format!("opened {} {}", journal.records().len(), words.join(" ")));
-    for _ in 0..STEPS {
-        match random.below(10) {
+    for step in 0..STEPS {
+        match random.below(11) {
+            which if which == 10 || step == STEPS - 1 => {
+                let _ = fs::remove_file(old(path));
+                fs::hard_link(path, old(path))?;
+                report(format!("shrinking {}", journal.records().len()));
+                journal.shrink()?;
+                report(format!("shrunk {}", journal.records().len()));
+            }
             0..=5 => {
                 let counter = journal.next_counter()?;
                 report(format!("counter {counter} {}", journal.records().len()));
@@ -103,6 +114,8 @@ enum Report {
     Counter { counter: u32, length: u64 },
     Try { place: usize, value: u32 },
     Done { place: usize, value: u32, length: u64 },
+    Shrinking { length: u64 },
+    Shrunk { length: u64 },
 }
 
 impl Report {
@@ -119,6 +132,8 @@ impl Report {
             ("done", [place, value, length]) => {
                 Self::Done { place: *place as usize, value: *value as u32, length: *length }
             }
+            ("shrinking", [length]) => Self::Shrinking { length: *length },
+            ("shrunk", [length]) => Self::Shrunk { length: *length },
             _ => panic!("{line:?}"),
         }
     }
@@ -129,6 +144,11 @@ impl Report {
             _ => None,
         }
     }
+}
+
+/// Whether the journal is being shrunk behind these reports.
+fn is_shrinking(reports: &[Report]) -> bool {
+    matches!(reports.last(), Some(Report::Shrinking { .. }))
 }
 
 /// Starts a gateway over the file, kills it at a random moment, and gives what it had reported.
@@ -142,14 +162,22 @@ fn killed(path: &Path, life: u64, random: &mut Random) -> Vec<Report> {
         .spawn()
         .expect("the gateway starts");
     let mut lines = BufReader::new(child.stderr.take().expect("its reports")).lines();
-    // After so many reports and a moment, or before the first.
-    let reports = if random.percent(8) { 0 } else { random.between(1, 40) };
-    let mut seen: Vec<String> = lines.by_ref().take(reports).map(|line| line.expect("a report")).collect();
-    sleep(Duration::from_micros(random.below(if reports == 0 { 4000 } else { 300 }) as u64));
+    // After so many reports and a moment, before the first, or when the journal is being shrunk.
+    let (reports, moment) = match random.below(100) {
+        0..=7 => (0, 4000),
+        // Disks differ in how long that takes.
+        8..=27 => (usize::MAX, 1 << random.between(5, 13)),
+        _ => (random.between(1, 40), 300),
+    };
+    let mut seen: Vec<Report> = Vec::new();
+    while seen.len() < reports && (reports < usize::MAX || !is_shrinking(&seen)) {
+        seen.push(Report::of(&lines.next().expect("a report").expect("a line")));
+    }
+    sleep(Duration::from_micros(random.below(moment) as u64));
     child.kill().expect("the gateway is there");
     child.wait().expect("the gateway ends");
-    seen.extend(lines.map(|line| line.expect("a report")));
-    seen.iter().map(|line| Report::of(line)).collect()
+    seen.extend(lines.map(|line| Report::of(&line.expect("a line"))));
+    seen
 }
 
 /// What is known of the gateway from its reports.
@@ -187,8 +215,51 @@ impl Known {
                 self.values.insert(*place, (*value, None));
                 self.length = *length;
             }
+            Report::Shrinking { length } | Report::Shrunk { length } => self.length = *length,
         }
     }
+}
+
+/// Cuts that fell on shrinking: all, those that left something of the new file beside the old, those with the new one in its place,
+/// and of these the ones that were undone.
+#[derive(Debug, Default)]
+struct Shrinkings {
+    all: usize,
+    beside: usize,
+    renamed: usize,
+    undone: usize,
+}
+
+impl Shrinkings {
+    /// What can be left where the power fails while a journal of this length is being shrunk: the old one as it was, and of the file
+    /// beside any part; or the whole of the new one in its place, unless the disk had not been told that it has the name.
+    fn cut(&mut self, path: &Path, length: u64, random: &mut Random) {
+        let (old, beside) = (old(path), beside(path));
+        let (before, now) = (on_disk(&old), on_disk(path));
+        assert_eq!(before.len() as u64, length, "the old journal has changed");
+        self.all += 1;
+        if inode(path) == inode(&old) {
+            let Ok(file) = OpenOptions::new().write(true).open(&beside) else { return };
+            self.beside += 1;
+            match random.below(3) {
+                0 => fs::remove_file(&beside).expect("the file beside"),
+                1 => file.set_len(random.below(on_disk(&beside).len() + 1) as u64).expect("a part of it"),
+                _ => {}
+            }
+            return;
+        }
+        self.renamed += 1;
+        assert_eq!(state(&now), state(&before), "{before:02X?} shrunk to {now:02X?}");
+        if random.bit() {
+            self.undone += 1;
+            fs::rename(&old, path).expect("the old journal comes back");
+            fs::write(&beside, &now[..random.between(0, now.len())]).expect("the new one beside it");
+        }
+    }
+}
+
+fn inode(path: &Path) -> u64 {
+    fs::metadata(path).expect("a file").ino()
 }
 
 #[test]
@@ -196,10 +267,15 @@ fn no_counter_comes_twice() {
     let mut random = Random::new(SEED);
     let path = fresh("power-cuts.journal");
     let (mut known, mut inside, mut at_rest, mut before_opening) = (Known::default(), 0, 0, 0);
+    let mut shrinkings = Shrinkings::default();
     for life in 0..CUTS as u64 {
         let reports = killed(&path, life, &mut random);
         before_opening += usize::from(reports.is_empty());
         reports.iter().for_each(|report| known.note(report));
+        if is_shrinking(&reports) {
+            shrinkings.cut(&path, known.length, &mut random);
+            known.length = on_disk(&path).len() as u64;
+        }
         let Ok(bytes) = fs::read(&path) else { continue };
         // The disk has what was acknowledged, and of what was being appended any part.
         let written = bytes.len() as u64;
@@ -215,10 +291,11 @@ fn no_counter_comes_twice() {
         }
     }
     println!(
-        "{} counters over {CUTS} cuts: {inside} inside a record, {at_rest} at rest, {before_opening} before opening",
+        "{} counters over {CUTS} cuts: {inside} inside a record, {at_rest} at rest, {before_opening} before opening; {shrinkings:?}",
         known.counters
     );
     assert!(inside >= 20 && at_rest >= 20 && known.counters >= 2000, "{inside}, {at_rest}, {}", known.counters);
+    assert!(shrinkings.all >= 60, "{shrinkings:?}");
 }
 
 // ---- a disk that is full
@@ -236,12 +313,17 @@ fn over_a_full_disk(path: &Path) {
     assert!(matches!(journal.reserve(), Err(JournalError::Stopped)));
     assert!(matches!(journal.note_sender(Eui64::from(7), 0), Err(JournalError::Stopped)));
     assert!(matches!(journal.set_key_number(0), Err(JournalError::Stopped)));
+    assert!(matches!(journal.shrink(), Err(JournalError::Stopped)));
     drop(journal);
     let mut senders = Senders::new();
     let mut journal = JournalFile::open(path, 1000, &mut senders).expect("a journal");
     assert_eq!(fs::metadata(path).expect("the file").len(), records as u64);
     assert_eq!(senders.records()[0], SenderRecord::new(Eui64::from(7), 77));
     assert_eq!(journal.next_counter().expect("room for a ceiling"), 1001);
+    // A ceiling and a sender are left, and there is room again.
+    assert_eq!(journal.shrink().expect("a shrunk journal"), 1024 - (5 + 13));
+    journal.note_sender(Eui64::from(7), 78).expect("room for a sender");
+    assert_eq!(journal.next_counter().expect("a counter"), 1002);
 }
 
 #[test]
