@@ -9,7 +9,7 @@ _store_reader() {
     return
   fi
   case $before in
-  --key-file)
+  --key-file | --shrink)
     mapfile -t COMPREPLY < <(compgen -f -- "$word")
     return
     ;;
@@ -20,7 +20,7 @@ _store_reader() {
   read) options="--full --json --csv --by-sender --summary-only --refused --source" ;;
   seal) options="--key --key-file --counter --ieee --key-sequence --json" ;;
   command) options="--full --json --csv --summary-only --refused" ;;
-  journal) options="--json" ;;
+  journal) options="--shrink --json" ;;
   refusals) options="--json --csv" ;;
   *) return ;;
   esac

@@ -35,7 +35,10 @@ pub enum Task {
     Read,
     Seal(Sealing),
     Command,
-    Journal,
+    Journal {
+        /// The file for a shrunk copy.
+        shrink: Option<String>,
+    },
     Refusals,
 }
 
@@ -72,7 +75,7 @@ pub enum Parsed {
 const COMMANDS: [&str; 6] = ["open", "read", "seal", "command", "journal", "refusals"];
 
 /// The options: the commands that have them, whether they take a value, and whether they may be given more than once.
-const OPTIONS: [(&str, &[&str], bool, bool); 15] = [
+const OPTIONS: [(&str, &[&str], bool, bool); 16] = [
     ("--key", &["open", "seal"], true, true),
     ("--key-file", &["open", "seal"], true, true),
     ("--full", &["open", "read", "command"], false, false),
@@ -86,6 +89,7 @@ const OPTIONS: [(&str, &[&str], bool, bool); 15] = [
     ("--ieee", &["seal"], true, false),
     ("--counter", &["seal"], true, false),
     ("--key-sequence", &["open", "seal"], true, false),
+    ("--shrink", &["journal"], true, false),
     ("--help", &COMMANDS, false, true),
     ("--version", &COMMANDS, false, true),
 ];
@@ -181,7 +185,7 @@ fn arguments_of(name: &str, given: Given) -> Result<Arguments, String> {
         "seal" => Task::Seal(sealing(&given)?),
         "read" => Task::Read,
         "command" => Task::Command,
-        "journal" => Task::Journal,
+        "journal" => Task::Journal { shrink: given.value("--shrink").map(new_file).transpose()? },
         _ => Task::Refusals,
     };
     let filter = Filter {
@@ -259,6 +263,14 @@ fn sealing(given: &Given) -> Result<Sealing, String> {
         key_sequence: sequence.or(key.sequence).unwrap_or(0),
         key,
     })
+}
+
+/// The name of a file to be written. Standard output has what is printed.
+fn new_file(text: &str) -> Result<String, String> {
+    match text {
+        "" | "-" => Err(format!("--shrink: {text:?} is no name of a file")),
+        name => Ok(name.to_string()),
+    }
 }
 
 fn ieee(text: &str) -> Result<Eui64, String> {

@@ -48,8 +48,8 @@ pub fn run(arguments: &Arguments, colour: bool, out: &mut impl Write) -> Result<
             let run = Run::new(arguments, Summary::new("command", "read", "read"), false);
             run.over(lines(arguments, "command")?, &mut printer, command)
         }
-        Task::Journal => {
-            let answer = recovered(arguments.file.as_deref()).map_err(Failure::Input)?;
+        Task::Journal { shrink } => {
+            let answer = recovered(arguments.file.as_deref(), shrink.as_deref()).map_err(Failure::Input)?;
             Ok(printer.journal(&answer).map(|()| 0)?)
         }
         Task::Seal(sealing) => Ok(seal_each(lines(arguments, "seal")?, sealing, &mut printer)?),
