@@ -1,14 +1,15 @@
-/* Hands out counters that survive a power cut: reserves three at a time in a journal file, and recovers from a cut in the middle of a
- * record.
+/* Hands out counters that survive a power cut: reserves three at a time in a journal file, recovers from a cut in the middle of a
+ * record, and shrinks the journal.
  *
  *   rt staticlib nwk
  *   cc -Wall -Wextra -Iinclude examples/journal.c target/staticlib/libnwk.a -o journal && ./journal
  *
- * Ends with status 0 if every answer was the expected one. A gateway also sees to it that a new file's name is on disk (fsync of the
- * folder) and that no other process has the file (flock), as host/src/journal_file.rs does. */
+ * Ends with status 0 if every answer was the expected one. A gateway also sees to it that no other process has the file (flock), also
+ * while it is replaced, as host/src/journal_file.rs does. */
 #define _XOPEN_SOURCE 700
 #include "nwk.h"
 
+#include <fcntl.h>
 #include <inttypes.h>
 #include <stdio.h>
 #include <stdlib.h>
@@ -17,7 +18,12 @@
 
 #define STEP 3
 
-/* The journal's file, and what is on disk of it. */
+/* The journal's name in its folder, and that of the file in which a shrunk one is made ready. */
+#define NAME "journal"
+#define BESIDE "journal.shrunk"
+
+/* The folder, the journal's file, and what is on disk of it. */
+static int folder;
 static int file;
 static uint8_t journal[1024];
 static size_t length;
@@ -34,7 +40,8 @@ static void must(int holds, const char *what) {
   }
 }
 
-/* After each start: recover, and cut an incomplete record off before anything is appended. */
+/* After each start: recover, and cut an incomplete record off before anything is appended. The folder is flushed too: an earlier
+ * program may have ended between giving the file its name and that. */
 static void start(void) {
   const ssize_t n = pread(file, journal, sizeof journal, 0);
   must(n >= 0 && (size_t)n < sizeof journal, "the journal cannot be read");
@@ -42,7 +49,7 @@ static void start(void) {
   const uint64_t answer = nwk_recover_journal(journal, (size_t)n, senders, NWK_MAX_SENDERS, &complete);
   must(NWK_REFUSAL(answer) == NWK_ACCEPTED, nwk_refusal_text(NWK_REFUSAL(answer)));
   length = (size_t)complete;
-  must(ftruncate(file, (off_t)length) == 0 && fsync(file) == 0, "the journal cannot be shortened");
+  must(ftruncate(file, (off_t)length) == 0 && fsync(file) == 0 && fsync(folder) == 0, "the journal cannot be shortened");
   last = NWK_LENGTH(answer);
   printf("start: ceiling %" PRIu32 ", %zu of %zd bytes are complete records\n", last, length, n);
   for (size_t i = 0; i < NWK_MAX_SENDERS && senders[i].used; i++) {
@@ -75,10 +82,31 @@ static uint32_t next(void) {
   return last;
 }
 
+/* Puts a shorter journal that recovers to the same in the place of this one. It is on disk before it has the journal's name, so a cut
+ * leaves the one or the other, and its name is on disk before anything is appended to it: else a cut could bring the old one back. */
+static void shrink(void) {
+  uint8_t shrunk[NWK_SHRUNK_JOURNAL];
+  const uint64_t answer = nwk_shrink_journal(journal, length, shrunk, sizeof shrunk);
+  const size_t n = NWK_LENGTH(answer);
+  must(NWK_REFUSAL(answer) == NWK_ACCEPTED, nwk_refusal_text(NWK_REFUSAL(answer)));
+  /* What a cut left of an earlier one counts for nothing. */
+  unlinkat(folder, BESIDE, 0);
+  const int beside = openat(folder, BESIDE, O_RDWR | O_CREAT | O_EXCL, 0600);
+  must(beside >= 0 && pwrite(beside, shrunk, n, 0) == (ssize_t)n && fsync(beside) == 0, "no shrunk journal can be written");
+  must(renameat(folder, BESIDE, folder, NAME) == 0 && fsync(folder) == 0, "the journal cannot be replaced");
+  printf("shrunk from %zu to %zu bytes\n", length, n);
+  close(file);
+  file = beside;
+  memcpy(journal, shrunk, n);
+  length = n;
+}
+
 int main(void) {
-  FILE *store = tmpfile();
-  must(store != NULL, "no file for the journal");
-  file = fileno(store);
+  char path[] = "/tmp/journal-XXXXXX";
+  must(mkdtemp(path) != NULL, "no folder for the journal");
+  folder = open(path, O_RDONLY | O_DIRECTORY);
+  file = openat(folder, NAME, O_RDWR | O_CREAT, 0600);
+  must(file >= 0, "no file for the journal");
 
   start();
   for (uint32_t expected = 1; expected <= 4; expected++) {
@@ -96,9 +124,20 @@ int main(void) {
   must(next() == 7, "another counter");
   must(next() == 8, "another counter");
 
+  /* Of three ceilings and a sender the largest ceiling and the sender are left. Counters go on, also after the next start. */
+  shrink();
+  must(next() == 9, "another counter");
+  close(file);
+  file = openat(folder, NAME, O_RDWR);
+  must(file >= 0, "the journal cannot be opened");
+  start();
+  must(next() == 10, "another counter");
+
   /* A byte that is no kind: this is no journal, or one that somebody else has written to. */
   journal[length] = 4;
   const uint64_t answer = nwk_next_counter(journal, length + 1, last);
   printf("refused by %u: %s\n", NWK_REFUSAL(answer), nwk_refusal_text(NWK_REFUSAL(answer)));
+  unlinkat(folder, NAME, 0);
+  rmdir(path);
   return NWK_REFUSAL(answer) != NWK_REFUSED_JOURNAL_KIND;
 }

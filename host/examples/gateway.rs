@@ -1,13 +1,14 @@
 //! The gateway's loop: the frames that the radio hands over at once are opened in one call, each sealed one is asked for by its
 //! sender's last counter and noted, in a journal too, and what does not pass is counted by its number. Clear frames, for which nobody
-//! vouches, go another way than authenticated ones. After a power cut the journal still knows which frames were taken.
+//! vouches, go another way than authenticated ones. After a power cut the journal still knows which frames were taken; a long one is
+//! shrunk then.
 //!
 //!   cargo run --release --example gateway
 use std::collections::BTreeMap;
 use std::path::Path;
 use store_reader::{
     hex, open_burst, ClearFrame, JournalError, JournalFile, Key, NwkCommand, NwkPayload, Opened, OpenedFrame,
-    OpenedRecord, Refusal, Senders, MAX_BURST, MAX_BURST_OUTPUT, MAX_FRAME,
+    OpenedRecord, Refusal, Senders, MAX_BURST, MAX_BURST_OUTPUT, MAX_FRAME, MAX_SHRUNK_JOURNAL,
 };
 
 /// The number of the network key in use.
@@ -26,6 +27,9 @@ const HEARD: [&str; 6] = [
 /// Outgoing counters are reserved so many at a time.
 const STEP: u32 = 1000;
 
+/// A journal that is longer is shrunk at a start: it has then at least twice the bytes that it needs.
+const WORTH_SHRINKING: usize = 2 * MAX_SHRUNK_JOURNAL;
+
 /// Each sender's last counter, in memory and on disk, why frames did not pass, and how many were clear.
 struct Gateway {
     senders: Senders,
@@ -35,10 +39,16 @@ struct Gateway {
 }
 
 impl Gateway {
-    /// Starts with what the journal says.
+    /// Starts with what the journal says. One that cannot be shrunk is used as it is; where that is not safe the next call says so.
     fn start(journal: &Path) -> Result<Self, JournalError> {
         let mut senders = Senders::new();
-        let journal = JournalFile::open(journal, STEP, &mut senders)?;
+        let mut journal = JournalFile::open(journal, STEP, &mut senders)?;
+        if journal.records().len() > WORTH_SHRINKING {
+            match journal.shrink() {
+                Ok(saved) => println!("the journal is {saved} bytes shorter"),
+                Err(error) => println!("the journal is not shrunk: {error}"),
+            }
+        }
         Ok(Self { senders, journal, refused: BTreeMap::new(), clear: 0 })
     }
 
