@@ -208,6 +208,7 @@ void print_stack_use(void) {
       {"nwk_recover_journal", over_journals, recover_journal},
       {"nwk_write_journal_record", over_journals, write_journal_record},
       {"nwk_next_counter", over_journals, next_counter},
+      {"nwk_shrink_journal", over_journals, shrink_journal},
       {"nwk_payload_kind", over_messages, payload_kind},
       {"nwk_read_command", over_commands, read_command},
       {"nwk_write_command", over_commands, write_command},

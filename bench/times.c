@@ -185,7 +185,7 @@ void times_of_senders(void) {
 /* A row of a call on a journal. */
 static struct row journal_row(const char *label, call *run, struct journal *j) {
   struct row row = {.jobs = {{.run = run, .input = j}}};
-  snprintf(row.label, sizeof row.label, "%s, %zu bytes", label, j->length);
+  snprintf(row.label, sizeof row.label, "%s, %zu records", label, j->records);
   return row;
 }
 
@@ -202,6 +202,8 @@ void times_of_journals(void) {
       journal_row("nwk_write_journal_record", write_journal_record, &longer),
       journal_row("nwk_next_counter", next_counter, &shorter),
       journal_row("nwk_next_counter", next_counter, &longer),
+      journal_row("nwk_shrink_journal", shrink_journal, &shorter),
+      journal_row("nwk_shrink_journal", shrink_journal, &longer),
   };
   alone("A journal of 64 senders", "call, journal", rows, sizeof rows / sizeof rows[0]);
 }

@@ -14,7 +14,7 @@ void times_alone(void);
 /* Asking, noting and forgetting in a list of 64 senders. */
 void times_of_senders(void);
 
-/* Recovery, writing and the next counter over journals of two lengths. */
+/* Recovery, writing, the next counter and shrinking over journals of two lengths. */
 void times_of_journals(void);
 
 /* Bursts of 16 frames beside 16 calls of opening. */
