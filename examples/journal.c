@@ -102,7 +102,7 @@ static void shrink(void) {
 }
 
 int main(void) {
-  char path[] = "/tmp/journal-XXXXXX";
+  char path[] = P_tmpdir "/journal-XXXXXX";
   must(mkdtemp(path) != NULL, "no folder for the journal");
   folder = open(path, O_RDONLY | O_DIRECTORY);
   file = openat(folder, NAME, O_RDWR | O_CREAT, 0600);

@@ -43,8 +43,8 @@
 extern "C" {
 #endif
 
-#define NWK_VERSION "0.7.0"
-#define NWK_VERSION_NUMBER 0x000700
+#define NWK_VERSION "0.8.0"
+#define NWK_VERSION_NUMBER 0x000800
 
 #ifdef __cplusplus
 #define NWK_CAST(type, value) static_cast<type>(value)
@@ -470,7 +470,8 @@ uint64_t nwk_next_counter(const uint8_t *journal, size_t journal_len, uint32_t l
  * Afterwards out holds the shrunk journal in its first bytes. The journal is as it was.
  * The shrunk journal may take the journal's place if nothing was appended meanwhile. Write it beside the journal, wait until the store
  * has it whole, put it in the journal's place in one step, such as renaming a file, and wait until the store has it so: only then
- * append to it. A cut before that step leaves the old journal. The last counter stays what it was, and none is handed out twice. */
+ * append to it, also after a start, since the program before may have ended in between. A cut before that step leaves the old
+ * journal. The last counter stays what it was, and none is handed out twice. */
 uint64_t nwk_shrink_journal(const uint8_t *journal, size_t journal_len, uint8_t *out, size_t out_len);
 
 /* ---- commands */
