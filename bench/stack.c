@@ -135,7 +135,7 @@ static size_t over_senders(call *run) {
   return most;
 }
 
-/* A journal of 64 senders, whole, cut after each byte of its last record, and with a byte that is no kind. */
+/* A journal of 64 senders, whole, without up to twelve of its last bytes, and with a byte that is no kind. */
 static size_t over_journals(call *run) {
   static struct journal j;
   make_journal(&j, SHORT_JOURNAL);
