@@ -22,6 +22,13 @@ pub const SENDER: u8 = 2;
 
 pub const KEY_NUMBER: u8 = 3;
 
+// The length of a record of each kind.
+pub const CEILING_LENGTH: usize = 5;
+
+pub const SENDER_LENGTH: usize = 13;
+
+pub const KEY_NUMBER_LENGTH: usize = 2;
+
 // A ceiling; a sender, its first wire byte lowest, and its counter; an active key number.
 pub enum JournalRecord {
     Ceiling(u32),
@@ -108,9 +115,9 @@ pub fn record_length(r: JournalRecord) -> usize
     ensures { λ n. ⌜ n ≡ length (recordBytes r) ⌝ }
 {
     match r {
-        JournalRecord::Ceiling(_) => 5,
-        JournalRecord::Sender(_, _) => 13,
-        JournalRecord::KeyNumber(_) => 2,
+        JournalRecord::Ceiling(_) => CEILING_LENGTH,
+        JournalRecord::Sender(_, _) => SENDER_LENGTH,
+        JournalRecord::KeyNumber(_) => KEY_NUMBER_LENGTH,
     }
 }
 

@@ -1,5 +1,8 @@
 // The shrunk journal, from what a pass gathered and the sorted senders.
 use crate::OptionKeyNumber;
+use crate::format::CEILING_LENGTH;
+use crate::format::KEY_NUMBER_LENGTH;
+use crate::format::SENDER_LENGTH;
 use crate::format::put_ceiling;
 use crate::format::put_key_number;
 use crate::format::put_sender;
@@ -21,7 +24,7 @@ fn ceiling_length(ceiling: u32) -> usize
     if ceiling == 0 {
         return 0;
     }
-    5
+    CEILING_LENGTH
 }
 
 // The length of the records before the senders.
@@ -31,7 +34,7 @@ fn front_length(key_number: OptionKeyNumber, ceiling: u32) -> usize
     let length = ceiling_length(ceiling);
     match key_number {
         OptionKeyNumber::Absent => length,
-        OptionKeyNumber::Present(_) => length + 2,
+        OptionKeyNumber::Present(_) => length + KEY_NUMBER_LENGTH,
     }
 }
 
@@ -47,7 +50,7 @@ pub fn shrink_refusal(scanned: Scanned, room: usize) -> u8
     }
     let key_number = scanned.key_number;
     let front = front_length(key_number, scanned.ceiling);
-    if room < front + 13 * scanned.senders {
+    if room < front + SENDER_LENGTH * scanned.senders {
         return refusals::NO_ROOM;
     }
     0
@@ -62,7 +65,7 @@ fn put_known_key_number(out: &mut [u8], at: usize, key_number: OptionKeyNumber) 
         OptionKeyNumber::Absent => at,
         OptionKeyNumber::Present(k) => {
             put_key_number(out, at, k);
-            at + 2
+            at + KEY_NUMBER_LENGTH
         }
     }
 }
@@ -76,7 +79,7 @@ fn put_some_ceiling(out: &mut [u8], at: usize, ceiling: u32) -> usize
         return at;
     }
     put_ceiling(out, at, ceiling);
-    at + 5
+    at + CEILING_LENGTH
 }
 
 // Write the records of the first n senders from a place on.
@@ -86,7 +89,7 @@ fn put_senders(out: &mut [u8], at: usize, addresses: &[u64], counters: &[u32], n
 {
     let mut i = 0;
     while i < n {
-        put_sender(out, at + 13 * i, addresses[i], counters[i]);
+        put_sender(out, at + SENDER_LENGTH * i, addresses[i], counters[i]);
         i += 1;
     }
 }
@@ -100,5 +103,5 @@ pub fn put_shrunk(out: &mut [u8], scanned: Scanned, addresses: &[u64], counters:
     let ceiling_at = put_known_key_number(out, 0, key_number);
     let senders_at = put_some_ceiling(out, ceiling_at, scanned.ceiling);
     put_senders(out, senders_at, addresses, counters, scanned.senders);
-    senders_at + 13 * scanned.senders
+    senders_at + SENDER_LENGTH * scanned.senders
 }
