@@ -275,8 +275,9 @@ fn no_counter_is_handed_out_twice() {
 }
 
 /// "Recovers to the same ceiling, senders with their counters, and key number or none": and hands out the same
-/// counters. A shrunk journal has no more bytes than the complete records, shrinks to itself, and recovers to something
-/// else without any one of its records. What recovery into 64 places refuses is refused by the same number.
+/// counters, and takes the same records. A shrunk journal has no more bytes than the complete records, shrinks to
+/// itself, and recovers to something else without any one of its records. What recovery into 64 places refuses is
+/// refused by the same number.
 #[test]
 fn a_shrunk_journal_recovers_to_the_same() {
     let mut random = Random::new(SEED + 5);
@@ -294,8 +295,9 @@ fn a_shrunk_journal_recovers_to_the_same() {
         assert_eq!((after.kept(), after.complete), (before.kept(), short.len() as u64));
         assert!(after.complete <= before.complete, "{} bytes from {}", after.complete, before.complete);
         assert_eq!(shrunk(&short).as_ref(), Some(&short));
-        let next = generate::next(&journal, &mut random);
-        assert_eq!(perform(&next, &short, &[], 0x3C), perform(&next, &journal, &[], 0x3C));
+        for request in [generate::next(&journal, &mut random), generate::write(&journal, &mut random)] {
+            assert_eq!(perform(&request, &short, &[], 0x3C), perform(&request, &journal, &[], 0x3C));
+        }
         let records = Journal::of(&short).entries;
         for left_out in 0..records.len() {
             let rest = [&records[..left_out], &records[left_out + 1..]].concat();

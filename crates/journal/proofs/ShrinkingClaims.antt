@@ -4,6 +4,7 @@ use mathlib.Core.Bool.{false}
 use mathlib.Core.List.{List}
 use Prim.Native.Nat.{ℕ, zero, suc, _≤_}
 use native.Mathlib.Omega.{arith}
+use lib.Dec.{leb}
 use lib.ListN.{length}
 use borrow.Author.Tests.{ltb-false, le-ltb}
 use Rattle.octets.specs.Refusals.{unless, firstOf}
@@ -17,16 +18,18 @@ use Rattle.senders.specs.Senders.{stored}
 use Rattle.journal.specs.declared.Recovered.{Recovered}
 use Rattle.journal.specs.Format.{records, unknownKind, bytesOf}
 use Rattle.journal.specs.Recovery.{stateOf, recoverRefusal, recoverGiven, recoverNothing, recoverAnswer, recoveredList}
+use Rattle.journal.specs.Writing.{recordOfKind, writeRefusal, writeRecord, nextRefusal, nextCounter}
 use Rattle.journal.specs.Shrinking.{shrunkRecords, shrunk, shrinkRefusal, shrink}
-use Rattle.journal.specs.Life.{given}
-use Rattle.journal.specs.ShrinkingClaims.{SameState, RecoversTheSame, RisingAddressBytes, NoneIsShorter, NeverLonger, SameStateSameBytes, ShrunkTwice}
+use Rattle.journal.specs.Life.{Writing, writes, given}
+use Rattle.journal.specs.ShrinkingClaims.{SameState, RecoversTheSame, AnswersTheSame, RisingAddressBytes, NoneIsShorter, NeverLonger, SameStateSameBytes, ShrunkTwice}
 use Rattle.journal.specs.Scan.{frontLength}
 use Rattle.journal.proofs.Appending.{complete-within}
+use Rattle.journal.proofs.Gathered.{covered}
 use Rattle.journal.proofs.SendersOnce.{once-state, stored-counter}
 use Rattle.journal.proofs.Sorting.{rising-sorted}
 use Rattle.journal.proofs.InRange.{state-fits}
 use Rattle.journal.proofs.ShrunkBytes.{length-ceiling, length-key-number, length-shrunk}
-use Rattle.journal.proofs.ShrunkState.{Alike, records-alike, number-alike, shrunk-read, shrunk-complete, shrunk-alike, shrunk-below, shrunk-within}
+use Rattle.journal.proofs.ShrunkState.{Alike, records-alike, number-alike, shrunk-read, shrunk-complete, shrunk-alike, shrunk-below, shrunk-within, length-after}
 
 -- ---- shrinking that is not refused
 
@@ -54,41 +57,52 @@ module _ (j o : List ℕ) (z : shrink j o .answer .refusal ≡ 0) where
   unfolding shrinkRefusal
   few = ltb-false 64 (length (stateOf j .senders)) (none _ not-refused .1 .0)
 
--- ---- recovering two journals
+-- ---- two journals with alike states, both known
 
--- of journals with alike states, both known, the same is recovered
-module _ (j k : List ℕ) (l : List SenderRecord) (a : Alike (stateOf j) (stateOf k)) (n : length (stateOf k .senders) ≡ length (stateOf j .senders))
-    (u : unknownKind j ≡ false) (v : unknownKind k ≡ false) where
-  same-refusal : recoverRefusal k (length l) ≡ recoverRefusal j (length l)
-  unfolding recoverRefusal
-  same-refusal = rw (u, v, n) refl
+module _ (j k : List ℕ) (a : Alike (stateOf j) (stateOf k)) (n : length (stateOf k .senders) ≡ length (stateOf j .senders)) (u : unknownKind j ≡ false)
+    (v : unknownKind k ≡ false) where
+  same-next : (last : ℕ) → nextCounter k last ≡ nextCounter j last
+  unfolding nextCounter nextRefusal
+  same-next last = let e = sym (covered k last) ∙ ap (λ (c : ℕ). leb c last) (a .ceiling) ∙ covered j last in rw (u, v, e) refl
 
-  -- a value of the answers
-  same-value : {A : Type 0} (value : Recovered → A) → value (recoverGiven k) ≡ value (recoverGiven j)
-      → value (recoverAnswer k (length l)) ≡ value (recoverAnswer j (length l))
-  unfolding recoverAnswer unless
-  same-value value e = rw same-refusal (by (recoverRefusal j (length l)))
-    where
-      by : (m : ℕ) → value (unless m (recoverGiven k) (recoverNothing m)) ≡ value (unless m (recoverGiven j) (recoverNothing m))
-      by zero = e
-      by (suc m) = refl
+  same-writes : (w : Writing) → writes k w ≡ writes j w
+  unfolding writeRecord writeRefusal
+  same-writes w =
+      let r = recordOfKind (w .kind) (w .sender) (w .counter) (w .keyNumber) in
+      rw (u, v, length-after r (stateOf k .senders) (stateOf j .senders) n (a .counters)) refl
 
-  same-senders : (s : ℕ) → stored s (recoveredList k l) ≡ stored s (recoveredList j l)
-  unfolding recoveredList unless
-  same-senders s = by (recoverRefusal j (length l)) refl
-    where
-      by : (m : ℕ) → recoverRefusal j (length l) ≡ m → stored s (recoveredList k l) ≡ stored s (recoveredList j l)
-      by zero e = stored-counter k l (same-refusal ∙ e) s ∙ a .counters s ∙ sym (stored-counter j l e s)
-      by (suc m) e = rw (same-refusal, e) refl
+  -- recovered into a list
+  module _ (l : List SenderRecord) where
+    same-refusal : recoverRefusal k (length l) ≡ recoverRefusal j (length l)
+    unfolding recoverRefusal
+    same-refusal = rw (u, v, n) refl
 
-  same-state : SameState j k l
-  same-state =
-      record {
-        refusal = same-refusal;
-        ceiling = same-value (λ (r : Recovered). r .ceiling) (a .ceiling);
-        keyNumber = same-value (λ (r : Recovered). r .«key_number») (a .keyNumber);
-        senders = same-senders;
-      }
+    -- a value of the answers
+    same-value : {A : Type 0} (value : Recovered → A) → value (recoverGiven k) ≡ value (recoverGiven j)
+        → value (recoverAnswer k (length l)) ≡ value (recoverAnswer j (length l))
+    unfolding recoverAnswer unless
+    same-value value e = rw same-refusal (by (recoverRefusal j (length l)))
+      where
+        by : (m : ℕ) → value (unless m (recoverGiven k) (recoverNothing m)) ≡ value (unless m (recoverGiven j) (recoverNothing m))
+        by zero = e
+        by (suc m) = refl
+
+    same-senders : (s : ℕ) → stored s (recoveredList k l) ≡ stored s (recoveredList j l)
+    unfolding recoveredList unless
+    same-senders s = by (recoverRefusal j (length l)) refl
+      where
+        by : (m : ℕ) → recoverRefusal j (length l) ≡ m → stored s (recoveredList k l) ≡ stored s (recoveredList j l)
+        by zero e = stored-counter k l (same-refusal ∙ e) s ∙ a .counters s ∙ sym (stored-counter j l e s)
+        by (suc m) e = rw (same-refusal, e) refl
+
+    same-state : SameState j k l
+    same-state =
+        record {
+          refusal = same-refusal;
+          ceiling = same-value (λ (r : Recovered). r .ceiling) (a .ceiling);
+          keyNumber = same-value (λ (r : Recovered). r .«key_number») (a .keyNumber);
+          senders = same-senders;
+        }
 
 -- and where two are recovered to the same, with room for it, their states are alike
 module _ (j k : List ℕ) (l : List SenderRecord) (z : recoverRefusal j (length l) ≡ 0) (s : SameState j k l) where
@@ -131,8 +145,16 @@ recovers-the-same j o l b z =
     rw (given-shrunk j o z)
     (let k = shrunk j in
     let a = shrunk-alike j b in
-    let s = same-state j k l a (same-number j k b (shrunk-below j) a) (known j o z) (shrunk-read j b .1) in
+    let s = same-state j k a (same-number j k b (shrunk-below j) a) (known j o z) (shrunk-read j b .1) l in
     (s, λ e. ap (λ (r : Recovered). r .complete) (given-of j k l e s k (both j k l e s)) ∙ shrunk-complete j b))
+
+pub answers-the-same : AnswersTheSame
+answers-the-same j o b z =
+    rw (given-shrunk j o z)
+    (let k = shrunk j in
+    let a = shrunk-alike j b in
+    let n = same-number j k b (shrunk-below j) a in
+    (same-next j k a n (known j o z) (shrunk-read j b .1), same-writes j k a n (known j o z) (shrunk-read j b .1)))
 
 pub rising-address-bytes : RisingAddressBytes
 rising-address-bytes j o b z =

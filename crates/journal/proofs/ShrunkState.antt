@@ -145,6 +145,32 @@ module _ (g h : State) (a : Alike g h) (o : Once (g .senders)) (p : Once (h .sen
   pub number-alike : length (h .senders) ≡ length (g .senders)
   number-alike = sym (length-sorted (h .senders)) ∙ ap length sorted-alike ∙ length-sorted (g .senders)
 
+-- ---- how many senders there are with one more record
+
+-- one more, where the sender was none of them
+with-one : OptionCounter → ℕ → ℕ
+with-one OptionCounter.Absent n = suc n
+with-one (OptionCounter.Present c) n = n
+
+with-one-suc : (o : OptionCounter) (n : ℕ) → suc (with-one o n) ≡ with-one o (suc n)
+unfolding with-one
+with-one-suc OptionCounter.Absent n = refl
+with-one-suc (OptionCounter.Present c) n = refl
+
+length-noted : (s c : ℕ) (l : List SenderRecord) → length (noted s c l) ≡ with-one (counterOf s l) (length l)
+unfolding noted with-one
+length-noted s c [] = refl
+length-noted s c (r ∷ l) =
+    cases (eqb (r .address) s) (λ e. rw e refl) (λ e. rw e (ap suc (length-noted s c l) ∙ with-one-suc (counterOf s l) (length l)))
+
+pub length-after : (r : JournalRecord) (l m : List SenderRecord) → length l ≡ length m → ((s : ℕ) → counterOf s l ≡ counterOf s m)
+    → length (sendersAfter r l) ≡ length (sendersAfter r m)
+unfolding sendersAfter
+length-after (JournalRecord.Ceiling c) l m n same = n
+length-after (JournalRecord.Sender s c) l m n same =
+    length-noted s c l ∙ (λ i. with-one (same s i) (n i)) ∙ sym (length-noted s c m)
+length-after (JournalRecord.KeyNumber k) l m n same = n
+
 -- ---- a journal and the shrunk one
 
 module _ (j : List ℕ) (b : Below 256 j) where

@@ -12,8 +12,9 @@ use Rattle.senders.specs.declared.SenderRecord.{SenderRecord}
 use Rattle.senders.specs.Senders.{stored}
 use Rattle.journal.specs.Format.{records}
 use Rattle.journal.specs.Recovery.{stateOf, recoverRefusal, recoverAnswer, recoveredList}
+use Rattle.journal.specs.Writing.{nextCounter}
 use Rattle.journal.specs.Shrinking.{addressBefore, sorted, shrunkRecords, shrink}
-use Rattle.journal.specs.Life.{given}
+use Rattle.journal.specs.Life.{Writing, writes, given}
 
 -- ---- 1: it recovers to the same
 
@@ -31,6 +32,13 @@ RecoversTheSame =
     (j o : List ℕ) (l : List SenderRecord) → let k = given (shrink j o) in
     Below 256 j → shrink j o .answer .refusal ≡ 0
     → SameState j k l × (recoverRefusal j (length l) ≡ 0 → recoverAnswer k (length l) .complete ≡ length k)
+
+-- and all else that a gateway asks of it is answered as before: the next counter behind any last one, and what the writer answers and
+-- leaves for any record
+abbrev pub AnswersTheSame : Type 0
+AnswersTheSame =
+    (j o : List ℕ) → let k = given (shrink j o) in Below 256 j → shrink j o .answer .refusal ≡ 0
+    → ((last : ℕ) → nextCounter k last ≡ nextCounter j last) × ((w : Writing) → writes k w ≡ writes j w)
 
 -- ---- the order
 
