@@ -173,7 +173,7 @@ none-is-shorter j k o l b d z e s =
 pub never-longer : NeverLonger
 unfolding shrunk frontLength
 never-longer j o z = (
-  omega (arith, length-given j o z, shrunk-within j, complete-within j (known j o z)),
+  omega (arith, length-given j o z, shrunk-within j),
   omega (arith, length-given j o z, length-shrunk (stateOf j), few j o z, length-ceiling (stateOf j .ceiling), length-key-number (stateOf j .keyNumber)),
 )
 

@@ -10,7 +10,7 @@ use Rattle.octets.specs.Strings.{Below}
 use Rattle.octets.specs.Writing.{wrote}
 use Rattle.senders.specs.declared.SenderRecord.{SenderRecord}
 use Rattle.senders.specs.Senders.{stored}
-use Rattle.journal.specs.Format.{records}
+use Rattle.journal.specs.Format.{records, completeLength}
 use Rattle.journal.specs.Recovery.{stateOf, recoverRefusal, recoverAnswer, recoveredList}
 use Rattle.journal.specs.Writing.{nextCounter}
 use Rattle.journal.specs.Shrinking.{addressBefore, sorted, shrunkRecords, shrink}
@@ -69,9 +69,11 @@ NoneIsShorter =
     (j k o : List ℕ) (l : List SenderRecord) → Below 256 j → Below 256 k → shrink j o .answer .refusal ≡ 0
     → recoverRefusal j (length l) ≡ 0 → SameState j k l → shrink j o .answer .length ≤ length k
 
--- it is never longer than the journal, nor than the records of a key number, a ceiling and 64 senders
+-- it is never longer than the complete records of the journal, nor than those of a key number, a ceiling and 64 senders
 abbrev pub NeverLonger : Type 0
-NeverLonger = (j o : List ℕ) → shrink j o .answer .refusal ≡ 0 → (shrink j o .answer .length ≤ length j) × (shrink j o .answer .length ≤ 2 + (5 + 13 * 64))
+NeverLonger =
+    (j o : List ℕ) → shrink j o .answer .refusal ≡ 0
+    → (shrink j o .answer .length ≤ completeLength j) × (shrink j o .answer .length ≤ 2 + (5 + 13 * 64))
 
 -- ---- 3: what is written depends on the state alone
 
