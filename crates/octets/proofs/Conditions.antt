@@ -92,6 +92,35 @@ pub empty : firstOf [] ≡ 0
 unfolding firstOf
 empty = refl
 
+-- ---- a list gone down step by step
+
+-- what is left of the list cs behind the number n, each step looking at what the one before gave
+abbrev pub inTurn : ℕ → List Condition → ℕ
+inTurn n [] = n
+inTurn n (on k b ∷ cs) = inTurn (firstOf (by n ∷ on k b ∷ [])) cs
+inTurn n (by k ∷ cs) = inTurn (firstOf (by n ∷ by k ∷ [])) cs
+
+-- no entry has the number 0, which would refuse nothing
+abbrev pub Numbered : List Condition → Type 0
+Numbered [] = Unit {0}
+Numbered (on zero b ∷ cs) = ⊥
+Numbered (on (suc k) b ∷ cs) = Numbered cs
+Numbered (by k ∷ cs) = Numbered cs
+
+-- the steps give the first number of the list
+pub in-turn : (n : ℕ) (cs : List Condition) → Numbered cs → inTurn n cs ≡ firstOf (by n ∷ cs)
+unfolding firstOf unless
+in-turn zero [] k = refl
+in-turn (suc n) [] k = refl
+in-turn zero (on zero b ∷ cs) k = absurd k
+in-turn zero (on (suc m) true ∷ cs) k = in-turn (suc m) cs k
+in-turn zero (on (suc m) false ∷ cs) k = in-turn zero cs k
+in-turn zero (by zero ∷ cs) k = in-turn zero cs k
+in-turn zero (by (suc m) ∷ cs) k = in-turn (suc m) cs k
+in-turn (suc n) (on zero b ∷ cs) k = absurd k
+in-turn (suc n) (on (suc m) b ∷ cs) k = in-turn (suc n) cs k
+in-turn (suc n) (by m ∷ cs) k = in-turn (suc n) cs k
+
 -- ---- two conditions under one number
 
 pub or-false : (a b : Bool) → (a || b) ≡ false → (a ≡ false) × (b ≡ false)

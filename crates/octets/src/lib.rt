@@ -1,12 +1,15 @@
 // Byte strings: reading with 0 past the end, copying, and numbers least significant byte first.
 
 ghost use mathlib.Core.Path.{_≡_};
+ghost use mathlib.Core.Bool.{_&&_, _||_};
 ghost use mathlib.Core.List.{[], _∷_};
-ghost use Prim.Native.Nat.{_+_, _*_, _≤_, _<_};
+ghost use Prim.Native.Nat.{_+_, _-_, _*_, _≤_, _<_};
+ghost use lib.Dec.{ltb};
 ghost use lib.ListN.{length, getD};
 ghost use Rattle.octets.specs.Strings.{over};
 ghost use Rattle.octets.specs.Numbers.{le, leAt, bytesOf};
 ghost use Rattle.octets.specs.Fields.{bit};
+ghost use Rattle.octets.specs.Refusals.{on, by, firstOf};
 
 pub mod refusals;
 
@@ -14,6 +17,44 @@ pub mod refusals;
 pub struct Written {
     pub refusal: u8,
     pub length: usize,
+}
+
+// One step down an ordered list of refusals: the number given before if there is one, else this one if its condition holds.
+pub fn refuse(before: u8, number: u8, holds: bool) -> u8
+    ensures { λ r. ⌜ r ≡ firstOf (by before ∷ on number holds ∷ []) ⌝ }
+{
+    if before != 0 {
+        return before;
+    }
+    if holds { number } else { 0 }
+}
+
+// Whether both hold; each is looked at.
+pub fn both(a: bool, b: bool) -> bool
+    ensures { λ r. ⌜ r ≡ (a && b) ⌝ }
+{
+    a & b
+}
+
+// Whether one of them holds; each is looked at.
+pub fn either(a: bool, b: bool) -> bool
+    ensures { λ r. ⌜ r ≡ (a || b) ⌝ }
+{
+    a | b
+}
+
+// What is left of a number, 0 where more is taken away than there is.
+pub fn minus(a: usize, b: usize) -> usize
+    ensures { λ r. ⌜ r ≡ a - b ⌝ }
+{
+    if a < b { 0 } else { a - b }
+}
+
+// Whether the sum of two numbers is above a limit. The sum itself may not fit.
+pub fn exceeds(limit: usize, a: usize, b: usize) -> bool
+    ensures { λ r. ⌜ r ≡ ltb limit (a + b) ⌝ }
+{
+    if limit < a { true } else { limit - a < b }
 }
 
 // A byte as a wider number.
