@@ -20,30 +20,19 @@ use Rattle.ccm.specs.Counters.{counterMode}
 use Rattle.ccm.specs.Generation.{encryptedTag, generationEncryption}
 use Rattle.ccm.specs.Verification.{Verified, tagValid, decryptionVerification}
 use Rattle.ccm.proofs.Opening.{length-counterMode}
-use Rattle.ccm.specs.Operations.{micLength, sealedBy, openedBy, expanded, Under, sealRefusal, givenIf}
+use Rattle.ccm.specs.Operations.{micLength, sealedBy, openedBy, openedUnder, expanded, sealRefusal, givenIf}
 
 -- the cipher under expanded round keys is AES-128
 pub cipher-is : (key : List ℕ) (w : List (List (List ℕ))) → w ≡ expanded key → cipher w ≡ aes128 key
 unfolding expanded
 cipher-is key w e = fun-ext (λ b. cipher-aes128 key b e refl)
 
+-- opening under the round keys of a key is opening under the key
+pub opened-under : (t : ℕ) (key : List ℕ) (w : List (List (List ℕ))) (nonce a c mic : List ℕ) → w ≡ expanded key
+    → openedUnder t w nonce a c mic ≡ openedBy t key nonce a c mic
+opened-under t key w nonce a c mic e = ap (λ (f : List ℕ → List ℕ). decryptionVerification t f nonce a c mic) (cipher-is key w e)
+
 -- ---- the refusals in their order
-
-pub data-too-long : (a n room : ℕ) → 127 < a → 1 ≡ sealRefusal a n room
-unfolding sealRefusal firstOf
-data-too-long a n room h = rw (lt-ltb 127 a h) refl
-
-pub payload-too-long : (a n room : ℕ) → a ≤ 127 → 127 < n → 1 ≡ sealRefusal a n room
-unfolding sealRefusal firstOf
-payload-too-long a n room ha h = rw (le-ltb 127 a ha, lt-ltb 127 n h) refl
-
-pub no-room : (a n room : ℕ) → a ≤ 127 → n ≤ 127 → room < n → 18 ≡ sealRefusal a n room
-unfolding sealRefusal firstOf
-no-room a n room ha hn h = rw (le-ltb 127 a ha, le-ltb 127 n hn, lt-ltb room n h) refl
-
-pub no-refusal : (a n room : ℕ) → a ≤ 127 → n ≤ 127 → n ≤ room → 0 ≡ sealRefusal a n room
-unfolding sealRefusal firstOf
-no-refusal a n room ha hn h = rw (le-ltb 127 a ha, le-ltb 127 n hn, le-ltb room n h) refl
 
 -- no refusal: the lengths are within their limits
 pub within : (a n room : ℕ) → sealRefusal a n room ≡ 0 → (a ≤ 127) × (n ≤ 127) × (n ≤ room)
@@ -72,19 +61,13 @@ mode-taken ciph nonce d o p h =
     ∙ take-over o (counterMode ciph nonce d)
 
 module _ (w : List (List (List ℕ))) (nonce a c mic p : List ℕ) (h : p ≡ counterMode (cipher w) nonce c) where
-  -- the payload is the one of the definition
-  payload-is : (key : List ℕ) → w ≡ expanded key → p ≡ counterMode (aes128 key) nonce c
-  payload-is key e = h ∙ ap (λ (f : List ℕ → List ℕ). counterMode f nonce c) (cipher-is key w e)
-
-  pub valid-given : (v : Bool) → v ≡ tagValid micLength (cipher w) nonce a p mic → Under w (λ (key : List ℕ). v ≡ openedBy micLength key nonce a c mic .valid)
+  pub valid-given : (v : Bool) → v ≡ tagValid micLength (cipher w) nonce a p mic → v ≡ openedUnder micLength w nonce a c mic .valid
   unfolding decryptionVerification
-  valid-given v g key e =
-      g ∙ ap (λ (f : List ℕ → List ℕ). tagValid micLength f nonce a p mic) (cipher-is key w e)
-      ∙ ap (λ (x : List ℕ). tagValid micLength (aes128 key) nonce a x mic) (payload-is key e)
+  valid-given v g = g ∙ ap (λ (x : List ℕ). tagValid micLength (cipher w) nonce a x mic) h
 
-  pub payload-given : (v : Bool) (out o : List ℕ) → v ≡ true → o ≡ over out 0 p → Under w (λ (key : List ℕ). o ≡ givenIf v (openedBy micLength key nonce a c mic) out)
+  pub payload-given : (v : Bool) (out o : List ℕ) → v ≡ true → o ≡ over out 0 p → o ≡ givenIf v (openedUnder micLength w nonce a c mic) out
   unfolding decryptionVerification givenIf
-  payload-given v out o t g key e = rw t (g ∙ ap (over out 0) (payload-is key e))
+  payload-given v out o t g = rw t (g ∙ ap (over out 0) h)
 
 pub nothing-given : (v : Bool) (d : Verified) (out : List ℕ) → v ≡ false → out ≡ givenIf v d out
 unfolding givenIf

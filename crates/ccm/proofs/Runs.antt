@@ -12,9 +12,9 @@ use Rattle.octets.proofs.Conditions.{accepted, refused-by, stop, skip, stop-by,
 use Rattle.octets.proofs.Writing.{write-accepted, write-refused}
 use Rattle.aes.specs.Cipher.{aes128}
 use Rattle.ccm.specs.Generation.{generationEncryption}
-use Rattle.ccm.specs.Verification.{decryptionVerification}
-use Rattle.ccm.specs.Operations.{micLength, sealRefusal, SealRun, sealRefused, sealPassed, encryptCcm, openRefusal, givenIf, decryptCcm}
+use Rattle.ccm.specs.Operations.{micLength, openedBy, openedUnder, expanded, sealRefusal, SealRun, sealRefused, sealPassed, encryptCcm, openRefusal, givenIf, decryptCcm}
 use Rattle.ccm.proofs.Opening.{length-ciphertext, length-payload}
+use Rattle.ccm.proofs.Answers.{opened-under}
 
 -- ---- encrypt_ccm
 
@@ -41,19 +41,22 @@ module _ (key nonce a c mic out : List ℕ) where
   unfolding decryptCcm openRefusal
   decrypt-refused n e h = write-refused _ n _ out (e ∙ sym (stop-by _ _ (λ z. h (e ∙ z)))) h
 
-  module _ (o : List ℕ) (v : Bool) (e : sealRefusal (length a) (length c) (length out) ≡ 0)
-      (valid : v ≡ decryptionVerification micLength (aes128 key) nonce a c mic .valid)
-      (h : o ≡ givenIf v (decryptionVerification micLength (aes128 key) nonce a c mic) out) where
+  -- under the round keys w of the key the MIC was found valid or not (v), and o was left
+  module _ (w : List (List (List ℕ))) (o : List ℕ) (v : Bool) (keys : w ≡ expanded key) (e : sealRefusal (length a) (length c) (length out) ≡ 0)
+      (valid : v ≡ openedUnder micLength w nonce a c mic .valid) (h : o ≡ givenIf v (openedUnder micLength w nonce a c mic) out) where
+    same : openedUnder micLength w nonce a c mic ≡ openedBy micLength key nonce a c mic
+    same = opened-under micLength key w nonce a c mic keys
+
     -- opened
     pub decrypt-done : v ≡ true → _≡_ {A = Run} (record { answer = record { refusal = 0; length = length c }; out = o }) (decryptCcm key nonce a c mic out)
     unfolding decryptCcm openRefusal givenIf
     decrypt-done t =
-        (λ i. record { answer = record { refusal = 0; length = sym (length-payload micLength (aes128 key) nonce a c mic) i }; out = (rw t at h) i })
-        ∙ write-accepted _ 0 _ out (sym (skip-by _ _ e ∙ skip 19 _ _ (ap not (sym valid ∙ t)) ∙ empty)) refl
+        (λ i. record { answer = record { refusal = 0; length = sym (length-payload micLength (aes128 key) nonce a c mic) i }; out = (rw (t, same) at h) i })
+        ∙ write-accepted _ 0 _ out (sym (skip-by _ _ e ∙ skip 19 _ _ (ap not (sym (rw same at valid) ∙ t)) ∙ empty)) refl
 
     -- refused by 19
     pub decrypt-not : v ≡ false → wroteNothing 19 o ≡ decryptCcm key nonce a c mic out
     unfolding decryptCcm openRefusal givenIf
     decrypt-not f =
         ap (wroteNothing 19) (rw f at h)
-        ∙ write-refused _ 19 _ out (sym (skip-by _ _ e ∙ stop 19 _ _ (ap not (sym valid ∙ f)))) (λ z. omega arith)
+        ∙ write-refused _ 19 _ out (sym (skip-by _ _ e ∙ stop 19 _ _ (ap not (sym (rw same at valid) ∙ f)))) (λ z. omega arith)

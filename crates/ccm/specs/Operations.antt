@@ -1,7 +1,6 @@
 -- The operations (document 01, CCM and the refusal list): each gives its whole answer and what the lent output holds after,
 -- refusals included. The tag is the 4-byte MIC. A refusal is its number, with length 0, zeros for a MIC and the output as it was.
 -- Assumes nothing.
-use mathlib.Core.Path.{_≡_}
 use mathlib.Core.Bool.{Bool, cond, not}
 use mathlib.Core.List.{List, [], _∷_}
 use Prim.Native.Nat.{ℕ, _-_}
@@ -11,7 +10,7 @@ use Rattle.octets.specs.Strings.{over}
 use Rattle.octets.specs.Refusals.{unless, on, by, firstOf}
 use Rattle.octets.specs.Writing.{Run, written}
 use Rattle.aes.specs.KeyExpansion.{keyExpansion}
-use Rattle.aes.specs.Cipher.{aes128}
+use Rattle.aes.specs.Cipher.{cipher, aes128}
 use Rattle.ccm.specs.Generation.{Generated, generationEncryption}
 use Rattle.ccm.specs.Verification.{Verified, decryptionVerification}
 use Rattle.ccm.specs.declared.{Sealed.Sealed, Split.Split}
@@ -24,20 +23,27 @@ micLength = 4
 abbrev pub blankMic : List ℕ
 blankMic = 0 ∷ 0 ∷ 0 ∷ 0 ∷ []
 
--- the two processes under the key: what the crates above cite
+-- CIPH_K of a key, and of any eleven round keys: what the crates above hand to the two processes
+abbrev pub ciphOf : List ℕ → List ℕ → List ℕ
+ciphOf key = aes128 key
+
+abbrev pub ciphUnder : List (List (List ℕ)) → List ℕ → List ℕ
+ciphUnder w = cipher w
+
+-- the two processes under a key
 abbrev pub sealedBy : ℕ → List ℕ → List ℕ → List ℕ → List ℕ → Generated
-sealedBy t key nonce a p = generationEncryption t (aes128 key) nonce a p
+sealedBy t key nonce a p = generationEncryption t (ciphOf key) nonce a p
 
 abbrev pub openedBy : ℕ → List ℕ → List ℕ → List ℕ → List ℕ → List ℕ → Verified
-openedBy t key nonce a c mic = decryptionVerification t (aes128 key) nonce a c mic
+openedBy t key nonce a c mic = decryptionVerification t (ciphOf key) nonce a c mic
+
+-- the second one under round keys, whatever they are
+abbrev pub openedUnder : ℕ → List (List (List ℕ)) → List ℕ → List ℕ → List ℕ → List ℕ → Verified
+openedUnder t w nonce a c mic = decryptionVerification t (ciphUnder w) nonce a c mic
 
 -- the round keys of a key, for a caller that opens more than once under it
 unfoldable pub expanded : List ℕ → List (List (List ℕ))
 expanded key = keyExpansion key
-
--- a promise made under the round keys w: it is kept of the key that they are expanded from
-abbrev pub Under : List (List (List ℕ)) → (List ℕ → Type 0) → Type 0
-Under w Kept = (key : List ℕ) → w ≡ expanded key → Kept key
 
 -- ---- encrypt_ccm
 

@@ -3,11 +3,10 @@
 use octets::Written;
 use octets::refusals;
 ghost use mathlib.Core.Path.{_≡_};
-ghost use mathlib.Core.List.{List};
-ghost use Prim.Native.Nat.{ℕ, _≤_};
+ghost use Prim.Native.Nat.{_≤_};
 ghost use lib.ListN.{length};
 ghost use Rattle.octets.specs.Strings.{over};
-ghost use Rattle.ccm.specs.Operations.{micLength, sealedBy, openedBy, expanded, Under, sealRefusal, encryptCcm, givenIf, decryptCcm, splitMic};
+ghost use Rattle.ccm.specs.Operations.{micLength, sealedBy, openedUnder, expanded, sealRefusal, encryptCcm, givenIf, decryptCcm, splitMic};
 
 mod counter;
 mod formatting;
@@ -36,16 +35,9 @@ pub struct Split {
 fn refusal(a: usize, n: usize, room: usize) -> u8
     ensures { λ r. ⌜ r ≡ sealRefusal a n room ⌝ }
 {
-    if a > MAX_LENGTH {
-        return refusals::TOO_LONG;
-    }
-    if n > MAX_LENGTH {
-        return refusals::TOO_LONG;
-    }
-    if room < n {
-        return refusals::NO_ROOM;
-    }
-    0
+    let r = octets::refuse(0, refusals::TOO_LONG, MAX_LENGTH < a);
+    let r = octets::refuse(r, refusals::TOO_LONG, MAX_LENGTH < n);
+    octets::refuse(r, refusals::NO_ROOM, room < n)
 }
 
 // The round keys of a key, for a caller that opens more than once under it.
@@ -68,8 +60,8 @@ pub fn seal(key: [u8; 16], nonce: [u8; 13], auth: &[u8], payload: &[u8], out: &m
     mac::encrypted_tag(&table, &keys, nonce, auth, payload)
 }
 
-// Decryption-verification (SP 800-38C, 6.2) under a key's round keys, for a caller that has checked the lengths: whether the
-// MIC is the one computed; only then the payload goes to the front of the output.
+// Decryption-verification (SP 800-38C, 6.2) under any round keys, for a caller that has checked the lengths: whether the MIC is
+// the one computed; only then the payload goes to the front of the output.
 pub fn open_under(
     keys: &[[[u8; 4]; 4]; 11],
     nonce: [u8; 13],
@@ -79,8 +71,8 @@ pub fn open_under(
     out: &mut [u8],
 ) -> bool
     requires { ⌜ (length (now auth) ≤ 127) × (length (now ciphertext) ≤ 127) × (length (now ciphertext) ≤ length (now out)) ⌝ }
-    ensures valid { λ r. ⌜ Under (now (keys .entry)) (λ (key : List ℕ). r ≡ openedBy micLength key nonce (now (auth .entry)) (now (ciphertext .entry)) mic .valid) ⌝ }
-    ensures buffer { λ r. ⌜ Under (now (keys .entry)) (λ (key : List ℕ). now (out .exit) ≡ givenIf r (openedBy micLength key nonce (now (auth .entry)) (now (ciphertext .entry)) mic) (now (out .entry))) ⌝ }
+    ensures valid { λ r. ⌜ r ≡ openedUnder micLength (now (keys .entry)) nonce (now (auth .entry)) (now (ciphertext .entry)) mic .valid ⌝ }
+    ensures buffer { λ r. ⌜ now (out .exit) ≡ givenIf r (openedUnder micLength (now (keys .entry)) nonce (now (auth .entry)) (now (ciphertext .entry)) mic) (now (out .entry)) ⌝ }
 {
     let n = ciphertext.len();
     let table = aes::cipher_table();

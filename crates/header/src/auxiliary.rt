@@ -167,21 +167,13 @@ fn key_sequence_at(c: NwkSecurityHeaderControlField) -> usize
 fn aux_refusal(f: &[u8]) -> u8
     ensures { λ r. ⌜ r ≡ auxRefusal (now (f .entry)) ⌝ }
 {
-    if MAX_MAC_PAYLOAD_SIZE < f.len() {
-        return refusals::TOO_LONG;
-    }
-    if f.len() < 6 {
-        return refusals::SHORT_AUXILIARY;
-    }
+    let n = f.len();
     let c = NwkSecurityHeaderControlField::from_byte(octets::byte_at(f, 0));
     let key_sequence = key_sequence_at(c);
-    if f.len() < key_sequence {
-        return refusals::SHORT_EXTENDED;
-    }
-    if f.len() < key_sequence + 1 {
-        return refusals::NO_KEY_SEQUENCE;
-    }
-    0
+    let r = octets::refuse(0, refusals::TOO_LONG, MAX_MAC_PAYLOAD_SIZE < n);
+    let r = octets::refuse(r, refusals::SHORT_AUXILIARY, n < 6);
+    let r = octets::refuse(r, refusals::SHORT_EXTENDED, n < key_sequence);
+    octets::refuse(r, refusals::NO_KEY_SEQUENCE, n < key_sequence + 1)
 }
 
 impl NwkAuxHeader {

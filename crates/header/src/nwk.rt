@@ -11,12 +11,12 @@ use types::OptionEui64;
 ghost use mathlib.Core.Path.{_≡_};
 ghost use mathlib.Core.Bool.{false, cond};
 ghost use lib.Dec.{ltb};
-ghost use mathlib.Core.List.{_++_};
+ghost use mathlib.Core.List.{_++_, _∷_};
 ghost use Prim.Native.Nat.{_+_, _*_, _≤_, _<_};
 ghost use lib.ListN.{length};
 ghost use Rattle.octets.specs.Strings.{over};
 ghost use Rattle.octets.specs.Numbers.{le, leAt};
-ghost use Rattle.octets.specs.Refusals.{firstOf};
+ghost use Rattle.octets.specs.Refusals.{by, firstOf};
 ghost use Rattle.header.specs.Optional.{multicastBytes, routeBytes, relayCount};
 ghost use Rattle.types.specs.Addresses.{nwk, noNwk};
 ghost use Rattle.types.specs.Optional.{ieeeBytes};
@@ -109,43 +109,28 @@ fn header_end(f: &[u8], c: NwkFrameControl) -> usize
     }
 }
 
-// The first of the refusals 5 to 8 that holds, or 0.
-fn optional_refusal(f: &[u8], c: NwkFrameControl) -> u8
-    ensures { λ r. ⌜ r ≡ firstOf (optionalRefusals (now (f .entry)) c) ⌝ }
+// The number given before, or the first of the refusals 5 to 8 that holds, or 0.
+fn optional_refusal(before: u8, f: &[u8], c: NwkFrameControl) -> u8
+    ensures { λ r. ⌜ r ≡ firstOf (by before ∷ optionalRefusals (now (f .entry)) c) ⌝ }
 {
-    if f.len() < source_at(c) {
-        return refusals::DESTINATION_IEEE;
-    }
-    if f.len() < multicast_at(c) {
-        return refusals::SOURCE_IEEE;
-    }
-    if f.len() < route_at(c) {
-        return refusals::MULTICAST;
-    }
-    if f.len() < header_end(f, c) {
-        return refusals::SOURCE_ROUTE;
-    }
-    0
+    let n = f.len();
+    let r = octets::refuse(before, refusals::DESTINATION_IEEE, n < source_at(c));
+    let r = octets::refuse(r, refusals::SOURCE_IEEE, n < multicast_at(c));
+    let r = octets::refuse(r, refusals::MULTICAST, n < route_at(c));
+    octets::refuse(r, refusals::SOURCE_ROUTE, n < header_end(f, c))
 }
 
 // The first of the refusals 1 to 8 that holds, or 0.
 fn header_refusal(f: &[u8]) -> u8
     ensures { λ r. ⌜ r ≡ headerRefusal (now (f .entry)) ⌝ }
 {
-    if MAX_MAC_PAYLOAD_SIZE < f.len() {
-        return refusals::TOO_LONG;
-    }
-    if f.len() < MIN_HEADER_OVERHEAD {
-        return refusals::SHORT_HEADER;
-    }
+    let n = f.len();
     let w = octets::read_u16(f, 0);
-    if w % 4 == 2 {
-        return refusals::FRAME_TYPE;
-    }
-    if w / 64 % 4 == 3 {
-        return refusals::DISCOVERY;
-    }
-    optional_refusal(f, NwkFrameControl::from_word(w))
+    let r = octets::refuse(0, refusals::TOO_LONG, MAX_MAC_PAYLOAD_SIZE < n);
+    let r = octets::refuse(r, refusals::SHORT_HEADER, n < MIN_HEADER_OVERHEAD);
+    let r = octets::refuse(r, refusals::FRAME_TYPE, w % 4 == 2);
+    let r = octets::refuse(r, refusals::DISCOVERY, w / 64 % 4 == 3);
+    optional_refusal(r, f, NwkFrameControl::from_word(w))
 }
 
 // The relays at their places, and 0 past their count.
@@ -253,39 +238,34 @@ impl NwkHeader {
         MIN_HEADER_OVERHEAD + (ieees + (multicast_control.size() + source_route.size(relays)))
     }
 
+    // Whether a field exceeds its bits, or the relays their places.
+    fn is_bad(self) -> bool
+        ensures { λ r. ⌜ r ≡ badHeader self ⌝ }
+    {
+        let source_route = self.source_route;
+        let version = 15 < self.frame_control.protocol_version;
+        let reserved = 3 < self.frame_control.reserved1;
+        octets::either(
+            octets::either(version, reserved),
+            MAX_RELAYS < source_route.count(),
+        )
+    }
+
     // What the fields are refused by: 13 where one exceeds its bits or the relays exceed their places, else 0.
     pub fn field_refusal(self) -> u8
         ensures { λ r. ⌜ r ≡ fieldRefusal self ⌝ }
     {
-        let source_route = self.source_route;
-        if 15 < self.frame_control.protocol_version {
-            return refusals::FIELD;
-        }
-        if 3 < self.frame_control.reserved1 {
-            return refusals::FIELD;
-        }
-        if MAX_RELAYS < source_route.count() {
-            return refusals::FIELD;
-        }
-        0
+        octets::refuse(0, refusals::FIELD, self.is_bad())
     }
 
     // The first of the refusals 13, 17 and 18 that holds when the output has the room given, or 0.
     fn write_refusal(self, room: usize) -> u8
         ensures { λ r. ⌜ r ≡ headerWriteRefusal self room ⌝ }
     {
-        let fields = self.field_refusal();
-        if fields != 0 {
-            return fields;
-        }
         let size = self.size();
-        if MAX_MAC_PAYLOAD_SIZE < size {
-            return refusals::LENGTH;
-        }
-        if room < size {
-            return refusals::NO_ROOM;
-        }
-        0
+        let r = self.field_refusal();
+        let r = octets::refuse(r, refusals::LENGTH, MAX_MAC_PAYLOAD_SIZE < size);
+        octets::refuse(r, refusals::NO_ROOM, room < size)
     }
 
     // Write the header to the front of an output that has room for it.

@@ -2,7 +2,7 @@
 -- Assumes nothing.
 use mathlib.Core.Path.{_≡_, refl, sym, ap, _∙_}
 use mathlib.Core.Bool.{Bool, true, false, true≢false, _||_}
-use mathlib.Core.List.{List, [], _∷_}
+use mathlib.Core.List.{List, [], _∷_, _++_}
 use Prim.Native.Nat.{ℕ, zero, suc}
 use native.Mathlib.Omega.{arith}
 use Rattle.octets.specs.Refusals.{unless, Condition, on, by, firstOf}
@@ -120,6 +120,20 @@ in-turn zero (by (suc m) ∷ cs) k = in-turn (suc m) cs k
 in-turn (suc n) (on zero b ∷ cs) k = absurd k
 in-turn (suc n) (on (suc m) b ∷ cs) k = in-turn (suc n) cs k
 in-turn (suc n) (by m ∷ cs) k = in-turn (suc n) cs k
+
+-- a list in two parts, the first one's number handed on, is one list
+pub in-parts : (cs ds : List Condition) → Numbered cs → firstOf (by (firstOf cs) ∷ ds) ≡ firstOf (cs ++ ds)
+unfolding firstOf unless
+in-parts [] ds k = refl
+in-parts (on zero b ∷ cs) ds k = absurd k
+in-parts (on (suc m) true ∷ cs) ds k = refl
+in-parts (on (suc m) false ∷ cs) ds k = in-parts cs ds k
+in-parts (by zero ∷ cs) ds k = in-parts cs ds k
+in-parts (by (suc m) ∷ cs) ds k = refl
+
+pub in-order : (cs : List Condition) → Numbered cs → inTurn 0 cs ≡ firstOf cs
+unfolding firstOf unless
+in-order cs k = in-turn 0 cs k
 
 -- ---- two conditions under one number
 

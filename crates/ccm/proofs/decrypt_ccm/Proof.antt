@@ -27,8 +27,7 @@ returns-2 c =
     let keys = opened .before .before .before in
     let passed = keys .before in
     let s = opened .open-under .ensures in
-    let k = keys .expand .ensures in
-    let e = decrypt-done _ _ _ _ _ _ _ _ (sym (passed .before .refusal .ensures) ∙ passed .if1 .left) (s .0 _ k) (s .1 _ k) (c .if2 .taken) in
+    let e = decrypt-done _ _ _ _ _ _ _ _ _ (keys .expand .ensures) (sym (passed .before .refusal .ensures) ∙ passed .if1 .left) (s .0) (s .1) (c .if2 .taken) in
     (λ i. e i .answer, λ i. e i .out)
 
 returns-3 : tie.Need-returns-3
@@ -37,8 +36,7 @@ returns-3 c =
     let keys = opened .before .before .before in
     let passed = keys .before in
     let s = opened .open-under .ensures in
-    let k = keys .expand .ensures in
-    let e = decrypt-not _ _ _ _ _ _ _ _ (sym (passed .before .refusal .ensures) ∙ passed .if1 .left) (s .0 _ k) (s .1 _ k) (c .if2 .left) in
+    let e = decrypt-not _ _ _ _ _ _ _ _ _ (keys .expand .ensures) (sym (passed .before .refusal .ensures) ∙ passed .if1 .left) (s .0) (s .1) (c .if2 .left) in
     (λ i. e i .answer, λ i. e i .out)
 
 pub decrypt-ccm-spec : {M : Type 1} → statement M

@@ -55,7 +55,7 @@ returns-2 : tie.Need-returns-2
 returns-2 c =
     let checked = c .before in
     let p = payload (checked .before .before .before .before) in
-    (valid-given _ _ _ _ _ _ p _ (checked .tag-valid .ensures), λ key e. nothing-given _ _ _ (c .if1 .left))
+    (valid-given _ _ _ _ _ _ p _ (checked .tag-valid .ensures), nothing-given _ _ _ (c .if1 .left))
 
 pub open-under-spec : {M : Type 1} → statement M
 open-under-spec =
