@@ -15,22 +15,12 @@ use Rattle.octets.specs.Refusals.{firstOf}
 use Rattle.octets.proofs.Strings.{tab-ext, tab-getD, take-over}
 use Rattle.octets.proofs.Conditions.{none}
 use Rattle.aes.specs.Cipher.{cipher, aes128}
-use Rattle.aes.proofs.Block.{cipher-aes128}
 use Rattle.ccm.specs.Counters.{counterMode}
 use Rattle.ccm.specs.Generation.{encryptedTag, generationEncryption}
 use Rattle.ccm.specs.Verification.{Verified, tagValid, decryptionVerification}
 use Rattle.ccm.proofs.Opening.{length-counterMode}
+use Rattle.ccm.proofs.RoundKeys.{cipher-is}
 use Rattle.ccm.specs.Operations.{micLength, sealedBy, openedBy, openedUnder, expanded, sealRefusal, givenIf}
-
--- the cipher under expanded round keys is AES-128
-pub cipher-is : (key : List ℕ) (w : List (List (List ℕ))) → w ≡ expanded key → cipher w ≡ aes128 key
-unfolding expanded
-cipher-is key w e = fun-ext (λ b. cipher-aes128 key b e refl)
-
--- opening under the round keys of a key is opening under the key
-pub opened-under : (t : ℕ) (key : List ℕ) (w : List (List (List ℕ))) (nonce a c mic : List ℕ) → w ≡ expanded key
-    → openedUnder t w nonce a c mic ≡ openedBy t key nonce a c mic
-opened-under t key w nonce a c mic e = ap (λ (f : List ℕ → List ℕ). decryptionVerification t f nonce a c mic) (cipher-is key w e)
 
 -- ---- the refusals in their order
 

@@ -3,6 +3,7 @@ mod Blocks
 mod Chains
 mod Streams
 mod Tags
+pub mod RoundKeys
 mod Answers
 pub mod ZeroFill
 pub mod Opening

@@ -14,7 +14,7 @@ use Rattle.aes.specs.Cipher.{aes128}
 use Rattle.ccm.specs.Generation.{generationEncryption}
 use Rattle.ccm.specs.Operations.{micLength, openedBy, openedUnder, expanded, sealRefusal, SealRun, sealRefused, sealPassed, encryptCcm, openRefusal, givenIf, decryptCcm}
 use Rattle.ccm.proofs.Opening.{length-ciphertext, length-payload}
-use Rattle.ccm.proofs.Answers.{opened-under}
+use Rattle.ccm.proofs.RoundKeys.{opened-under}
 
 -- ---- encrypt_ccm
 

@@ -1,118 +1,147 @@
--- What it means that sealing, reading or opening a frame is accepted: no condition of its list holds.
+-- What it means that writing, sealing, reading or opening a frame is accepted. For each list of refusals one lemma turns "nothing is
+-- refused" into a record that names each condition, and one turns it back; every other law goes by the names.
 -- Assumes nothing.
 use mathlib.Core.Path.{_≡_, refl, sym, ap, _∙_}
 use mathlib.Core.Bool.{Bool, true, false, true≢false, cond, not, _&&_, _||_}
 use mathlib.Core.List.{List}
-use Prim.Native.Nat.{ℕ, _-_, _≤_}
+use Prim.Native.Nat.{ℕ, _+_, _-_, _≤_}
 use native.Mathlib.Omega.{arith}
 use lib.ListN.{length}
 use lib.Dec.{ltb}
-use borrow.Author.Tests.{ltb-false, le-ltb, ne-eqb, eqb-false, not-false}
-use Rattle.octets.specs.Refusals.{firstOf, unless}
+use borrow.Author.Tests.{ltb-false, le-ltb, not-false}
+use Rattle.octets.specs.Refusals.{firstOf}
 use Rattle.octets.specs.Writing.{written}
 use Rattle.octets.proofs.Strings.{take-over}
 use Rattle.octets.proofs.Writing.{write-accepted}
-use Rattle.octets.proofs.Conditions.{accepted, refused, answer-number, unless-either, none, none-refuse, or-false}
-use Rattle.types.specs.Counters.{lastCounter}
+use Rattle.octets.proofs.Conditions.{accepted, refused, accepted-by, refused-by, answer-number, unless-either, none, none-refuse, or-false}
 use Rattle.types.specs.declared.OptionEui64.{OptionEui64}
 use Rattle.types.specs.Optional.{hasIeee}
 use Rattle.header.specs.declared.{auxiliary.NwkSecurityLevel.NwkSecurityLevel, auxiliary.AuxRead.AuxRead, nwk.HeaderRead.HeaderRead, nwk.NwkHeader.NwkHeader}
-use Rattle.header.specs.Writing.{badHeader, fieldRefusal}
+use Rattle.header.specs.Writing.{headerBytes, badHeader, fieldRefusal}
 use Rattle.ccm.specs.Verification.{Verified}
 use Rattle.frame.specs.declared.{OptionAuxHeader.OptionAuxHeader, FrameRead.FrameRead, Mark.Mark}
-use Rattle.frame.specs.Reading.{frameRefused, frameGiven, frameNumber, frameBy}
+use Rattle.frame.specs.Reading.{secured, frameRefusal, frameRefused, frameGiven, frameNumber, frameBy}
 use Rattle.frame.specs.Security.{isAbsent, orBlank, ieeeOf, nonceIeee, noIeee}
-use Rattle.frame.specs.Writing.{frameBytes, frameWriteRefusal}
-use Rattle.frame.specs.Sealing.{sealedLength, lengthRefusals, counterOf, sealRefusal}
+use Rattle.frame.specs.Writing.{lengthRefusals, frameWriteRefusal, frameWritten}
+use Rattle.frame.specs.Sealing as sealing
+use Rattle.frame.specs.Sealing.{sealedLength, headersRefusal, sealRefusals, sealGiven, sealRefused, sealNothing, sealBy}
 use Rattle.frame.specs.SealingLaw.{bytesWritten}
-use Rattle.frame.specs.LastCounter.{refusalWithout21}
 use Rattle.frame.specs.Marks.{Openable}
 use Rattle.frame.specs.Opening.{isSealed, behind, verified, openRefusals, openRefusal, openRefused, Run, sealedGiven, clearGiven, openGiven, openNothing, openBy}
 
 -- ---- writing
 
 -- the bytes of a writer that was not refused
-pub bytes-written : (n : ℕ) (bs o : List ℕ) → n ≡ 0 → bytesWritten (written n bs o) ≡ bs
-bytes-written n bs o e = ap bytesWritten (sym (write-accepted n n bs o refl e)) ∙ take-over o bs
+pub bytes-written : (n : ℕ) (bs o : List ℕ) → n ≡ 0 → frameWritten (written n bs o) ≡ bs
+bytes-written n bs o e = ap frameWritten (sym (write-accepted n n bs o refl e)) ∙ take-over o bs
+
+pub record ClearWritable (h : NwkHeader) (n room : ℕ) : Type 0 where
+  pub good : badHeader h ≡ false
+  pub payload : n ≤ 108
+  pub whole : length (headerBytes h) + n ≤ 118
+  pub fits : length (headerBytes h) + n ≤ room
+
+pub clear-writable : (h : NwkHeader) (n room : ℕ) → frameWriteRefusal h n room ≡ 0 → ClearWritable h n room
+unfolding frameWriteRefusal lengthRefusals fieldRefusal
+clear-writable h p room e =
+    let n = none _ e in
+    let long = or-false (ltb 108 p) (ltb 118 (length (headerBytes h) + p)) (n .1 .0) in
+    record {
+      good = none _ (n .0) .0;
+      payload = ltb-false 108 p (long .0);
+      whole = ltb-false 118 (length (headerBytes h) + p) (long .1);
+      fits = ltb-false room (length (headerBytes h) + p) (n .1 .1 .0);
+    }
 
 -- ---- sealing
 
-pub record Sealable (t : ℕ) (h : NwkHeader) (a : OptionAuxHeader) (p : List ℕ) (room : ℕ) : Type 0 where
+-- no condition of the two headers holds
+pub record GoodHeaders (h : NwkHeader) (a : OptionAuxHeader) : Type 0 where
   pub good : badHeader h ≡ false
   pub present : isAbsent a ≡ false
   pub ieee : noIeee h (orBlank a) ≡ false
-  pub payload : length p ≤ 108
-  pub whole : sealedLength t h (orBlank a) p ≤ 118
-  pub fits : sealedLength t h (orBlank a) p ≤ room
 
--- by the list without 21
-pub sealable-without : (t : ℕ) (h : NwkHeader) (a : OptionAuxHeader) (p : List ℕ) (room : ℕ) → refusalWithout21 t h a p room ≡ 0 → Sealable t h a p room
-unfolding refusalWithout21 lengthRefusals fieldRefusal
-sealable-without t h a p room e =
+pub good-headers : (h : NwkHeader) (a : OptionAuxHeader) → headersRefusal h a ≡ 0 → GoodHeaders h a
+unfolding headersRefusal fieldRefusal
+good-headers h a e =
     let n = none _ e in
-    let long = or-false (ltb 108 (length p)) (ltb 118 (sealedLength t h (orBlank a) p)) (n .1 .1 .1 .0) in
-    record {
-      good = none _ (n .0) .0;
-      present = n .1 .0;
-      ieee = n .1 .1 .0;
-      payload = ltb-false 108 (length p) (long .0);
-      whole = ltb-false 118 (sealedLength t h (orBlank a) p) (long .1);
-      fits = ltb-false room (sealedLength t h (orBlank a) p) (n .1 .1 .1 .1 .0);
-    }
+    record { good = none _ (n .0) .0; present = n .1 .0; ieee = n .1 .1 .0 }
 
-without-accepts : (t : ℕ) (h : NwkHeader) (a : OptionAuxHeader) (p : List ℕ) (room : ℕ) → Sealable t h a p room → refusalWithout21 t h a p room ≡ 0
-unfolding refusalWithout21 lengthRefusals fieldRefusal firstOf unless
-without-accepts t h a p room s =
-    rw (
-      s .good,
-      s .present,
-      s .ieee,
-      le-ltb 108 (length p) (s .payload),
-      le-ltb 118 (sealedLength t h (orBlank a) p) (s .whole),
-      le-ltb room (sealedLength t h (orBlank a) p) (s .fits),
-    ) refl
+pub headers-accepted : (h : NwkHeader) (a : OptionAuxHeader) → GoodHeaders h a → headersRefusal h a ≡ 0
+unfolding headersRefusal fieldRefusal
+headers-accepted h a g = none-refuse _ (none-refuse _ (g .good, tt), (g .present, (g .ieee, tt)))
 
--- by the list with it
-module _ (t : ℕ) (h : NwkHeader) (a : OptionAuxHeader) (p : List ℕ) (room : ℕ) where
-  pub number-without : (counterOf a ≡ lastCounter → ⊥) → sealRefusal t h a p room ≡ refusalWithout21 t h a p room
-  unfolding sealRefusal refusalWithout21 firstOf
-  number-without other = rw (ne-eqb (counterOf a) lastCounter other) refl
+-- no condition of sealing's list holds, for n bytes of payload; isLast says whether the counter is the last one
+pub record Sealable (isLast : Bool) (t : ℕ) (h : NwkHeader) (a : OptionAuxHeader) (n room : ℕ) : Type 0 where
+  pub headers : GoodHeaders h a
+  pub counter : isLast ≡ false
+  pub payload : n ≤ 108
+  pub whole : sealedLength t h (orBlank a) n ≤ 118
+  pub fits : sealedLength t h (orBlank a) n ≤ room
 
-  pub not-last : sealRefusal t h a p room ≡ 0 → counterOf a ≡ lastCounter → ⊥
-  unfolding sealRefusal
-  not-last e = eqb-false (counterOf a) lastCounter (none _ e .1 .1 .1 .0)
+module _ (isLast : Bool) (t : ℕ) (h : NwkHeader) (a : OptionAuxHeader) (n room : ℕ) where
+  pub sealable : firstOf (sealRefusals isLast t h a n room) ≡ 0 → Sealable isLast t h a n room
+  unfolding sealRefusals lengthRefusals
+  sealable e =
+      let all = none _ e in
+      let long = or-false (ltb 108 n) (ltb 118 (sealedLength t h (orBlank a) n)) (all .1 .1 .0) in
+      record {
+        headers = good-headers h a (all .0);
+        counter = all .1 .0;
+        payload = ltb-false 108 n (long .0);
+        whole = ltb-false 118 (sealedLength t h (orBlank a) n) (long .1);
+        fits = ltb-false room (sealedLength t h (orBlank a) n) (all .1 .1 .1 .0);
+      }
 
-  pub sealable : sealRefusal t h a p room ≡ 0 → Sealable t h a p room
-  sealable e = sealable-without t h a p room (sym (number-without (not-last e)) ∙ e)
+  pub seal-accepts : Sealable isLast t h a n room → firstOf (sealRefusals isLast t h a n room) ≡ 0
+  unfolding sealRefusals lengthRefusals
+  seal-accepts s =
+      none-refuse _
+      (headers-accepted h a (s .headers),
+      (s .counter,
+      (rw (le-ltb 108 n (s .payload)) (le-ltb 118 (sealedLength t h (orBlank a) n) (s .whole)), (le-ltb room (sealedLength t h (orBlank a) n) (s .fits), tt))))
 
-  pub seal-accepts : (counterOf a ≡ lastCounter → ⊥) → Sealable t h a p room → sealRefusal t h a p room ≡ 0
-  seal-accepts other s = number-without other ∙ without-accepts t h a p room s
+-- what sealing leaves, by its number
+module _ (n : ℕ) (bs o : List ℕ) where
+  pub seal-accepted : (m : ℕ) → m ≡ n → m ≡ 0 → sealGiven bs o ≡ sealBy n bs o
+  unfolding sealBy
+  seal-accepted m e z = accepted-by n m (sealGiven bs o) (sealNothing n o) e z
 
--- ---- writing without a key
+  pub seal-refused : (m : ℕ) → m ≡ n → (m ≡ 0 → ⊥) → sealNothing m o ≡ sealBy n bs o
+  unfolding sealBy
+  seal-refused m e h = refused-by n m (sealGiven bs o) (λ (k : ℕ). sealNothing k o) e h
 
-pub record ClearWritable (h : NwkHeader) (p : List ℕ) (room : ℕ) : Type 0 where
-  pub good : badHeader h ≡ false
-  pub payload : length p ≤ 108
-  pub whole : length (frameBytes h p) ≤ 118
-  pub fits : length (frameBytes h p) ≤ room
+  -- the answer bears the number
+  pub sealed-number : sealBy n bs o .answer .refusal ≡ n
+  unfolding sealBy sealRefused
+  sealed-number = answer-number (λ (r : sealing.Run). r .answer .refusal) n (sealGiven bs o) (λ (m : ℕ). sealNothing m o) refl refl
 
-pub clear-writable : (h : NwkHeader) (p : List ℕ) (room : ℕ) → frameWriteRefusal h p room ≡ 0 → ClearWritable h p room
-unfolding frameWriteRefusal fieldRefusal
-clear-writable h p room e =
-    let n = none _ e in
-    let long = or-false (ltb 108 (length p)) (ltb 118 (length (frameBytes h p))) (n .1 .0) in
-    record {
-      good = none _ (n .0) .0;
-      payload = ltb-false 108 (length p) (long .0);
-      whole = ltb-false 118 (length (frameBytes h p)) (long .1);
-      fits = ltb-false room (length (frameBytes h p)) (n .1 .1 .0);
-    }
+  -- the bytes that were sealed
+  pub bytes-sealed : n ≡ 0 → bytesWritten (sealBy n bs o) ≡ bs
+  bytes-sealed e = ap bytesWritten (sym (seal-accepted n refl e)) ∙ take-over o bs
 
 -- ---- reading
 
 pub frame-refusal : (f : List ℕ) (h : HeaderRead) (a : AuxRead) → frameBy f h a .refusal ≡ frameNumber f h a
 unfolding frameBy frameRefused
 frame-refusal f h a = answer-number (λ (r : FrameRead). r .refusal) (frameNumber f h a) (frameGiven h a) frameRefused refl refl
+
+-- no condition of reading's list holds
+pub record Readable (f : List ℕ) (h : HeaderRead) (a : AuxRead) : Type 0 where
+  pub header : h .refusal ≡ 0
+  pub aux : cond (secured h) (a .refusal) 0 ≡ 0
+  pub payload : (not (secured h) && ltb 108 (length f - h .length)) ≡ false
+
+module _ (f : List ℕ) (h : HeaderRead) (a : AuxRead) where
+  pub readable : frameNumber f h a ≡ 0 → Readable f h a
+  unfolding frameNumber frameRefusal
+  readable e =
+      let n = none _ e in
+      record { header = n .0; aux = n .1 .0; payload = n .1 .1 .0 }
+
+  pub read-accepts : Readable f h a → frameNumber f h a ≡ 0
+  unfolding frameNumber frameRefusal
+  read-accepts r = none-refuse _ (r .header, (r .aux, (r .payload, tt)))
 
 -- ---- opening
 
@@ -126,9 +155,12 @@ pub counts : (b x : Bool) → b ≡ true → (b && x) ≡ x
 counts true x e = refl
 counts false x e = absurd (true≢false (sym e))
 
-pub counts-not : (b x : Bool) → b ≡ false → (b && x) ≡ false
-counts-not true x e = absurd (true≢false e)
-counts-not false x e = refl
+not-both : {A : Type 0} {b : Bool} → b ≡ true → b ≡ false → A
+not-both x y = absurd (true≢false (sym x ∙ y))
+
+off-if : (b x : Bool) → (b ≡ true → x ≡ false) → (b && x) ≡ false
+off-if true x h = h refl
+off-if false x h = refl
 
 -- where there is an address, it is the one that the nonce uses
 pub ieee-there : (a s : OptionEui64) → not (hasIeee a || hasIeee s) ≡ false → nonceIeee a s ≡ OptionEui64.Present (ieeeOf a s)
@@ -141,58 +173,76 @@ given-either : (P : Run → Type 0) (f : List ℕ) (r : FrameRead) (v : Verified
     → (isSealed (r .header) ≡ true → P (sealedGiven r v o)) → (isSealed (r .header) ≡ false → P (clearGiven f r o)) → P (openGiven f r v o)
 given-either P f r v o p q = cond-either P (isSealed (r .header)) (sealedGiven r v o) (clearGiven f r o) p q
 
-pub open-number : (l : NwkSecurityLevel) (t : ℕ) (key f : List ℕ) (r : FrameRead) (o : List ℕ)
-    → openBy l t key f r o .answer .refusal ≡ openRefusal l t key f r (length o)
-unfolding openBy openRefused
-open-number l t key f r o =
-    answer-number (λ (x : Run). x .answer .refusal) (openRefusal l t key f r (length o)) (openGiven f r (verified l t key f r) o) (λ (n : ℕ). openNothing n o)
-    (given-either (λ (x : Run). x .answer .refusal ≡ 0) f r (verified l t key f r) o (λ s. refl) (λ s. refl)) refl
+-- no condition of opening's list holds that needs no key: those of a sealed frame count where the security bit is set
+pub record Keyless (t number : ℕ) (h : NwkHeader) (a : OptionAuxHeader) (part room : ℕ) : Type 0 where
+  pub reads : number ≡ 0
+  pub ieee : isSealed h ≡ true → noIeee h (orBlank a) ≡ false
+  pub tagged : isSealed h ≡ true → t ≤ part
+  pub fits : isSealed h ≡ true → part - t ≤ room
 
-pub openable : (l : NwkSecurityLevel) (t : ℕ) (key f : List ℕ) (r : FrameRead) (room : ℕ) → openRefusal l t key f r room ≡ 0
-    → isSealed (r .header) ≡ true → Openable l t key f r room
-unfolding openRefusal openRefusals
-openable l t key f r room e s =
-    let all = none _ e in
-    let n = none _ (all .0) in
-    record {
-      reads = n .0;
-      on = s;
-      ieee = sym (counts (isSealed (r .header)) _ s) ∙ n .1 .0;
-      tagged = ltb-false (length (behind f r)) t (sym (counts (isSealed (r .header)) _ s) ∙ n .1 .1 .0);
-      fits = ltb-false room (length (behind f r) - t) (sym (counts (isSealed (r .header)) _ s) ∙ n .1 .1 .1 .0);
-      valid = not-false _ (sym (counts (isSealed (r .header)) _ s) ∙ all .1 .0);
-    }
+module _ (t number : ℕ) (h : NwkHeader) (a : OptionAuxHeader) (part room : ℕ) where
+  pub keyless : firstOf (openRefusals t number h a part room) ≡ 0 → Keyless t number h a part room
+  unfolding openRefusals
+  keyless e =
+      let n = none _ e in
+      let so : (x : Bool) → (isSealed h && x) ≡ false → isSealed h ≡ true → x ≡ false = λ x z s. sym (counts (isSealed h) x s) ∙ z in
+      record {
+        reads = n .0;
+        ieee = so _ (n .1 .0);
+        tagged = λ s. ltb-false part t (so _ (n .1 .1 .0) s);
+        fits = λ s. ltb-false room (part - t) (so _ (n .1 .1 .1 .0) s);
+      }
 
-module _ (l : NwkSecurityLevel) (t : ℕ) (key f : List ℕ) (r : FrameRead) where
-  open-accepts : (room : ℕ) → Openable l t key f r room → openRefusal l t key f r room ≡ 0
-  unfolding openRefusal openRefusals
-  open-accepts room s =
-      let off : (x : Bool) → x ≡ false → (isSealed (r .header) && x) ≡ false = λ x e. counts (isSealed (r .header)) x (s .on) ∙ e in
-      let keyless =
-      none-refuse (openRefusals t (r .refusal) (r .header) (r .aux) (length (behind f r)) room)
-      (s .reads, (off _ (s .ieee), (off _ (le-ltb (length (behind f r)) t (s .tagged)), (off _ (le-ltb room (length (behind f r) - t) (s .fits)), tt)))) in
-      none-refuse _ (keyless, (off _ (ap not (s .valid)), tt))
+  keyless-accepts : Keyless t number h a part room → firstOf (openRefusals t number h a part room) ≡ 0
+  unfolding openRefusals
+  keyless-accepts k =
+      none-refuse _
+      (k .reads,
+      (off-if (isSealed h) _ (k .ieee),
+      (off-if (isSealed h) _ (λ s. le-ltb part t (k .tagged s)), (off-if (isSealed h) _ (λ s. le-ltb room (part - t) (k .fits s)), tt))))
 
-  clear-accepts : (room : ℕ) → r .refusal ≡ 0 → isSealed (r .header) ≡ false → openRefusal l t key f r room ≡ 0
-  unfolding openRefusal openRefusals
-  clear-accepts room e off =
-      let not-so : (x : Bool) → (isSealed (r .header) && x) ≡ false = λ x. counts-not (isSealed (r .header)) x off in
-      let keyless =
-      none-refuse (openRefusals t (r .refusal) (r .header) (r .aux) (length (behind f r)) room) (e, (not-so _, (not-so _, (not-so _, tt)))) in
-      none-refuse _ (keyless, (not-so _, tt))
+module _ (l : NwkSecurityLevel) (t : ℕ) (ciph : List ℕ → List ℕ) (f : List ℕ) (r : FrameRead) where
+  pub open-number : (o : List ℕ) → openBy l t ciph f r o .answer .refusal ≡ openRefusal l t ciph f r (length o)
+  unfolding openBy openRefused
+  open-number o =
+      answer-number (λ (x : Run). x .answer .refusal) (openRefusal l t ciph f r (length o)) (openGiven f r (verified l t ciph f r) o) (λ (n : ℕ). openNothing n o)
+      (given-either (λ (x : Run). x .answer .refusal ≡ 0) f r (verified l t ciph f r) o (λ s. refl) (λ s. refl)) refl
+
+  -- no condition at all holds
+  opens : (room : ℕ) → openRefusal l t ciph f r room ≡ 0
+      → Keyless t (r .refusal) (r .header) (r .aux) (length (behind f r)) room × (isSealed (r .header) ≡ true → verified l t ciph f r .valid ≡ true)
+  unfolding openRefusal
+  opens room e =
+      let n = none _ e in
+      (keyless _ _ _ _ _ _ (n .0), λ s. not-false _ (sym (counts (isSealed (r .header)) _ s) ∙ n .1 .0))
+
+  open-accepts : (room : ℕ) → Keyless t (r .refusal) (r .header) (r .aux) (length (behind f r)) room
+      → (isSealed (r .header) ≡ true → verified l t ciph f r .valid ≡ true) → openRefusal l t ciph f r room ≡ 0
+  unfolding openRefusal
+  open-accepts room k valid = none-refuse _ (keyless-accepts _ _ _ _ _ _ k, (off-if (isSealed (r .header)) _ (λ s. ap not (valid s)), tt))
+
+  pub openable : (room : ℕ) → openRefusal l t ciph f r room ≡ 0 → isSealed (r .header) ≡ true → Openable l t ciph f r room
+  openable room e s =
+      let o = opens room e in
+      let k = o .0 in
+      record { reads = k .reads; on = s; ieee = k .ieee s; tagged = k .tagged s; fits = k .fits s; valid = o .1 s }
 
   -- what opening leaves of a frame that it accepts, sealed or clear
-  pub sealed-run : (o : List ℕ) → Openable l t key f r (length o) → openBy l t key f r o ≡ sealedGiven r (verified l t key f r) o
+  pub sealed-run : (o : List ℕ) → Openable l t ciph f r (length o) → openBy l t ciph f r o ≡ sealedGiven r (verified l t ciph f r) o
   unfolding openBy
   sealed-run o s =
-      accepted (openRefusal l t key f r (length o)) _ _ (open-accepts (length o) s)
-      ∙ ap (λ (b : Bool). cond b (sealedGiven r (verified l t key f r) o) (clearGiven f r o)) (s .on)
+      let k : Keyless t (r .refusal) (r .header) (r .aux) (length (behind f r)) (length o) =
+      record { reads = s .reads; ieee = λ x. s .ieee; tagged = λ x. s .tagged; fits = λ x. s .fits } in
+      accepted (openRefusal l t ciph f r (length o)) _ _ (open-accepts (length o) k (λ x. s .valid))
+      ∙ ap (λ (b : Bool). cond b (sealedGiven r (verified l t ciph f r) o) (clearGiven f r o)) (s .on)
 
-  pub clear-run : (o : List ℕ) → r .refusal ≡ 0 → isSealed (r .header) ≡ false → openBy l t key f r o ≡ clearGiven f r o
+  pub clear-run : (o : List ℕ) → r .refusal ≡ 0 → isSealed (r .header) ≡ false → openBy l t ciph f r o ≡ clearGiven f r o
   unfolding openBy
   clear-run o e off =
-      accepted (openRefusal l t key f r (length o)) _ _ (clear-accepts (length o) e off)
-      ∙ ap (λ (b : Bool). cond b (sealedGiven r (verified l t key f r) o) (clearGiven f r o)) off
+      let k : Keyless t (r .refusal) (r .header) (r .aux) (length (behind f r)) (length o) =
+      record { reads = e; ieee = λ x. not-both x off; tagged = λ x. not-both x off; fits = λ x. not-both x off } in
+      accepted (openRefusal l t ciph f r (length o)) _ _ (open-accepts (length o) k (λ x. not-both x off))
+      ∙ ap (λ (b : Bool). cond b (sealedGiven r (verified l t ciph f r) o) (clearGiven f r o)) off
 
 -- ---- the marks
 
@@ -205,40 +255,40 @@ place Mark.Sealed = 2
 apart : (m n : Mark) → (place m ≡ place n → ⊥) → m ≡ n → ⊥
 apart m n h e = h (ap place e)
 
-module _ (l : NwkSecurityLevel) (t : ℕ) (key f : List ℕ) (r : FrameRead) (o : List ℕ) where
+module _ (l : NwkSecurityLevel) (t : ℕ) (ciph : List ℕ → List ℕ) (f : List ℕ) (r : FrameRead) (o : List ℕ) where
   -- what holds of an opened frame, of a clear one and of a refusal holds of what opening leaves
   pub run-either : (P : Run → Type 0)
-      → (Openable l t key f r (length o) → P (sealedGiven r (verified l t key f r) o))
+      → (Openable l t ciph f r (length o) → P (sealedGiven r (verified l t ciph f r) o))
       → (r .refusal ≡ 0 → isSealed (r .header) ≡ false → P (clearGiven f r o))
-      → P (openNothing (openRefusal l t key f r (length o)) o)
-      → P (openBy l t key f r o)
-  unfolding openBy openRefusal openRefusals
+      → P (openNothing (openRefusal l t ciph f r (length o)) o)
+      → P (openBy l t ciph f r o)
+  unfolding openBy
   run-either P opened clear refused =
-      unless-either P (openRefusal l t key f r (length o)) _ _
-      (λ e. given-either P f r (verified l t key f r) o (λ s. opened (openable l t key f r (length o) e s)) (clear (none _ (none _ e .0) .0)))
+      unless-either P (openRefusal l t ciph f r (length o)) _ _
+      (λ e. given-either P f r (verified l t ciph f r) o (λ s. opened (openable l t ciph f r (length o) e s)) (clear (opens l t ciph f r (length o) e .0 .reads)))
       refused
 
   -- what each mark says of the frame
-  pub marked-sealed : openBy l t key f r o .answer .mark ≡ Mark.Sealed → Openable l t key f r (length o)
+  pub marked-sealed : openBy l t ciph f r o .answer .mark ≡ Mark.Sealed → Openable l t ciph f r (length o)
   unfolding openRefused
   marked-sealed =
-      run-either (λ (x : Run). x .answer .mark ≡ Mark.Sealed → Openable l t key f r (length o)) (λ w m. w)
+      run-either (λ (x : Run). x .answer .mark ≡ Mark.Sealed → Openable l t ciph f r (length o)) (λ w m. w)
       (λ e off m. absurd (apart Mark.Clear Mark.Sealed (λ z. omega arith) m)) (λ m. absurd (apart Mark.Unmarked Mark.Sealed (λ z. omega arith) m))
 
-  pub marked-clear : openBy l t key f r o .answer .mark ≡ Mark.Clear → (r .refusal ≡ 0) × (isSealed (r .header) ≡ false)
+  pub marked-clear : openBy l t ciph f r o .answer .mark ≡ Mark.Clear → (r .refusal ≡ 0) × (isSealed (r .header) ≡ false)
   unfolding openRefused
   marked-clear =
       run-either (λ (x : Run). x .answer .mark ≡ Mark.Clear → (r .refusal ≡ 0) × (isSealed (r .header) ≡ false))
       (λ w m. absurd (apart Mark.Sealed Mark.Clear (λ z. omega arith) m)) (λ e off m. (e, off)) (λ m. absurd (apart Mark.Unmarked Mark.Clear (λ z. omega arith) m))
 
   -- there is one exactly where nothing is refused
-  pub marked : openRefusal l t key f r (length o) ≡ 0 → openBy l t key f r o .answer .mark ≡ Mark.Unmarked → ⊥
+  pub marked : openRefusal l t ciph f r (length o) ≡ 0 → openBy l t ciph f r o .answer .mark ≡ Mark.Unmarked → ⊥
   unfolding openBy
   marked e =
-      rw (accepted (openRefusal l t key f r (length o)) (openGiven f r (verified l t key f r) o) (openNothing (openRefusal l t key f r (length o)) o) e)
-      (given-either (λ (x : Run). x .answer .mark ≡ Mark.Unmarked → ⊥) f r (verified l t key f r) o
+      rw (accepted (openRefusal l t ciph f r (length o)) (openGiven f r (verified l t ciph f r) o) (openNothing (openRefusal l t ciph f r (length o)) o) e)
+      (given-either (λ (x : Run). x .answer .mark ≡ Mark.Unmarked → ⊥) f r (verified l t ciph f r) o
       (λ s. apart Mark.Sealed Mark.Unmarked (λ z. omega arith)) (λ s. apart Mark.Clear Mark.Unmarked (λ z. omega arith)))
 
-  pub unmarked : (openRefusal l t key f r (length o) ≡ 0 → ⊥) → openBy l t key f r o .answer .mark ≡ Mark.Unmarked
+  pub unmarked : (openRefusal l t ciph f r (length o) ≡ 0 → ⊥) → openBy l t ciph f r o .answer .mark ≡ Mark.Unmarked
   unfolding openBy openRefused
-  unmarked h = ap (λ (x : Run). x .answer .mark) (refused (openRefusal l t key f r (length o)) (openGiven f r (verified l t key f r) o) _ h)
+  unmarked h = ap (λ (x : Run). x .answer .mark) (refused (openRefusal l t ciph f r (length o)) (openGiven f r (verified l t ciph f r) o) _ h)

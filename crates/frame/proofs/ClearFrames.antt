@@ -11,7 +11,7 @@ use lib.ListN.{length, drop, length-append}
 use lib.Seq.{drop-at}
 use lib.Dec.{ltb}
 use borrow.Author.Tests.{ltb-false, le-ltb}
-use Rattle.octets.proofs.Conditions.{accepted, none, none-refuse}
+use Rattle.octets.proofs.Conditions.{accepted}
 use Rattle.octets.proofs.Writing.{written-number}
 use Rattle.header.specs.declared.{auxiliary.AuxRead.AuxRead, control.NwkFrameControl.NwkFrameControl, nwk.HeaderRead.HeaderRead, nwk.NwkHeader.NwkHeader}
 use Rattle.header.specs.Reading.{readHeader}
@@ -19,20 +19,23 @@ use Rattle.header.specs.Same.{Agrees, SameHeader, cleared, HeaderFits}
 use Rattle.header.specs.Writing.{headerBytes}
 use Rattle.header.proofs.ReadBack.{read-back, same-cleared}
 use Rattle.frame.specs.declared.{OptionAuxHeader.OptionAuxHeader, FrameRead.FrameRead}
-use Rattle.frame.specs.Reading.{secured, auxIf, auxBehind, frameRefusal, frameRefused, frameGiven, frameNumber, frameBy, readFrame}
-use Rattle.frame.specs.Writing.{frameBytes, frameWriteRefusal, writeFrame}
+use Rattle.frame.specs.Reading.{secured, auxIf, auxBehind, frameRefused, frameGiven, frameNumber, frameBy, readFrame}
+use Rattle.frame.specs.Writing.{frameBytes, frameWriteRefusal, writeFrame, frameWritten}
 use Rattle.frame.specs.Opening.{isSealed}
-use Rattle.frame.specs.SealingLaw.{bytesWritten}
-use Rattle.frame.proofs.Accepted.{bytes-written, ClearWritable, clear-writable, frame-refusal, counts}
+use Rattle.frame.proofs.Accepted.{bytes-written, ClearWritable, clear-writable, frame-refusal, Readable, readable, read-accepts, counts}
 
 -- the frame whose header has been read, the security bit being off
 clear-frame : (f : List ℕ) (h : HeaderRead) (a : AuxRead) → secured h ≡ false → h .refusal ≡ 0 → length f - h .length ≤ 108
     → frameBy f h a ≡ record { refusal = 0; length = h .length; header = h .header; aux = OptionAuxHeader.Absent }
-unfolding frameBy frameNumber frameRefusal
+unfolding frameBy
 clear-frame f h a s e short =
-    let none : frameNumber f h a ≡ 0 =
-    none-refuse _ (e, (ap (λ (b : Bool). cond b (a .refusal) 0) s, (ap (λ (b : Bool). not b && ltb 108 (length f - h .length)) s ∙ le-ltb 108 (length f - h .length) short, tt))) in
-    accepted (frameNumber f h a) (frameGiven h a) _ none
+    let able : Readable f h a =
+    record {
+      header = e;
+      aux = ap (λ (b : Bool). cond b (a .refusal) 0) s;
+      payload = ap (λ (b : Bool). not b && ltb 108 (length f - h .length)) s ∙ le-ltb 108 (length f - h .length) short;
+    } in
+    accepted (frameNumber f h a) (frameGiven h a) _ (read-accepts f h a able)
     ∙ (λ i. record { refusal = 0; length = h .length + cond (s i) (a .length) 0; header = h .header; aux = auxIf (s i) (a .aux) })
     ∙ (λ i. record { refusal = 0; length = add-zero (h .length) i; header = h .header; aux = OptionAuxHeader.Absent })
 
@@ -42,14 +45,14 @@ pub record ClearFacts (f : List ℕ) : Type 0 where
   pub read : readFrame f ≡ record { refusal = 0; length = readHeader f .length; header = readHeader f .header; aux = OptionAuxHeader.Absent }
 
 pub clear-facts : (f : List ℕ) → readFrame f .refusal ≡ 0 → isSealed (readFrame f .header) ≡ false → ClearFacts f
-unfolding readFrame frameBy frameNumber frameRefusal
+unfolding readFrame frameBy
 clear-facts f e off =
     let h = readHeader f in
     let a = auxBehind f h in
     let z : frameNumber f h a ≡ 0 = sym (frame-refusal f h a) ∙ e in
     let s : secured h ≡ false = rw (accepted (frameNumber f h a) (frameGiven h a) (frameRefused (frameNumber f h a)) z) at off in
-    let n = none _ z in
-    record { header = n .0; read = clear-frame f h a s (n .0) (ltb-false 108 (length f - h .length) (sym (counts (not (secured h)) _ (ap not s)) ∙ n .1 .1 .0)) }
+    let r = readable f h a z in
+    record { header = r .header; read = clear-frame f h a s (r .header) (ltb-false 108 (length f - h .length) (sym (counts (not (secured h)) _ (ap not s)) ∙ r .payload)) }
 
 -- what reading a clear frame gives of a header h and a payload p
 pub record ReadBack (h : NwkHeader) (p f : List ℕ) (r : FrameRead) : Type 0 where
@@ -58,11 +61,11 @@ pub record ReadBack (h : NwkHeader) (p f : List ℕ) (r : FrameRead) : Type 0 wh
   pub auxiliary : r .aux ≡ OptionAuxHeader.Absent
   pub payload : drop (r .length) f ≡ p
 
-clear-read : (h : NwkHeader) (p : List ℕ) (room : ℕ) → HeaderFits h → h .«frame_control» .security ≡ false → Agrees h → ClearWritable h p room
+clear-read : (h : NwkHeader) (p : List ℕ) (room : ℕ) → HeaderFits h → h .«frame_control» .security ≡ false → Agrees h → ClearWritable h (length p) room
     → ReadBack h p (frameBytes h p) (readFrame (frameBytes h p))
 unfolding frameBytes readFrame
 clear-read h p room fits off agrees w =
-    let whole = w .whole in
+    let whole : length (headerBytes h ++ p) ≤ 118 = rw (length-append (headerBytes h) p) (w .whole) in
     let header : readHeader (headerBytes h ++ p) ≡ record { refusal = 0; length = length (headerBytes h); header = cleared h } =
     read-back h p fits (w .good) agrees whole in
     let size : length (headerBytes h ++ p) - length (headerBytes h) ≤ 108 = omega (arith, length-append (headerBytes h) p, w .payload) in
@@ -78,8 +81,8 @@ clear-read h p room fits off agrees w =
 
 pub clear-back : (h : NwkHeader) (p out : List ℕ) → HeaderFits h → writeFrame h p out .answer .refusal ≡ 0
     → h .«frame_control» .security ≡ false → Agrees h
-    → ReadBack h p (bytesWritten (writeFrame h p out)) (readFrame (bytesWritten (writeFrame h p out)))
+    → ReadBack h p (frameWritten (writeFrame h p out)) (readFrame (frameWritten (writeFrame h p out)))
 unfolding writeFrame
 clear-back h p out fits ok off agrees =
-    let e : frameWriteRefusal h p (length out) ≡ 0 = sym (written-number _ _ out) ∙ ok in
-    rw (bytes-written _ (frameBytes h p) out e) (clear-read h p (length out) fits off agrees (clear-writable h p (length out) e))
+    let e : frameWriteRefusal h (length p) (length out) ≡ 0 = sym (written-number _ _ out) ∙ ok in
+    rw (bytes-written _ (frameBytes h p) out e) (clear-read h p (length out) fits off agrees (clear-writable h (length p) (length out) e))

@@ -10,7 +10,7 @@ use lib.ListN.{length, drop, length-append}
 use lib.Seq.{take-at, drop-at}
 use lib.Dec.{ltb}
 use Rattle.octets.specs.Strings.{over}
-use Rattle.octets.proofs.Conditions.{accepted, none-refuse}
+use Rattle.octets.proofs.Conditions.{accepted}
 use Rattle.header.specs.declared.{auxiliary.NwkSecurityLevel.NwkSecurityLevel, auxiliary.NwkAuxHeader.NwkAuxHeader, auxiliary.AuxRead.AuxRead, control.NwkFrameControl.NwkFrameControl, nwk.HeaderRead.HeaderRead, nwk.NwkHeader.NwkHeader}
 use Rattle.header.specs.Reading.{readHeader}
 use Rattle.header.specs.Auxiliary.{auxBytes, readAux}
@@ -19,27 +19,27 @@ use Rattle.header.specs.Same.{Agrees, AuxAgrees, cleared, HeaderFits, AuxFits}
 use Rattle.header.proofs.ReadBack.{read-back, same-cleared}
 use Rattle.header.proofs.AuxiliaryLaws.{aux-read-back}
 use Rattle.ccm.specs.Verification.{Verified}
-use Rattle.ccm.specs.Operations.{openedBy}
+use Rattle.ccm.specs.Operations.{ciphOf, openedBy}
 use Rattle.ccm.proofs.Opening.{length-ciphertext, length-tag, opened-sealed}
 use Rattle.frame.specs.declared.{OptionAuxHeader.OptionAuxHeader, FrameRead.FrameRead, Mark.Mark}
-use Rattle.frame.specs.Reading.{secured, auxIf, auxBehind, frameRefusal, frameGiven, frameNumber, frameBy, readFrame}
+use Rattle.frame.specs.Reading.{secured, auxIf, auxBehind, frameGiven, frameNumber, frameBy, readFrame}
 use Rattle.frame.specs.Security.{sentLevel, atLevel, orBlank, nonceIeee, noIeee, nonce, authenticated}
 use Rattle.frame.specs.Sealing.{generated, sealedBytes, sealedLength}
 use Rattle.frame.specs.Opening.{isSealed, behind, ciphertextOf, micOf, verified, openBy}
 use Rattle.frame.specs.Marks.{Openable}
 use Rattle.frame.proofs.Levels.{level-agrees, level-fits, level-length, level-nonce, level-authenticated, level-ieee}
-use Rattle.frame.proofs.Accepted.{sealed-run}
+use Rattle.frame.proofs.Accepted.{Readable, read-accepts, sealed-run}
 
 -- ---- reading a secured frame from its parts
 
 -- the frame whose headers have been read, the security bit being set
 pub secured-frame : (f : List ℕ) (h : HeaderRead) (a : AuxRead) → secured h ≡ true → h .refusal ≡ 0 → a .refusal ≡ 0
     → frameBy f h a ≡ record { refusal = 0; length = h .length + a .length; header = h .header; aux = OptionAuxHeader.Present (a .aux) }
-unfolding frameBy frameNumber frameRefusal
+unfolding frameBy
 secured-frame f h a s e g =
-    let none : frameNumber f h a ≡ 0 =
-    none-refuse _ (e, (ap (λ (b : Bool). cond b (a .refusal) 0) s ∙ g, (ap (λ (b : Bool). not b && ltb 108 (length f - h .length)) s, tt))) in
-    accepted (frameNumber f h a) (frameGiven h a) _ none
+    let able : Readable f h a =
+    record { header = e; aux = ap (λ (b : Bool). cond b (a .refusal) 0) s ∙ g; payload = ap (λ (b : Bool). not b && ltb 108 (length f - h .length)) s } in
+    accepted (frameNumber f h a) (frameGiven h a) _ (read-accepts f h a able)
     ∙ (λ i. record { refusal = 0; length = h .length + cond (s i) (a .length) 0; header = h .header; aux = auxIf (s i) (a .aux) })
 
 -- ---- the sealed bytes
@@ -68,7 +68,7 @@ module _ (l : NwkSecurityLevel) (t : ℕ) (key : List ℕ) (h : NwkHeader) (x : 
   unfolding sealedPart
   part-length = length-append (generated l t key h x p .ciphertext) (generated l t key h x p .tag) ∙ (λ i. ciphertext-length i + mic-length i)
 
-  pub sealed-length : length (sealedBytes l t key h x p) ≡ sealedLength t h x p
+  pub sealed-length : length (sealedBytes l t key h x p) ≡ sealedLength t h x (length p)
   unfolding sealedLength
   sealed-length =
       ap length in-three ∙ length-append (headerBytes h) _
@@ -88,7 +88,7 @@ module _ (l : NwkSecurityLevel) (t : ℕ) (key : List ℕ) (h : NwkHeader) (x : 
       }
 
   module _ (fits : HeaderFits h) (afits : AuxFits x) (good : badHeader h ≡ false) (sec : h .«frame_control» .security ≡ true)
-      (agrees : Agrees h) (aagrees : AuxAgrees x) (whole : sealedLength t h x p ≤ 118) where
+      (agrees : Agrees h) (aagrees : AuxAgrees x) (whole : sealedLength t h x (length p) ≤ 118) where
     short : length (headerBytes h ++ (auxBytes (atLevel sentLevel x) ++ sealedPart)) ≤ 118
     short = rw (← in-three, sealed-length) whole
 
@@ -146,21 +146,21 @@ module _ (l : NwkSecurityLevel) (t : ℕ) (key : List ℕ) (h : NwkHeader) (x : 
     unfolding micOf sealedPart
     mic-back = drop-at (generated l t key h x p .ciphertext) (generated l t key h x p .tag) _ (ciphertext-length ∙ sym front-size)
 
-    opened-back : verified l t key (sealedBytes l t key h x p) readBack
+    opened-back : verified l t (ciphOf key) (sealedBytes l t key h x p) readBack
         ≡ openedBy t key (nonce l h x) (authenticated l h x) (generated l t key h x p .ciphertext) (generated l t key h x p .tag)
     unfolding verified
     opened-back =
         λ i. openedBy t key (same-nonce i) (same-authenticated i)
         ((ap (ciphertextOf t) behind-headers ∙ ciphertext-back) i) ((ap (micOf t) behind-headers ∙ mic-back) i)
 
-    made : (verified l t key (sealedBytes l t key h x p) readBack .valid ≡ true) × (verified l t key (sealedBytes l t key h x p) readBack .payload ≡ p)
+    made : (verified l t (ciphOf key) (sealedBytes l t key h x p) readBack .valid ≡ true) × (verified l t (ciphOf key) (sealedBytes l t key h x p) readBack .payload ≡ p)
     unfolding generated
     made =
         let o = opened-sealed t _ (nonce l h x) (authenticated l h x) p in
         (ap (λ (v : Verified). v .valid) opened-back ∙ o .0, ap (λ (v : Verified). v .payload) opened-back ∙ o .1)
 
     openable-back : (room : ℕ) → noIeee h x ≡ false → length p ≤ room
-        → Openable l t key (sealedBytes l t key h x p) readBack room
+        → Openable l t (ciphOf key) (sealedBytes l t key h x p) readBack room
     unfolding readBack
     openable-back room ieee fits-room =
         let size : length (behind (sealedBytes l t key h x p) readBack) ≡ length p + t = ap length behind-headers ∙ part-length in
@@ -175,7 +175,7 @@ module _ (l : NwkSecurityLevel) (t : ℕ) (key : List ℕ) (h : NwkHeader) (x : 
 
     -- opening the sealed bytes gives exactly this
     pub reopened : (out : List ℕ) → noIeee h x ≡ false → length p ≤ length out
-        → openBy l t key (sealedBytes l t key h x p) (readFrame (sealedBytes l t key h x p)) out
+        → openBy l t (ciphOf key) (sealedBytes l t key h x p) (readFrame (sealedBytes l t key h x p)) out
         ≡ record {
           answer = record {
             refusal = 0;
@@ -189,8 +189,8 @@ module _ (l : NwkSecurityLevel) (t : ℕ) (key : List ℕ) (h : NwkHeader) (x : 
         }
     unfolding readBack
     reopened out ieee room =
-        ap (λ (r : FrameRead). openBy l t key (sealedBytes l t key h x p) r out) frame-read
-        ∙ sealed-run l t key (sealedBytes l t key h x p) readBack out (openable-back (length out) ieee room)
+        ap (λ (r : FrameRead). openBy l t (ciphOf key) (sealedBytes l t key h x p) r out) frame-read
+        ∙ sealed-run l t (ciphOf key) (sealedBytes l t key h x p) readBack out (openable-back (length out) ieee room)
         ∙ (λ i. record {
           answer = record {
             refusal = 0;

@@ -3,32 +3,32 @@
 use mathlib.Core.Path.{_≡_, refl, sym, ap, _∙_}
 use mathlib.Core.Bool.{Bool, true, false}
 use mathlib.Core.List.{List, [], _∷_}
-use Prim.Native.Nat.{ℕ}
+use mathlib.Core.Logic.{⊎-elim}
+use Prim.Native.Nat.{ℕ, zero, suc}
 use native.Mathlib.Omega.{arith}
-use borrow.Author.Tests.{eq-eqb, eqb-true}
+use borrow.Author.Tests.{eq-eqb, ne-eqb, eqb-true, eqb-false}
+use lib.Dec.{eqb}
 use lib.ListN.{length}
 use Rattle.octets.specs.Numbers.{leAt}
 use Rattle.octets.specs.Refusals.{unless, Condition, on, by, firstOf}
-use Rattle.octets.specs.Writing.{wroteNothing, written}
-use Rattle.octets.proofs.Conditions.{none, none-refuse, skip, stop-by, skip-by}
-use Rattle.octets.proofs.Writing.{write-refused, written-number}
+use Rattle.octets.proofs.Conditions.{none, gives, stop-by, skip-by}
 use Rattle.types.specs.Counters.{lastCounter}
 use Rattle.header.specs.declared.nwk.NwkHeader.{NwkHeader}
 use Rattle.header.specs.Reading.{readHeader}
 use Rattle.header.specs.Auxiliary.{auxBy, blankAux}
-use Rattle.header.specs.Writing.{badHeader, fieldRefusal}
+use Rattle.header.specs.Writing.{fieldRefusal}
 use Rattle.header.proofs.ReadFacts.{header-facts}
 use Rattle.ccm.specs.Operations.{micLength}
 use Rattle.frame.specs.declared.OptionAuxHeader.{OptionAuxHeader}
 use Rattle.frame.specs.Reading.{auxBehind}
-use Rattle.frame.specs.Security.{networkLevel, orBlank, noIeee}
-use Rattle.frame.specs.Sealing.{sealedBytes, lengthRefusals, counterOf, sealRefusal, sealFrame}
+use Rattle.frame.specs.Writing.{lengthRefusals}
+use Rattle.frame.specs.Security.{networkLevel, orBlank}
+use Rattle.frame.specs.Sealing.{sealedBytes, headersRefusal, sealRefusals, counterOf, sealRefusal, sealNothing, sealBy, sealFrame}
 use Rattle.frame.specs.Opening as opening
 use Rattle.frame.specs.LastCounter.{sealWithout21, SealableCounters, NothingElseChanged, LastRefused, OnlyTheLast, StillOpened, LeftOut}
-use Rattle.frame.proofs.Accepted.{bytes-written, sealable-without, number-without, not-last}
-use Rattle.frame.proofs.Marks.{never}
+use Rattle.frame.proofs.Accepted.{headers-accepted, sealable, seal-refused, sealed-number, bytes-sealed}
 use Rattle.frame.proofs.SecondHalf.{secured-facts}
-use Rattle.frame.proofs.SealingLaw.{seal-number, opened-again, opened-sealed, opened-run}
+use Rattle.frame.proofs.SealingLaw.{seal-number, seal-able, opened-again, opened-sealed, opened-run}
 
 -- ---- other counters
 
@@ -38,52 +38,54 @@ sealable-counters key h OptionAuxHeader.Absent p o fits accepted =
     let blank : counterOf OptionAuxHeader.Absent ≡ 0 = refl in
     omega arith
 sealable-counters key h (OptionAuxHeader.Present x) p o fits accepted =
-    let other = not-last micLength h (OptionAuxHeader.Present x) p (length o) (sym (seal-number key h (OptionAuxHeader.Present x) p o) ∙ accepted) in
-    omega (arith, fits .counter, other)
+    let s = seal-able h (OptionAuxHeader.Present x) (length p) (length o) (sym (seal-number key h (OptionAuxHeader.Present x) p o) ∙ accepted) in
+    omega (arith, fits .counter, eqb-false (x .«frame_counter») lastCounter (s .counter))
+
+-- the run by whether the counter is the last one
+by-counter : (key : List ℕ) (h : NwkHeader) (a : OptionAuxHeader) (p o : List ℕ) (b : Bool) → eqb (counterOf a) lastCounter ≡ b
+    → sealFrame key h a p o ≡ sealBy (firstOf (sealRefusals b micLength h a (length p) (length o))) (sealedBytes networkLevel micLength key h (orBlank a) p) o
+unfolding sealFrame sealRefusal
+by-counter key h a p o b e =
+    ap (λ (x : Bool). sealBy (firstOf (sealRefusals x micLength h a (length p) (length o))) (sealedBytes networkLevel micLength key h (orBlank a) p) o) e
 
 pub nothing-else-changed : NothingElseChanged
-unfolding sealFrame sealWithout21
-nothing-else-changed key h a p o other =
-    ap (λ (n : ℕ). written n (sealedBytes networkLevel micLength key h (orBlank a) p) o) (number-without micLength h a p (length o) other)
+unfolding sealWithout21
+nothing-else-changed key h a p o other = by-counter key h a p o false (ne-eqb (counterOf a) lastCounter other)
 
 -- ---- the last one
 
+-- what stands behind 21 does not count
+number-21 : (n : ℕ) (cs : List Condition) → firstOf (by n ∷ by 21 ∷ []) ≡ firstOf (by n ∷ on 21 true ∷ cs)
+unfolding firstOf unless
+number-21 zero cs = refl
+number-21 (suc n) cs = refl
+
 pub last-refused : LastRefused
-unfolding sealFrame sealRefusal firstOf unless
-last-refused key h x p o last =
-    let list : List Condition = by (fieldRefusal h) ∷ on 15 (noIeee h x) ∷ by 21 ∷ [] in
-    let number : firstOf list ≡ sealRefusal micLength h (OptionAuxHeader.Present x) p (length o) = rw (eq-eqb (x .«frame_counter») lastCounter last) refl in
-    sym (write-refused _ (firstOf list) (sealedBytes networkLevel micLength key h x p) o number (λ z. omega (arith, none list z .1 .1 .0)))
+unfolding sealRefusals
+last-refused key h a p o last =
+    by-counter key h a p o true (eq-eqb (counterOf a) lastCounter last)
+    ∙ sym (seal-refused _ _ o _ (number-21 (headersRefusal h a) _) (λ z. omega (arith, none (by (headersRefusal h a) ∷ by 21 ∷ []) z .1 .0)))
 
--- where the number is 21, the entry of 21 holds
-only-21 : (n : ℕ) (a b c d e : Bool) → (n ≡ 21 → ⊥) → firstOf (by n ∷ on 14 a ∷ on 15 b ∷ on 21 c ∷ on 17 d ∷ on 18 e ∷ []) ≡ 21 → c ≡ true
-unfolding firstOf
-only-21 n a b true d e h f = refl
-only-21 n a b false d e h f = absurd (never 21 (by n ∷ on 14 a ∷ on 15 b ∷ on 17 d ∷ on 18 e ∷ []) (λ z. omega arith) (h, (refl, (refl, (refl, (refl, tt))))) f)
-
-field-never : (h : NwkHeader) → fieldRefusal h ≡ 21 → ⊥
-unfolding fieldRefusal
-field-never h = never 21 _ (λ z. omega arith) (refl, tt)
+headers-never : (h : NwkHeader) (a : OptionAuxHeader) → headersRefusal h a ≡ 21 → ⊥
+unfolding headersRefusal fieldRefusal
+headers-never h a e = ⊎-elim (gives 21 _ (λ z. omega arith)) (λ z. z) (gives 21 _ (λ z. omega arith) e)
 
 pub only-the-last : OnlyTheLast
-unfolding sealRefusal lengthRefusals
+unfolding sealRefusal sealRefusals lengthRefusals
 only-the-last key h a p o e =
-    eqb-true (counterOf a) lastCounter (only-21 (fieldRefusal h) _ _ _ _ _ (field-never h) (sym (seal-number key h a p o) ∙ e))
+    ⊎-elim (λ k. absurd (headers-never h a k)) (⊎-elim (eqb-true (counterOf a) lastCounter) (λ z. absurd z))
+    (gives 21 _ (λ z. omega arith) (sym (seal-number key h a p o) ∙ e))
 
 -- ---- opening
 
 pub still-opened : StillOpened
 unfolding sealWithout21
-still-opened key h a p out out₂ fits afits accepted sec agrees aagrees within =
-    let e = sym (written-number _ _ out) ∙ accepted in
-    let s = sealable-without micLength h a p (length out) e in
-    rw (bytes-written _ (sealedBytes networkLevel micLength key h (orBlank a) p) out e) (opened-again key h a p (length out) out₂ fits afits s sec agrees aagrees within)
+still-opened key h a p out out₂ fits agree accepted within =
+    let e = sym (sealed-number _ _ out) ∙ accepted in
+    rw (bytes-sealed _ (sealedBytes networkLevel micLength key h (orBlank a) p) out e)
+    (opened-again key h a p false (length out) out₂ fits agree (sealable false micLength h a (length p) (length out) e) within)
 
 -- ---- sealing afresh
-
-good-field : (h : NwkHeader) → badHeader h ≡ false → fieldRefusal h ≡ 0
-unfolding fieldRefusal
-good-field h e = none-refuse _ (e, tt)
 
 pub left-out : LeftOut
 left-out key f out out₂ bytes marked last =
@@ -91,8 +93,7 @@ left-out key f out out₂ bytes marked last =
     let s = secured-facts f (w .reads) (w .on) in
     let run = opened-run key f out w s in
     let h = readHeader f .header in
-    let x = auxBehind f (readHeader f) .aux in
-    let ieee : noIeee h x ≡ false = rw (s .read) at (w .ieee) in
-    let number : firstOf (by (fieldRefusal h) ∷ on 15 (noIeee h x) ∷ by 21 ∷ []) ≡ 21 =
-    skip-by _ _ (good-field h (header-facts f bytes (s .header) .good)) ∙ skip 15 _ _ ieee ∙ stop-by 21 [] (λ z. omega arith) in
-    rw run (last-refused key h x _ out₂ (sym (ap (λ (r : opening.Run). counterOf (r .answer .aux)) run) ∙ last) ∙ ap (λ (n : ℕ). wroteNothing n out₂) number)
+    let x = OptionAuxHeader.Present (auxBehind f (readHeader f) .aux) in
+    let good = headers-accepted h x (record { good = header-facts f bytes (s .header) .good; present = refl; ieee = rw (s .read) at (w .ieee) }) in
+    rw run (last-refused key h x _ out₂ (sym (ap (λ (r : opening.Run). counterOf (r .answer .aux)) run) ∙ last)
+    ∙ ap (λ (n : ℕ). sealNothing n out₂) (skip-by _ _ good ∙ stop-by 21 [] (λ z. omega arith)))

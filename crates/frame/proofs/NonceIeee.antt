@@ -32,7 +32,7 @@ clear-gives-none key f o m = ap (λ (r : Run). r .answer .«nonce_ieee») (clear
 
 pub refused-gives-none : RefusedGivesNone
 unfolding openRefused
-refused-gives-none key f o h = ap (λ (a : FrameOpened). a .«nonce_ieee») (open-refused key f o _ refl h)
+refused-gives-none key f o h = ap (λ (a : FrameOpened). a .«nonce_ieee») (open-refused _ f o _ refl h)
 
 -- the level is no part of it
 level-address : (h k : NwkHeader) (a : OptionAuxHeader) → h .«source_ieee» ≡ k .«source_ieee» → addressOf k (levelZero a) ≡ addressOf h a
@@ -41,8 +41,8 @@ level-address h k OptionAuxHeader.Absent e = ap (λ (s : OptionEui64). ieeeOf (o
 level-address h k (OptionAuxHeader.Present x) e = ap (λ (s : OptionEui64). ieeeOf (x .«extended_source») s) (sym e)
 
 pub address-comes-back : AddressComesBack
-address-comes-back key h a p out out₂ fits afits accepted sec agrees aagrees within =
-    let back = first-half key h a p out out₂ fits afits accepted sec agrees aagrees within in
+address-comes-back key h a p out out₂ fits agree accepted within =
+    let back = first-half key h a p out out₂ fits agree accepted within in
     let n = sealed-gives-address key _ out₂ (back .marked) in
     let r = sealThenOpen key h a p out out₂ .answer in
     n .given

@@ -13,7 +13,7 @@ use borrow.Author.Tests.{lt-ltb, le-ltb}
 use Rattle.octets.specs.Strings.{Below}
 use Rattle.octets.specs.Refusals.{unless, Condition, on, by, firstOf}
 use Rattle.octets.proofs.Strings.{length-over, over-front}
-use Rattle.octets.proofs.Conditions.{accepted, refused, none, stop-by}
+use Rattle.octets.proofs.Conditions.{accepted, refused, stop-by}
 use Rattle.header.specs.declared.nwk.NwkHeader.{NwkHeader}
 use Rattle.header.specs.Reading.{headerRefusal, readHeader}
 use Rattle.header.proofs.ReadFacts.{header-number, header-facts}
@@ -22,66 +22,66 @@ use Rattle.ccm.specs.Operations.{micLength}
 use Rattle.frame.specs.declared.{OptionAuxHeader.OptionAuxHeader, FrameRead.FrameRead}
 use Rattle.frame.specs.Reading.{secured, auxBehind, frameRefusal, frameGiven, frameNumber, frameBy, readFrame}
 use Rattle.frame.specs.Security.{networkLevel}
-use Rattle.frame.specs.Opening.{isSealed, behind, verified, openRefusals, openRefusal, openRefused, Run, sealedGiven, clearGiven, openGiven, openNothing, openBy, openFrame}
-use Rattle.frame.proofs.Accepted.{frame-refusal, open-number, run-either}
+use Rattle.frame.specs.Opening.{isSealed, behind, verified, openRefusals, openRefusal, openRefused, Run, sealedGiven, clearGiven, openGiven, openNothing, openBy, openWith}
+use Rattle.frame.proofs.Accepted.{frame-refusal, readable, open-number, run-either}
 use Rattle.frame.proofs.SecondHalf.{payload-length}
 
 -- a number given before, if it is not 0
 given-first : (m n : ℕ) (cs : List Condition) → m ≡ n → (n ≡ 0 → ⊥) → firstOf (by m ∷ cs) ≡ n
 given-first m n cs e h = stop-by m cs (λ z. h (sym e ∙ z)) ∙ e
 
-module _ (key f o : List ℕ) where
+module _ (ciph : List ℕ → List ℕ) (f o : List ℕ) where
   -- the number that refuses, or 0
   abbrev number : ℕ
-  number = openRefusal networkLevel micLength key f (readFrame f) (length o)
+  number = openRefusal networkLevel micLength ciph f (readFrame f) (length o)
 
-  pub number-is : openFrame key f o .answer .refusal ≡ number
-  unfolding openFrame
-  number-is = open-number networkLevel micLength key f (readFrame f) o
+  pub number-is : openWith ciph f o .answer .refusal ≡ number
+  unfolding openWith
+  number-is = open-number networkLevel micLength ciph f (readFrame f) o
 
-  pub open-length : length (openFrame key f o .out) ≡ length o
-  unfolding openFrame
+  pub open-length : length (openWith ciph f o .out) ≡ length o
+  unfolding openWith
   open-length =
-      run-either networkLevel micLength key f (readFrame f) o (λ (r : Run). length (r .out) ≡ length o)
-      (λ w. length-over o 0 _ (rw (zero-add, payload-length networkLevel micLength key f (readFrame f)) (w .fits))) (λ e off. refl) refl
+      run-either networkLevel micLength ciph f (readFrame f) o (λ (r : Run). length (r .out) ≡ length o)
+      (λ w. length-over o 0 _ (rw (zero-add, payload-length networkLevel micLength ciph f (readFrame f)) (w .fits))) (λ e off. refl) refl
 
-  pub open-behind : drop (openFrame key f o .answer .length) (openFrame key f o .out) ≡ drop (openFrame key f o .answer .length) o
-  unfolding openFrame openRefused
+  pub open-behind : drop (openWith ciph f o .answer .length) (openWith ciph f o .out) ≡ drop (openWith ciph f o .answer .length) o
+  unfolding openWith openRefused
   open-behind =
-      run-either networkLevel micLength key f (readFrame f) o (λ (r : Run). drop (r .answer .length) (r .out) ≡ drop (r .answer .length) o)
-      (λ w. rw over-front (drop-append-seam (verified networkLevel micLength key f (readFrame f) .payload) _)) (λ e off. refl) refl
+      run-either networkLevel micLength ciph f (readFrame f) o (λ (r : Run). drop (r .answer .length) (r .out) ≡ drop (r .answer .length) o)
+      (λ w. rw over-front (drop-append-seam (verified networkLevel micLength ciph f (readFrame f) .payload) _)) (λ e off. refl) refl
 
-  pub open-refused : (n : ℕ) → openFrame key f o .answer .refusal ≡ n → (n ≡ 0 → ⊥) → openFrame key f o .answer ≡ openRefused n
-  unfolding openFrame openBy
+  pub open-refused : (n : ℕ) → openWith ciph f o .answer .refusal ≡ n → (n ≡ 0 → ⊥) → openWith ciph f o .answer ≡ openRefused n
+  unfolding openWith openBy
   open-refused n e h =
       ap (λ (r : Run). r .answer) (refused number _ _ (λ z. h (sym e ∙ number-is ∙ z))) ∙ ap openRefused (sym number-is ∙ e)
 
   -- the header's number, if it has one
-  pub open-header : (n : ℕ) → headerRefusal f ≡ n → (n ≡ 0 → ⊥) → openFrame key f o .answer .refusal ≡ n
+  pub open-header : (n : ℕ) → headerRefusal f ≡ n → (n ≡ 0 → ⊥) → openWith ciph f o .answer .refusal ≡ n
   unfolding openRefusal openRefusals frameRefusal frameNumber readFrame
   open-header n e h =
       let read : readFrame f .refusal ≡ n = frame-refusal f (readHeader f) _ ∙ given-first _ n _ (header-number f ∙ e) h in
       number-is ∙ given-first _ n _ (given-first _ n _ read h) h
 
 -- no bytes at all, and more than a frame has
-pub open-empty : (key o : List ℕ) → openFrame key [] o .answer .refusal ≡ 2
+pub open-empty : (ciph : List ℕ → List ℕ) (o : List ℕ) → openWith ciph [] o .answer .refusal ≡ 2
 unfolding headerRefusal firstOf
-open-empty key o = open-header key [] o 2 refl (λ z. omega arith)
+open-empty ciph o = open-header ciph [] o 2 refl (λ z. omega arith)
 
-pub open-long : (key f o : List ℕ) → 118 < length f → openFrame key f o .answer .refusal ≡ 1
+pub open-long : (ciph : List ℕ → List ℕ) (f o : List ℕ) → 118 < length f → openWith ciph f o .answer .refusal ≡ 1
 unfolding headerRefusal firstOf
-open-long key f o h = open-header key f o 1 (rw (lt-ltb 118 (length f) h) refl) (λ z. omega arith)
+open-long ciph f o h = open-header ciph f o 1 (rw (lt-ltb 118 (length f) h) refl) (λ z. omega arith)
 
 -- ---- the room
 
 -- what is behind the headers of a frame that was read, less a MIC, has at most 108 bytes
 behind-short : (f : List ℕ) → Below 256 f → readFrame f .refusal ≡ 0 → length (behind f (readFrame f)) - 4 ≤ 108
-unfolding readFrame frameBy frameNumber frameRefusal behind
+unfolding readFrame frameBy behind
 behind-short f u e =
     let h = readHeader f in
     let a = auxBehind f h in
     let z = sym (frame-refusal f h a) ∙ e in
-    let hf = header-facts f u (none _ z .0) in
+    let hf = header-facts f u (readable f h a z .header) in
     let read : readFrame f .length ≡ h .length + cond (secured h) (a .length) 0 = ap (λ (r : FrameRead). r .length) (accepted (frameNumber f h a) (frameGiven h a) _ z) in
     omega (arith, hf .short, hf .least, read, length-drop (readFrame f .length) f)
 
@@ -107,11 +107,11 @@ same-answer zero f r v o o′ = same-given (isSealed (r .header)) f r v o o′
 same-answer (suc n) f r v o o′ = refl
 
 -- 108 bytes have room for every payload: the answer is that of every longer output
-pub open-roomy : (key f o o′ : List ℕ) → Below 256 f → 108 ≤ length o → 108 ≤ length o′ → openFrame key f o .answer ≡ openFrame key f o′ .answer
-unfolding openFrame openBy openRefusal
-open-roomy key f o o′ u r r′ =
+pub open-roomy : (ciph : List ℕ → List ℕ) (f o o′ : List ℕ) → Below 256 f → 108 ≤ length o → 108 ≤ length o′ → openWith ciph f o .answer ≡ openWith ciph f o′ .answer
+unfolding openWith openBy openRefusal
+open-roomy ciph f o o′ u r r′ =
     let x = readFrame f in
-    let v = verified networkLevel micLength key f x in
+    let v = verified networkLevel micLength ciph f x in
     let same = same-number (x .refusal) (x .header) (x .aux) (length (behind f x)) (length o) (length o′) (behind-short f u) r r′ in
     let wrong = isSealed (x .header) && not (v .valid) in
     ap (λ (m : ℕ). unless (firstOf (by m ∷ on 19 wrong ∷ [])) (openGiven f x v o) (openNothing (firstOf (by m ∷ on 19 wrong ∷ [])) o) .answer) same

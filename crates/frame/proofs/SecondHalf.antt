@@ -2,7 +2,7 @@
 -- it opened to the ciphertext and MIC that follow them, and the two parts are the whole frame. For every level and tag length.
 -- Assumes nothing.
 use mathlib.Core.Path.{_≡_, refl, sym, ap, _∙_}
-use mathlib.Core.Bool.{Bool, true, cond}
+use mathlib.Core.Bool.{Bool, true, false, cond}
 use mathlib.Core.List.{List, _++_}
 use Prim.Native.Nat.{ℕ, _+_, _-_, _%_, _≤_, _<_}
 use native.Mathlib.Nat.{add-zero}
@@ -11,7 +11,7 @@ use lib.ListN.{length, getD, take, drop, length-drop, take-append-drop}
 use lib.Seq.{take-add, getD-drop, length-take-le}
 use Rattle.octets.proofs.Strings.{drop-below}
 use Rattle.octets.specs.Strings.{Below}
-use Rattle.octets.proofs.Conditions.{accepted, none}
+use Rattle.octets.proofs.Conditions.{accepted}
 use Rattle.header.specs.declared.{auxiliary.NwkSecurityLevel.NwkSecurityLevel, auxiliary.NwkAuxHeader.NwkAuxHeader, auxiliary.AuxRead.AuxRead, nwk.HeaderRead.HeaderRead}
 use Rattle.header.specs.Reading.{readHeader}
 use Rattle.header.specs.Auxiliary.{auxBytes}
@@ -19,14 +19,15 @@ use Rattle.header.specs.AuxiliaryControl.{withLevel}
 use Rattle.header.specs.Writing.{headerBytes}
 use Rattle.header.proofs.ReadFacts.{HeaderFacts, header-facts, AuxFacts, aux-facts}
 use Rattle.header.proofs.AuxiliaryLaws.{aux-length}
+use Rattle.ccm.specs.Operations.{ciphOf}
 use Rattle.ccm.proofs.Opening.{length-payload, sealed-opened}
 use Rattle.frame.specs.declared.{OptionAuxHeader.OptionAuxHeader, FrameRead.FrameRead}
-use Rattle.frame.specs.Reading.{secured, auxBehind, frameRefusal, frameRefused, frameGiven, frameNumber, frameBy, readFrame}
+use Rattle.frame.specs.Reading.{secured, auxBehind, frameRefused, frameGiven, frameNumber, frameBy, readFrame}
 use Rattle.frame.specs.Security.{sentLevel, atLevel, orBlank, nonce, authenticated}
 use Rattle.frame.specs.Sealing.{generated, sealedBytes, sealedLength}
 use Rattle.frame.specs.Opening.{isSealed, behind, ciphertextOf, micOf, verified}
 use Rattle.frame.specs.Marks.{Openable}
-use Rattle.frame.proofs.Accepted.{Sealable, frame-refusal}
+use Rattle.frame.proofs.Accepted.{Sealable, frame-refusal, readable}
 use Rattle.frame.proofs.FirstHalf.{secured-frame}
 
 -- ---- a frame that was read and has an auxiliary header
@@ -46,12 +47,6 @@ pub record SecuredFacts (f : List ℕ) : Type 0 where
   pub aux : auxBehind f (readHeader f) .refusal ≡ 0
   pub read : readFrame f ≡ wholeRead f
 
-accepted-parts : (f : List ℕ) (h : HeaderRead) (a : AuxRead) → frameNumber f h a ≡ 0 → secured h ≡ true → (h .refusal ≡ 0) × (a .refusal ≡ 0)
-unfolding frameNumber frameRefusal
-accepted-parts f h a e s =
-    let n = none _ e in
-    (n .0, sym (ap (λ (b : Bool). cond b (a .refusal) 0) s) ∙ n .1 .0)
-
 pub secured-facts : (f : List ℕ) → readFrame f .refusal ≡ 0 → isSealed (readFrame f .header) ≡ true → SecuredFacts f
 unfolding readFrame frameBy
 secured-facts f e sealed =
@@ -59,8 +54,9 @@ secured-facts f e sealed =
     let a = auxBehind f h in
     let z : frameNumber f h a ≡ 0 = sym (frame-refusal f h a) ∙ e in
     let s : secured h ≡ true = rw (accepted (frameNumber f h a) (frameGiven h a) (frameRefused (frameNumber f h a)) z) at sealed in
-    let parts = accepted-parts f h a z s in
-    record { header = parts .0; aux = parts .1; read = secured-frame f h a s (parts .0) (parts .1) }
+    let r = readable f h a z in
+    let aux : a .refusal ≡ 0 = sym (ap (λ (b : Bool). cond b (a .refusal) 0) s) ∙ r .aux in
+    record { header = r .header; aux = aux; read = secured-frame f h a s (r .header) aux }
 
 -- ---- sealing again
 
@@ -81,14 +77,15 @@ sent-already a e =
     }
 
 -- the payload that CCM opened, and what sealing it makes
-module _ (l : NwkSecurityLevel) (t : ℕ) (key f : List ℕ) (r : FrameRead) where
-  pub payload-length : length (verified l t key f r .payload) ≡ length (behind f r) - t
-  unfolding verified ciphertextOf
-  payload-length = length-payload t _ _ _ _ _ ∙ length-take-le _ (behind f r) (omega arith)
+pub payload-length : (l : NwkSecurityLevel) (t : ℕ) (ciph : List ℕ → List ℕ) (f : List ℕ) (r : FrameRead)
+    → length (verified l t ciph f r .payload) ≡ length (behind f r) - t
+unfolding verified ciphertextOf
+payload-length l t ciph f r = length-payload t _ _ _ _ _ ∙ length-take-le _ (behind f r) (omega arith)
 
-  made-again : t ≤ length (behind f r) → verified l t key f r .valid ≡ true
-      → generated l t key (r .header) (orBlank (r .aux)) (verified l t key f r .payload) .ciphertext
-      ++ generated l t key (r .header) (orBlank (r .aux)) (verified l t key f r .payload) .tag ≡ behind f r
+module _ (l : NwkSecurityLevel) (t : ℕ) (key f : List ℕ) (r : FrameRead) where
+  made-again : t ≤ length (behind f r) → verified l t (ciphOf key) f r .valid ≡ true
+      → generated l t key (r .header) (orBlank (r .aux)) (verified l t (ciphOf key) f r .payload) .ciphertext
+      ++ generated l t key (r .header) (orBlank (r .aux)) (verified l t (ciphOf key) f r .payload) .tag ≡ behind f r
   unfolding verified generated ciphertextOf micOf
   made-again tagged valid =
       let u : length (drop (length (behind f r) - t) (behind f r)) ≡ t = simp length-drop (omega arith) in
@@ -119,8 +116,8 @@ module _ (l : NwkSecurityLevel) (t : ℕ) (key f : List ℕ) (u : Below 256 f) (
       (λ i. hf .bytes i ++ (ap auxBytes (sent-already _ (af .plain (rw first-behind zero-level))) ∙ af .exact (rw first-behind low)) i)
       ∙ sym (take-add (readHeader f .length) (auxBehind f (readHeader f) .length) f)
 
-  pub frame-again : t ≤ length (behind f (wholeRead f)) → verified l t key f (wholeRead f) .valid ≡ true
-      → sealedBytes l t key (readHeader f .header) (auxBehind f (readHeader f) .aux) (verified l t key f (wholeRead f) .payload) ≡ f
+  pub frame-again : t ≤ length (behind f (wholeRead f)) → verified l t (ciphOf key) f (wholeRead f) .valid ≡ true
+      → sealedBytes l t key (readHeader f .header) (auxBehind f (readHeader f) .aux) (verified l t (ciphOf key) f (wholeRead f) .payload) ≡ f
   unfolding sealedBytes behind
   frame-again tagged valid =
       (λ i. headers-again i ++ made-again l t key f (wholeRead f) tagged valid i)
@@ -134,25 +131,25 @@ module _ (l : NwkSecurityLevel) (t : ℕ) (key f : List ℕ) (u : Below 256 f) (
   unfolding part
   size-part = length-drop (readHeader f .length) f
 
-  pub sealable-again : (room : ℕ) → Openable l t key f (wholeRead f) room
-      → Sealable t (readHeader f .header) (OptionAuxHeader.Present (auxBehind f (readHeader f) .aux)) (verified l t key f (wholeRead f) .payload) 118
+  pub sealable-again : (room : ℕ) (isLast : Bool) → Openable l t (ciphOf key) f (wholeRead f) room → isLast ≡ false
+      → Sealable isLast t (readHeader f .header) (OptionAuxHeader.Present (auxBehind f (readHeader f) .aux))
+      (length (verified l t (ciphOf key) f (wholeRead f) .payload)) 118
   unfolding sealedLength
-  sealable-again room o =
+  sealable-again room isLast o other =
       let short = hf .short in
       let least = hf .least in
       let within = hf .within in
       let inside = af .within in
       let tagged = o .tagged in
-      let size = payload-length l t key f (wholeRead f) in
+      let size = payload-length l t (ciphOf key) f (wholeRead f) in
       let header : length (headerBytes (readHeader f .header)) ≡ readHeader f .length = ap length (hf .bytes) ∙ length-take-le _ f within in
       let aux = af .size in
       let six = aux-length (auxBehind f (readHeader f) .aux) in
       let b = size-behind in
       let p = size-part in
       record {
-        good = hf .good;
-        present = refl;
-        ieee = o .ieee;
+        headers = record { good = hf .good; present = refl; ieee = o .ieee };
+        counter = other;
         payload = omega arith;
         whole = omega arith;
         fits = omega arith;

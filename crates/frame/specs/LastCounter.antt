@@ -2,35 +2,26 @@
 -- frames and earlier output contents.
 -- Assumes nothing.
 use mathlib.Core.Path.{_≡_}
-use mathlib.Core.Bool.{true}
+use mathlib.Core.Bool.{false}
 use mathlib.Core.List.{List, [], _∷_}
 use Prim.Native.Nat.{ℕ, _≤_}
 use lib.ListN.{length}
 use Rattle.octets.specs.Strings.{Below}
-use Rattle.octets.specs.Refusals.{on, by, firstOf}
-use Rattle.octets.specs.Writing.{Run, wroteNothing, written}
+use Rattle.octets.specs.Refusals.{by, firstOf}
 use Rattle.types.specs.Counters.{lastCounter}
-use Rattle.header.specs.declared.{auxiliary.NwkAuxHeader.NwkAuxHeader, nwk.NwkHeader.NwkHeader}
-use Rattle.header.specs.Writing.{fieldRefusal}
-use Rattle.header.specs.Same.{Agrees, HeaderFits}
+use Rattle.header.specs.declared.nwk.NwkHeader.{NwkHeader}
 use Rattle.ccm.specs.Operations.{micLength}
 use Rattle.frame.specs.declared.{OptionAuxHeader.OptionAuxHeader, Mark.Mark}
-use Rattle.frame.specs.Security.{networkLevel, isAbsent, orBlank, noIeee}
-use Rattle.frame.specs.Sealing.{sealedBytes, lengthRefusals, counterOf, sealFrame}
+use Rattle.frame.specs.Security.{networkLevel, orBlank}
+use Rattle.frame.specs.Sealing as sealing
+use Rattle.frame.specs.Sealing.{sealedBytes, headersRefusal, sealRefusals, counterOf, sealNothing, sealBy, sealFrame}
 use Rattle.frame.specs.Opening.{openFrame}
-use Rattle.frame.specs.SealingLaw.{bytesWritten, AuxOptionFits, AuxOptionAgrees, Reopened, openThenSeal}
+use Rattle.frame.specs.SealingLaw.{bytesWritten, AuxOptionFits, BitsAgree, InRange, Reopened, openThenSeal}
 
--- sealing's list without 21, as document 01 has it, and what sealing by it leaves
-unfoldable pub refusalWithout21 : ℕ → NwkHeader → OptionAuxHeader → List ℕ → ℕ → ℕ
-refusalWithout21 t h a p room =
-    firstOf (by (fieldRefusal h)
-    ∷ on 14 (isAbsent a)
-    ∷ on 15 (noIeee h (orBlank a))
-    ∷ lengthRefusals t h (orBlank a) p room)
-
-unfoldable pub sealWithout21 : List ℕ → NwkHeader → OptionAuxHeader → List ℕ → List ℕ → Run
+-- sealing by its list without 21, as document 01 has it
+unfoldable pub sealWithout21 : List ℕ → NwkHeader → OptionAuxHeader → List ℕ → List ℕ → sealing.Run
 sealWithout21 key h a p o =
-    written (refusalWithout21 micLength h a p (length o)) (sealedBytes networkLevel micLength key h (orBlank a) p) o
+    sealBy (firstOf (sealRefusals false micLength h a (length p) (length o))) (sealedBytes networkLevel micLength key h (orBlank a) p) o
 
 -- ---- "sealable counters are now 0 to 0xFFFFFFFE"
 
@@ -48,12 +39,13 @@ NothingElseChanged =
 
 -- ---- "21, after 15 and before 17, if the counter to be sealed is FFFFFFFF"
 
--- under that counter 13 and 15 come first, and then it is 21, whatever the payload and the output's length; nothing is written
+-- under that counter the headers' own numbers come first, and then it is 21, whatever the payload and the output's length; nothing
+-- is written
 abbrev pub LastRefused : Type 0
 LastRefused =
-    (key : List ℕ) (h : NwkHeader) (x : NwkAuxHeader) (p o : List ℕ)
-    → x .«frame_counter» ≡ lastCounter
-    → sealFrame key h (OptionAuxHeader.Present x) p o ≡ wroteNothing (firstOf (by (fieldRefusal h) ∷ on 15 (noIeee h x) ∷ by 21 ∷ [])) o
+    (key : List ℕ) (h : NwkHeader) (a : OptionAuxHeader) (p o : List ℕ)
+    → counterOf a ≡ lastCounter
+    → sealFrame key h a p o ≡ sealNothing (firstOf (by (headersRefusal h a) ∷ by 21 ∷ [])) o
 
 -- and 21 is said of no other
 abbrev pub OnlyTheLast : Type 0
@@ -67,10 +59,8 @@ OnlyTheLast =
 abbrev pub StillOpened : Type 0
 StillOpened =
     (key : List ℕ) (h : NwkHeader) (a : OptionAuxHeader) (p out out₂ : List ℕ)
-    → HeaderFits h → AuxOptionFits a
+    → InRange h a → BitsAgree h a
     → sealWithout21 key h a p out .answer .refusal ≡ 0
-    → h .«frame_control» .security ≡ true
-    → Agrees h → AuxOptionAgrees a
     → length p ≤ length out₂
     → Reopened h a p (openFrame key (bytesWritten (sealWithout21 key h a p out)) out₂)
 
@@ -83,4 +73,4 @@ LeftOut =
     → Below 256 f
     → openFrame key f out .answer .mark ≡ Mark.Sealed
     → counterOf (openFrame key f out .answer .aux) ≡ lastCounter
-    → openThenSeal key f out out₂ ≡ wroteNothing 21 out₂
+    → openThenSeal key f out out₂ ≡ sealNothing 21 out₂

@@ -10,15 +10,15 @@ use lib.ListN.{length, drop}
 use lib.Dec.{ltb}
 use Rattle.octets.specs.Refusals.{on, by, firstOf}
 use Rattle.header.specs.declared.{auxiliary.NwkSecurityLevel.NwkSecurityLevel, nwk.NwkHeader.NwkHeader}
+use Rattle.header.specs.Reading.{control}
 use Rattle.header.specs.Same.{Agrees, SameHeader, HeaderFits}
 use Rattle.ccm.specs.Verification.{Verified}
-use Rattle.ccm.specs.Operations.{micLength}
+use Rattle.ccm.specs.Operations.{micLength, ciphOf}
 use Rattle.frame.specs.declared.{OptionAuxHeader.OptionAuxHeader, FrameRead.FrameRead, Mark.Mark}
 use Rattle.frame.specs.Reading.{readFrame}
 use Rattle.frame.specs.Security.{networkLevel, orBlank, noIeee}
-use Rattle.frame.specs.Writing.{writeFrame}
+use Rattle.frame.specs.Writing.{writeFrame, frameWritten}
 use Rattle.frame.specs.Opening.{isSealed, behind, verified, sealedGiven, clearGiven, openFrame, payloadIn}
-use Rattle.frame.specs.SealingLaw.{bytesWritten}
 
 -- the payload handed back of the frame f, opened under key into o
 abbrev pub handedBack : List ℕ → List ℕ → List ℕ → List ℕ
@@ -50,19 +50,19 @@ ClearOnly = (key f o : List ℕ) → openFrame key f o .answer .mark ≡ Mark.Cl
 
 -- what CCM makes of the frame
 abbrev pub ccmOf : List ℕ → List ℕ → Verified
-ccmOf key f = verified networkLevel micLength key f (readFrame f)
+ccmOf key f = verified networkLevel micLength (ciphOf key) f (readFrame f)
 
--- the conditions on which a frame is opened: at level l with a tag of t bytes, r being what reading it answers
-pub record Openable (l : NwkSecurityLevel) (t : ℕ) (key f : List ℕ) (r : FrameRead) (room : ℕ) : Type 0 where
+-- the conditions on which a frame is opened: at level l with a tag of t bytes under the cipher ciph, r being what reading it answers
+pub record Openable (l : NwkSecurityLevel) (t : ℕ) (ciph : List ℕ → List ℕ) (f : List ℕ) (r : FrameRead) (room : ℕ) : Type 0 where
   pub reads : r .refusal ≡ 0
   pub on : isSealed (r .header) ≡ true
   pub ieee : noIeee (r .header) (orBlank (r .aux)) ≡ false
   pub tagged : t ≤ length (behind f r)
   pub fits : length (behind f r) - t ≤ room
-  pub valid : verified l t key f r .valid ≡ true
+  pub valid : verified l t ciph f r .valid ≡ true
 
 abbrev pub IsOpened : List ℕ → List ℕ → List ℕ → Type 0
-IsOpened key f o = Openable networkLevel micLength key f (readFrame f) (length o)
+IsOpened key f o = Openable networkLevel micLength (ciphOf key) f (readFrame f) (length o)
 
 -- on these the headers are as read, and what CCM opened stands at the front of the output
 abbrev pub SealedAccepted : Type 0
@@ -72,10 +72,10 @@ SealedAccepted = (key f o : List ℕ) → IsOpened key f o → openFrame key f o
 abbrev pub SealedOnly : Type 0
 SealedOnly = (key f o : List ℕ) → openFrame key f o .answer .mark ≡ Mark.Sealed → IsOpened key f o
 
--- a frame whose security bit is on is refused by the numbers that refused it, in their order
+-- a frame whose security bit is on, read or not, is refused by the numbers that refused it, in their order
 abbrev pub SecuredNumbers : Type 0
 SecuredNumbers =
-    (key f o : List ℕ) → isSealed (readFrame f .header) ≡ true
+    (key f o : List ℕ) → control f .security ≡ true
     → openFrame key f o .answer .refusal
     ≡ firstOf (by (readFrame f .refusal)
     ∷ on 15 (noIeee (readFrame f .header) (orBlank (readFrame f .aux)))
@@ -130,4 +130,4 @@ abbrev pub WrittenOpensClear : Type 0
 WrittenOpensClear =
     (key : List ℕ) (h : NwkHeader) (p out o : List ℕ) → HeaderFits h → writeFrame h p out .answer .refusal ≡ 0
     → h .«frame_control» .security ≡ false → Agrees h
-    → WrittenBack h p key (bytesWritten (writeFrame h p out)) o
+    → WrittenBack h p key (frameWritten (writeFrame h p out)) o

@@ -3,7 +3,6 @@
 -- that the record in a burst says the same is `EachSaid` in crates/burst/specs/Claims.antt.
 -- Assumes nothing.
 use mathlib.Core.Path.{_≡_}
-use mathlib.Core.Bool.{true}
 use mathlib.Core.List.{List, _++_}
 use Prim.Native.Nat.{ℕ, _≤_}
 use lib.ListN.{length}
@@ -11,14 +10,13 @@ use Rattle.octets.specs.Numbers.{le}
 use Rattle.types.specs.declared.OptionEui64.{OptionEui64}
 use Rattle.header.specs.declared.{auxiliary.NwkAuxHeader.NwkAuxHeader, nwk.NwkHeader.NwkHeader}
 use Rattle.header.specs.AuxiliaryControl.{securityByte, withLevel}
-use Rattle.header.specs.Same.{Agrees, HeaderFits}
 use Rattle.ccm.specs.Operations.{micLength, openedBy}
 use Rattle.frame.specs.declared.{OptionAuxHeader.OptionAuxHeader, Mark.Mark}
 use Rattle.frame.specs.Reading.{readFrame}
 use Rattle.frame.specs.Security.{networkLevel, orBlank, ieeeOf, authenticated}
 use Rattle.frame.specs.Sealing.{sealFrame}
 use Rattle.frame.specs.Opening.{behind, ciphertextOf, micOf, openFrame}
-use Rattle.frame.specs.SealingLaw.{AuxOptionFits, AuxOptionAgrees, sealThenOpen}
+use Rattle.frame.specs.SealingLaw.{BitsAgree, InRange, sealThenOpen}
 use Rattle.frame.specs.Marks.{ccmOf}
 
 -- the address that the nonce of two headers uses
@@ -58,9 +56,7 @@ RefusedGivesNone = (key f o : List ℕ) → (openFrame key f o .answer .refusal 
 abbrev pub AddressComesBack : Type 0
 AddressComesBack =
     (key : List ℕ) (h : NwkHeader) (a : OptionAuxHeader) (p out out₂ : List ℕ)
-    → HeaderFits h → AuxOptionFits a
+    → InRange h a → BitsAgree h a
     → sealFrame key h a p out .answer .refusal ≡ 0
-    → h .«frame_control» .security ≡ true
-    → Agrees h → AuxOptionAgrees a
     → length p ≤ length out₂
     → sealThenOpen key h a p out out₂ .answer .«nonce_ieee» ≡ OptionEui64.Present (addressOf h a)

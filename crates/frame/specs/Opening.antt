@@ -12,8 +12,8 @@ use Rattle.octets.specs.Refusals.{unless, Condition, on, by, firstOf}
 use Rattle.header.specs.declared.{auxiliary.NwkSecurityLevel.NwkSecurityLevel, nwk.NwkHeader.NwkHeader}
 use Rattle.header.specs.Reading.{blankHeader}
 use Rattle.types.specs.declared.OptionEui64.{OptionEui64}
-use Rattle.ccm.specs.Verification.{Verified}
-use Rattle.ccm.specs.Operations.{micLength, openedBy}
+use Rattle.ccm.specs.Verification.{Verified, decryptionVerification}
+use Rattle.ccm.specs.Operations.{micLength, ciphOf, ciphUnder}
 use Rattle.frame.specs.declared.{OptionAuxHeader.OptionAuxHeader, FrameRead.FrameRead, Mark.Mark, FrameOpened.FrameOpened}
 use Rattle.frame.specs.Reading.{readFrame}
 use Rattle.frame.specs.Security.{networkLevel, orBlank, nonceIeee, noIeee, nonce, authenticated}
@@ -36,10 +36,10 @@ ciphertextOf t s = take (length s - t) s
 unfoldable pub micOf : ℕ → List ℕ → List ℕ
 micOf t s = lastOf t s
 
--- what CCM makes of them
-unfoldable pub verified : NwkSecurityLevel → ℕ → List ℕ → List ℕ → FrameRead → Verified
-verified l t key f r =
-    openedBy t key (nonce l (r .header) (orBlank (r .aux))) (authenticated l (r .header) (orBlank (r .aux)))
+-- what CCM makes of them, ciph being the cipher under the key
+unfoldable pub verified : NwkSecurityLevel → ℕ → (List ℕ → List ℕ) → List ℕ → FrameRead → Verified
+verified l t ciph f r =
+    decryptionVerification t ciph (nonce l (r .header) (orBlank (r .aux))) (authenticated l (r .header) (orBlank (r .aux)))
     (ciphertextOf t (behind f r)) (micOf t (behind f r))
 
 -- document 01's numbers 1 to 12 as reading gives them; then, if the frame is sealed, 15, 16 and 18, for the bytes behind
@@ -53,10 +53,10 @@ openRefusals t number h a part room =
     ∷ []
 
 -- those, then 19, if the frame is sealed
-unfoldable pub openRefusal : NwkSecurityLevel → ℕ → List ℕ → List ℕ → FrameRead → ℕ → ℕ
-openRefusal l t key f r room =
+unfoldable pub openRefusal : NwkSecurityLevel → ℕ → (List ℕ → List ℕ) → List ℕ → FrameRead → ℕ → ℕ
+openRefusal l t ciph f r room =
     firstOf (by (firstOf (openRefusals t (r .refusal) (r .header) (r .aux) (length (behind f r)) room))
-    ∷ on 19 (isSealed (r .header) && not (verified l t key f r .valid))
+    ∷ on 19 (isSealed (r .header) && not (verified l t ciph f r .valid))
     ∷ [])
 
 -- the number alone: no mark and no address stand beside a refusal
@@ -99,12 +99,20 @@ openGiven f r v o = cond (isSealed (r .header)) (sealedGiven r v o) (clearGiven 
 abbrev pub openNothing : ℕ → List ℕ → Run
 openNothing n o = record { answer = openRefused n; out = o }
 
-unfoldable pub openBy : NwkSecurityLevel → ℕ → List ℕ → List ℕ → FrameRead → List ℕ → Run
-openBy l t key f r o =
-    unless (openRefusal l t key f r (length o)) (openGiven f r (verified l t key f r) o) (openNothing (openRefusal l t key f r (length o)) o)
+unfoldable pub openBy : NwkSecurityLevel → ℕ → (List ℕ → List ℕ) → List ℕ → FrameRead → List ℕ → Run
+openBy l t ciph f r o =
+    unless (openRefusal l t ciph f r (length o)) (openGiven f r (verified l t ciph f r) o) (openNothing (openRefusal l t ciph f r (length o)) o)
 
-unfoldable pub openFrame : List ℕ → List ℕ → List ℕ → Run
-openFrame key f o = openBy networkLevel micLength key f (readFrame f) o
+unfoldable pub openWith : (List ℕ → List ℕ) → List ℕ → List ℕ → Run
+openWith ciph f o = openBy networkLevel micLength ciph f (readFrame f) o
+
+-- opening under a key
+abbrev pub openFrame : List ℕ → List ℕ → List ℕ → Run
+openFrame key f o = openWith (ciphOf key) f o
+
+-- the same under any eleven round keys; under those of a key it is `openFrame` (`cipher-is` in crates/ccm/proofs/Answers.antt)
+abbrev pub openUnder : List (List (List ℕ)) → List ℕ → List ℕ → Run
+openUnder w f o = openWith (ciphUnder w) f o
 
 -- ---- the payload
 

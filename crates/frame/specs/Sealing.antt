@@ -1,19 +1,20 @@
 -- Sealing a frame (Zigbee Specification 4.3.1.1; `NwkFrame::serialize` with a key).
 -- Assumes nothing.
 use Prim.Native.Nat.{ℕ, _+_}
-use mathlib.Core.Bool.{_||_}
+use mathlib.Core.Bool.{Bool}
 use mathlib.Core.List.{List, [], _∷_, _++_}
 use lib.ListN.{length}
-use lib.Dec.{eqb, ltb}
-use Rattle.octets.specs.Refusals.{Condition, on, by, firstOf}
-use Rattle.octets.specs.Writing.{Run, written}
+use lib.Dec.{eqb}
+use Rattle.octets.specs.Strings.{over}
+use Rattle.octets.specs.Refusals.{unless, Condition, on, by, firstOf}
 use Rattle.types.specs.Counters.{lastCounter}
 use Rattle.header.specs.declared.{auxiliary.NwkSecurityLevel.NwkSecurityLevel, auxiliary.NwkAuxHeader.NwkAuxHeader, nwk.NwkHeader.NwkHeader}
 use Rattle.header.specs.Auxiliary.{auxBytes}
 use Rattle.header.specs.Writing.{headerBytes, fieldRefusal}
 use Rattle.ccm.specs.Generation.{Generated}
 use Rattle.ccm.specs.Operations.{micLength, sealedBy}
-use Rattle.frame.specs.declared.OptionAuxHeader.{OptionAuxHeader}
+use Rattle.frame.specs.declared.{OptionAuxHeader.OptionAuxHeader, FrameSealed.FrameSealed}
+use Rattle.frame.specs.Writing.{lengthRefusals}
 use Rattle.frame.specs.Security.{networkLevel, sentLevel, atLevel, isAbsent, orBlank, noIeee, nonce, authenticated}
 
 -- what CCM makes of the payload p
@@ -25,30 +26,53 @@ unfoldable pub sealedBytes : NwkSecurityLevel → ℕ → List ℕ → NwkHeader
 sealedBytes l t key h a p =
     (headerBytes h ++ auxBytes (atLevel sentLevel a)) ++ (generated l t key h a p .ciphertext ++ generated l t key h a p .tag)
 
--- the frame's length, with a tag of t bytes
-unfoldable pub sealedLength : ℕ → NwkHeader → NwkAuxHeader → List ℕ → ℕ
-sealedLength t h a p = length (headerBytes h) + length (auxBytes a) + length p + t
+-- ---- the refusals: they go by the payload's length and not by its bytes
 
--- document 01's numbers 17, for more than 108 bytes of payload or more than 118 in all, and 18
-unfoldable pub lengthRefusals : ℕ → NwkHeader → NwkAuxHeader → List ℕ → ℕ → List Condition
-lengthRefusals t h a p room =
-    on 17 (ltb 108 (length p) || ltb 118 (sealedLength t h a p))
-    ∷ on 18 (ltb room (sealedLength t h a p))
-    ∷ []
+-- the frame's length, for n bytes of payload and a tag of t
+unfoldable pub sealedLength : ℕ → NwkHeader → NwkAuxHeader → ℕ → ℕ
+sealedLength t h a n = length (headerBytes h) + length (auxBytes a) + t + n
+
+-- those of the two headers: document 01's numbers 13, 14 and 15
+unfoldable pub headersRefusal : NwkHeader → OptionAuxHeader → ℕ
+headersRefusal h a = firstOf (by (fieldRefusal h) ∷ on 14 (isAbsent a) ∷ on 15 (noIeee h (orBlank a)) ∷ [])
 
 -- the counter to be sealed
 abbrev pub counterOf : OptionAuxHeader → ℕ
 counterOf a = orBlank a .«frame_counter»
 
--- document 01's numbers 13, 14 and 15, document 02's 21, then those
-unfoldable pub sealRefusal : ℕ → NwkHeader → OptionAuxHeader → List ℕ → ℕ → ℕ
-sealRefusal t h a p room =
-    firstOf (by (fieldRefusal h)
-    ∷ on 14 (isAbsent a)
-    ∷ on 15 (noIeee h (orBlank a))
-    ∷ on 21 (eqb (counterOf a) lastCounter)
-    ∷ lengthRefusals t h (orBlank a) p room)
+-- those, then document 02's 21 if the counter is the last one, then 17 and 18
+unfoldable pub sealRefusals : Bool → ℕ → NwkHeader → OptionAuxHeader → ℕ → ℕ → List Condition
+sealRefusals isLast t h a n room =
+    by (headersRefusal h a)
+    ∷ on 21 isLast
+    ∷ lengthRefusals n (sealedLength t h (orBlank a) n) room
+
+unfoldable pub sealRefusal : ℕ → NwkHeader → OptionAuxHeader → ℕ → ℕ → ℕ
+sealRefusal t h a n room = firstOf (sealRefusals (eqb (counterOf a) lastCounter) t h a n room)
+
+-- ---- the run
+
+-- what sealing leaves: its answer, and the whole of the lent output
+pub record Run : Type 0 where
+  pub answer : FrameSealed
+  pub out : List ℕ
+
+-- the frame at the front of the output, and the rest as it was
+abbrev pub sealGiven : List ℕ → List ℕ → Run
+sealGiven bs o = record { answer = record { refusal = 0; length = length bs }; out = over o 0 bs }
+
+-- the number alone
+unfoldable pub sealRefused : ℕ → FrameSealed
+sealRefused n = record { refusal = n; length = 0 }
+
+-- refused by a number, nothing changed
+abbrev pub sealNothing : ℕ → List ℕ → Run
+sealNothing n o = record { answer = sealRefused n; out = o }
+
+-- by the refusal's number, bs being the frame
+unfoldable pub sealBy : ℕ → List ℕ → List ℕ → Run
+sealBy n bs o = unless n (sealGiven bs o) (sealNothing n o)
 
 unfoldable pub sealFrame : List ℕ → NwkHeader → OptionAuxHeader → List ℕ → List ℕ → Run
 sealFrame key h a p o =
-    written (sealRefusal micLength h a p (length o)) (sealedBytes networkLevel micLength key h (orBlank a) p) o
+    sealBy (sealRefusal micLength h a (length p) (length o)) (sealedBytes networkLevel micLength key h (orBlank a) p) o

@@ -8,9 +8,9 @@
 -- and its counter is not the last one, sealing afresh the two headers and payload bytes it returned, under that key into 118
 -- bytes, is accepted and writes exactly that frame's bytes, no more and no fewer.
 --
--- `FirstHalf` and `SecondHalf` say this below; proofs/SealingLaw.antt has a value of each. The premises `HeaderFits`,
--- `AuxFits` and `Below 256` only say what every value of a type has, that each number is within its type's range; the
--- functions of `header::ranges` and of src/ranges.rt promise them of every value.
+-- `FirstHalf` and `SecondHalf` say this below; proofs/SealingLaw.antt has a value of each. The premises `InRange` and
+-- `Below 256` only say what every value of a type has, that each number is within its type's range; the functions of
+-- `header::ranges` and of src/ranges.rt promise them of every value.
 -- Assumes nothing.
 use mathlib.Core.Path.{_≡_}
 use Prim.Native.Nat.{ℕ, _≤_, _/_, _%_}
@@ -22,22 +22,21 @@ use Rattle.types.specs.Counters.{lastCounter}
 use Rattle.header.specs.declared.nwk.NwkHeader.{NwkHeader}
 use Rattle.header.specs.Reading.{readHeader}
 use Rattle.header.specs.Same.{Agrees, AuxAgrees, SameHeader, HeaderFits, AuxFits}
-use Rattle.octets.specs.Writing as writing
 use Rattle.frame.specs.declared.{OptionAuxHeader.OptionAuxHeader, Mark.Mark}
 use Rattle.frame.specs.Security.{sentLevel, atLevel}
+use Rattle.frame.specs.Sealing as sealing
 use Rattle.frame.specs.Sealing.{counterOf, sealFrame}
 use Rattle.frame.specs.Opening as opening
 use Rattle.frame.specs.Opening.{openFrame}
 
 -- the bytes written, and the payload that opening a sealed frame gave: the output's first n bytes, n being the length given
-abbrev pub bytesWritten : writing.Run → List ℕ
+abbrev pub bytesWritten : sealing.Run → List ℕ
 bytesWritten r = take (r .answer .length) (r .out)
 
 abbrev pub payloadGiven : opening.Run → List ℕ
 payloadGiven r = take (r .answer .length) (r .out)
 
--- an auxiliary header or none: its presence bit agrees with its field; it is within its types' ranges; the same, only
--- the level now 0
+-- an auxiliary header or none: its presence bit agrees with its field; it is within its types' ranges
 abbrev pub AuxOptionAgrees : OptionAuxHeader → Type 0
 AuxOptionAgrees OptionAuxHeader.Absent = Unit {0}
 AuxOptionAgrees (OptionAuxHeader.Present a) = AuxAgrees a
@@ -46,6 +45,18 @@ abbrev pub AuxOptionFits : OptionAuxHeader → Type 0
 AuxOptionFits OptionAuxHeader.Absent = Unit {0}
 AuxOptionFits (OptionAuxHeader.Present a) = AuxFits a
 
+-- what the first half asks of the headers handed over: the security bit is set, and each presence bit agrees with its field
+pub record BitsAgree (h : NwkHeader) (a : OptionAuxHeader) : Type 0 where
+  pub security : h .«frame_control» .security ≡ true
+  pub header : Agrees h
+  pub auxiliary : AuxOptionAgrees a
+
+-- what every pair of headers has
+pub record InRange (h : NwkHeader) (a : OptionAuxHeader) : Type 0 where
+  pub header : HeaderFits h
+  pub auxiliary : AuxOptionFits a
+
+-- the same auxiliary header or none, only the level now 0
 abbrev pub levelZero : OptionAuxHeader → OptionAuxHeader
 levelZero OptionAuxHeader.Absent = OptionAuxHeader.Absent
 levelZero (OptionAuxHeader.Present a) = OptionAuxHeader.Present (atLevel sentLevel a)
@@ -68,17 +79,15 @@ pub record Reopened (h : NwkHeader) (a : OptionAuxHeader) (p : List ℕ) (r : op
 abbrev pub FirstHalf : Type 0
 FirstHalf =
     (key : List ℕ) (h : NwkHeader) (a : OptionAuxHeader) (p out out₂ : List ℕ)
-    → HeaderFits h → AuxOptionFits a
+    → InRange h a → BitsAgree h a
     → sealFrame key h a p out .answer .refusal ≡ 0
-    → h .«frame_control» .security ≡ true
-    → Agrees h → AuxOptionAgrees a
     → length p ≤ length out₂
     → Reopened h a p (sealThenOpen key h a p out out₂)
 
 -- ---- the second half
 
 -- opening a frame, then sealing afresh the headers and the payload given
-abbrev pub openThenSeal : List ℕ → List ℕ → List ℕ → List ℕ → writing.Run
+abbrev pub openThenSeal : List ℕ → List ℕ → List ℕ → List ℕ → sealing.Run
 openThenSeal key f out out₂ =
     sealFrame key (openFrame key f out .answer .header) (openFrame key f out .answer .aux) (payloadGiven (openFrame key f out)) out₂
 
@@ -88,7 +97,7 @@ pub record PlainControl (f : List ℕ) : Type 0 where
   pub bit7 : getD f (readHeader f .length) 0 / 128 ≡ 0
 
 -- what sealing afresh writes of an opened frame f
-pub record Resealed (f : List ℕ) (s : writing.Run) : Type 0 where
+pub record Resealed (f : List ℕ) (s : sealing.Run) : Type 0 where
   pub accepted : s .answer .refusal ≡ 0
   pub length : s .answer .length ≡ length f
   pub bytes : bytesWritten s ≡ f

@@ -1,11 +1,11 @@
 -- Writing a frame without a key: header and payload only, whatever auxiliary header there may be.
 -- Assumes nothing.
-use Prim.Native.Nat.{ℕ}
+use Prim.Native.Nat.{ℕ, _+_}
 use mathlib.Core.Bool.{_||_}
 use mathlib.Core.List.{List, [], _∷_, _++_}
-use lib.ListN.{length}
+use lib.ListN.{length, take}
 use lib.Dec.{ltb}
-use Rattle.octets.specs.Refusals.{on, by, firstOf}
+use Rattle.octets.specs.Refusals.{Condition, on, by, firstOf}
 use Rattle.octets.specs.Writing.{Run, written}
 use Rattle.header.specs.declared.nwk.NwkHeader.{NwkHeader}
 use Rattle.header.specs.Writing.{headerBytes, fieldRefusal}
@@ -13,13 +13,18 @@ use Rattle.header.specs.Writing.{headerBytes, fieldRefusal}
 unfoldable pub frameBytes : NwkHeader → List ℕ → List ℕ
 frameBytes h p = headerBytes h ++ p
 
--- 17: more than 108 bytes of payload, or more than 118 in all
-unfoldable pub frameWriteRefusal : NwkHeader → List ℕ → ℕ → ℕ
-frameWriteRefusal h p room =
-    firstOf (by (fieldRefusal h)
-    ∷ on 17 (ltb 108 (length p) || ltb 118 (length (frameBytes h p)))
-    ∷ on 18 (ltb room (length (frameBytes h p)))
-    ∷ [])
+-- document 01's numbers 17, for more than 108 bytes of payload or more than 118 in all, and 18: n bytes of payload in a frame of
+-- whole
+unfoldable pub lengthRefusals : ℕ → ℕ → ℕ → List Condition
+lengthRefusals n whole room = on 17 (ltb 108 n || ltb 118 whole) ∷ on 18 (ltb room whole) ∷ []
+
+-- 13, then those, for n bytes of payload
+unfoldable pub frameWriteRefusal : NwkHeader → ℕ → ℕ → ℕ
+frameWriteRefusal h n room = firstOf (by (fieldRefusal h) ∷ lengthRefusals n (length (headerBytes h) + n) room)
 
 unfoldable pub writeFrame : NwkHeader → List ℕ → List ℕ → Run
-writeFrame h p o = written (frameWriteRefusal h p (length o)) (frameBytes h p) o
+writeFrame h p o = written (frameWriteRefusal h (length p) (length o)) (frameBytes h p) o
+
+-- the frame that was written: the output's first n bytes, n being the length given
+abbrev pub frameWritten : Run → List ℕ
+frameWritten r = take (r .answer .length) (r .out)

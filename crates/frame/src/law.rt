@@ -1,23 +1,21 @@
 // The sealing law carried to the code: sealing and opening in turn, either way round.
 use crate::FrameOpened;
+use crate::FrameSealed;
 use crate::OptionAuxHeader;
 use crate::opening;
-use crate::ranges::aux_option_fits;
+use crate::ranges::in_range;
 use crate::sealing;
 use header::nwk::NwkHeader;
 use header::ranges;
-use octets::Written;
 use types::Key;
 ghost use mathlib.Core.Path.{_≡_};
-ghost use mathlib.Core.Bool.{true};
 ghost use Prim.Native.Nat.{_≤_};
 ghost use lib.ListN.{length};
 ghost use Rattle.types.specs.Counters.{lastCounter};
-ghost use Rattle.header.specs.Same.{Agrees};
 ghost use Rattle.frame.specs.declared.Mark.{Mark};
 ghost use Rattle.frame.specs.Sealing.{counterOf, sealFrame};
 ghost use Rattle.frame.specs.Opening.{openFrame};
-ghost use Rattle.frame.specs.SealingLaw.{AuxOptionAgrees, sealThenOpen, Reopened, PlainControl, openThenSeal, Resealed};
+ghost use Rattle.frame.specs.SealingLaw.{BitsAgree, sealThenOpen, Reopened, PlainControl, openThenSeal, Resealed};
 
 // Seal a frame and open the bytes written. Where sealing accepts and the bits agree with the fields, the headers and the
 // payload come back; where it refuses, nothing was written, and opening no bytes is refused by 2.
@@ -32,19 +30,18 @@ pub fn seal_then_open(
     ensures answer { λ r. ⌜ r ≡ sealThenOpen (key .0) h aux (now (payload .entry)) (now (frame .entry)) (now (out .entry)) .answer ⌝ }
     ensures frame { λ _. ⌜ now (frame .exit) ≡ sealFrame (key .0) h aux (now (payload .entry)) (now (frame .entry)) .out ⌝ }
     ensures out { λ _. ⌜ now (out .exit) ≡ sealThenOpen (key .0) h aux (now (payload .entry)) (now (frame .entry)) (now (out .entry)) .out ⌝ }
-    ensures law { λ r. ⌜ (sealFrame (key .0) h aux (now (payload .entry)) (now (frame .entry)) .answer .refusal ≡ 0 → h .«frame_control» .security ≡ true → Agrees h → AuxOptionAgrees aux → length (now (payload .entry)) ≤ length (now (out .entry)) → Reopened h aux (now (payload .entry)) (record { answer = r; out = now (out .exit) })) ⌝ }
+    ensures law { λ r. ⌜ (sealFrame (key .0) h aux (now (payload .entry)) (now (frame .entry)) .answer .refusal ≡ 0 → BitsAgree h aux → length (now (payload .entry)) ≤ length (now (out .entry)) → Reopened h aux (now (payload .entry)) (record { answer = r; out = now (out .exit) })) ⌝ }
 {
-    ranges::header_fits(h);
-    aux_option_fits(aux);
-    let written = sealing::seal(key, h, aux, payload, frame);
-    let n = written.length;
+    in_range(h, aux);
+    let sealed = sealing::seal(key, h, aux, payload, frame);
+    let n = sealed.length;
     opening::open(key, &frame[..n], out)
 }
 
 // Open a frame and seal afresh what it gave. Where opening accepts a sealed frame whose security control byte has level and
 // bit 7 zero, and 118 bytes are lent, exactly the frame's bytes are written again, unless its counter is the last one: that
 // sealing refuses by 21. Of a clear frame it is refused by 14.
-pub fn open_then_seal(key: Key, frame: &[u8], out: &mut [u8], again: &mut [u8]) -> Written
+pub fn open_then_seal(key: Key, frame: &[u8], out: &mut [u8], again: &mut [u8]) -> FrameSealed
     ensures answer { λ r. ⌜ r ≡ openThenSeal (key .0) (now (frame .entry)) (now (out .entry)) (now (again .entry)) .answer ⌝ }
     ensures out { λ _. ⌜ now (out .exit) ≡ openFrame (key .0) (now (frame .entry)) (now (out .entry)) .out ⌝ }
     ensures again { λ _. ⌜ now (again .exit) ≡ openThenSeal (key .0) (now (frame .entry)) (now (out .entry)) (now (again .entry)) .out ⌝ }

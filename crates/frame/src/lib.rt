@@ -10,10 +10,12 @@ use types::MAX_NSDU_SIZE;
 use types::OptionEui64;
 ghost use mathlib.Core.Path.{_≡_};
 ghost use mathlib.Core.Bool.{cond};
+ghost use mathlib.Core.List.{_∷_};
 ghost use Prim.Native.Nat.{_+_, _≤_};
 ghost use lib.ListN.{drop};
+ghost use Rattle.octets.specs.Refusals.{by, firstOf};
 ghost use Rattle.frame.specs.Reading.{auxIf, frameRefused, frameRefusal, readFrame, payloadOf};
-ghost use Rattle.frame.specs.Writing.{frameWriteRefusal, writeFrame};
+ghost use Rattle.frame.specs.Writing.{lengthRefusals, frameWriteRefusal, writeFrame};
 ghost use Rattle.frame.specs.Security.{isAbsent, orBlank};
 
 pub mod law;
@@ -41,6 +43,12 @@ pub struct FrameRead {
     pub length: usize,
     pub header: NwkHeader,
     pub aux: OptionAuxHeader,
+}
+
+// What sealing a frame answers: a refusal's number with length 0, or 0 and the frame's length.
+pub struct FrameSealed {
+    pub refusal: u8,
+    pub length: usize,
 }
 
 // What opening says of a payload: nothing beside a refusal; that the frame was clear, so that nobody vouches for its payload;
@@ -124,16 +132,9 @@ pub fn behind<'a>(frame: &'a [u8], n: usize) -> &'a [u8]
 fn frame_refusal(header: u8, secured: bool, aux: u8, payload: usize) -> u8
     ensures { λ r. ⌜ r ≡ frameRefusal header secured aux payload ⌝ }
 {
-    if header != 0 {
-        return header;
-    }
-    if secured {
-        return aux;
-    }
-    if MAX_NSDU_SIZE < payload {
-        return refusals::PAYLOAD;
-    }
-    0
+    let r = octets::refuse(header, aux, secured);
+    let payload = octets::both(!secured, MAX_NSDU_SIZE < payload);
+    octets::refuse(r, refusals::PAYLOAD, payload)
 }
 
 // How many bytes the two headers take.
@@ -180,25 +181,20 @@ pub fn read_frame(frame: &[u8]) -> FrameRead
     }
 }
 
-// The first of the refusals 13, 17 and 18 that holds for a frame without a key, or 0.
-fn write_refusal(h: NwkHeader, payload: &[u8], room: usize) -> u8
-    ensures { λ r. ⌜ r ≡ frameWriteRefusal h (now (payload .entry)) room ⌝ }
+// The number given before, or the first of 17 and 18 that holds for n bytes of payload behind a front of so many, or 0.
+fn length_refusal(before: u8, front: usize, n: usize, room: usize) -> u8
+    ensures { λ r. ⌜ r ≡ firstOf (by before ∷ lengthRefusals n (front + n) room) ⌝ }
 {
-    let fields = h.field_refusal();
-    if fields != 0 {
-        return fields;
-    }
-    if MAX_NSDU_SIZE < payload.len() {
-        return refusals::LENGTH;
-    }
-    let whole = h.size() + payload.len();
-    if MAX_MAC_PAYLOAD_SIZE < whole {
-        return refusals::LENGTH;
-    }
-    if room < whole {
-        return refusals::NO_ROOM;
-    }
-    0
+    let whole = octets::exceeds(MAX_MAC_PAYLOAD_SIZE, front, n);
+    let r = octets::refuse(before, refusals::LENGTH, octets::either(MAX_NSDU_SIZE < n, whole));
+    octets::refuse(r, refusals::NO_ROOM, octets::exceeds(room, front, n))
+}
+
+// The first of the refusals 13, 17 and 18 that holds for a frame without a key and n bytes of payload, or 0.
+fn write_refusal(h: NwkHeader, n: usize, room: usize) -> u8
+    ensures { λ r. ⌜ r ≡ frameWriteRefusal h n room ⌝ }
+{
+    length_refusal(h.field_refusal(), h.size(), n, room)
 }
 
 // Write a frame without a key: header and payload only; refusals 13, 17 and 18, which change nothing.
@@ -206,7 +202,7 @@ pub fn write_frame(h: NwkHeader, payload: &[u8], out: &mut [u8]) -> Written
     ensures answer { λ r. ⌜ r ≡ writeFrame h (now (payload .entry)) (now (out .entry)) .answer ⌝ }
     ensures buffer { λ _. ⌜ now (out .exit) ≡ writeFrame h (now (payload .entry)) (now (out .entry)) .out ⌝ }
 {
-    let refusal = write_refusal(h, payload, out.len());
+    let refusal = write_refusal(h, payload.len(), out.len());
     if refusal != 0 {
         return Written { refusal, length: 0 };
     }

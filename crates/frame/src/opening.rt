@@ -13,15 +13,14 @@ use types::Key;
 use types::OptionEui64;
 ghost use mathlib.Core.Path.{_≡_};
 ghost use mathlib.Core.Bool.{false};
-ghost use mathlib.Core.List.{List};
-ghost use Prim.Native.Nat.{ℕ, _+_, _-_, _≤_, _<_};
+ghost use Prim.Native.Nat.{_+_, _-_, _≤_};
 ghost use lib.ListN.{length, take};
 ghost use Rattle.octets.specs.Refusals.{firstOf};
 ghost use Rattle.header.specs.Auxiliary.{auxBytes};
 ghost use Rattle.header.specs.Writing.{badHeader, headerBytes};
-ghost use Rattle.ccm.specs.Operations.{micLength, openedBy, Under, givenIf};
+ghost use Rattle.ccm.specs.Operations.{micLength, openedUnder, givenIf};
 ghost use Rattle.frame.specs.Security.{networkLevel, nonce, authenticated};
-ghost use Rattle.frame.specs.Opening.{ciphertextOf, micOf, lastOf, openRefusals, openRefused, openFrame, payloadIn};
+ghost use Rattle.frame.specs.Opening.{ciphertextOf, micOf, lastOf, openRefusals, openRefused, openFrame, openUnder, payloadIn};
 
 impl FrameOpened {
     // The answer of a refusal: its number alone.
@@ -44,23 +43,16 @@ impl FrameOpened {
 pub fn open_refusal(number: u8, h: NwkHeader, aux: OptionAuxHeader, part: usize, room: usize) -> u8
     ensures { λ r. ⌜ r ≡ firstOf (openRefusals micLength number h aux part room) ⌝ }
 {
-    if number != 0 {
-        return number;
-    }
-    if !h.frame_control.security {
-        return 0;
-    }
-    let present = aux.or_blank();
-    if security::no_ieee(h, present) {
-        return refusals::NO_IEEE;
-    }
-    if part < ccm::MIC_LENGTH {
-        return refusals::NO_MIC;
-    }
-    if room < part - ccm::MIC_LENGTH {
-        return refusals::NO_ROOM;
-    }
-    0
+    let sealed = h.frame_control.security;
+    let no_ieee = security::no_ieee(h, aux.or_blank());
+    let short = room < octets::minus(part, ccm::MIC_LENGTH);
+    let r = octets::refuse(number, refusals::NO_IEEE, octets::both(sealed, no_ieee));
+    let r = octets::refuse(
+        r,
+        refusals::NO_MIC,
+        octets::both(sealed, part < ccm::MIC_LENGTH),
+    );
+    octets::refuse(r, refusals::NO_ROOM, octets::both(sealed, short))
 }
 
 // Open ciphertext and MIC: whether the MIC is the one computed; only then the payload goes to the front of the output.
@@ -72,8 +64,8 @@ fn open_part(
     out: &mut [u8],
 ) -> bool
     requires { ⌜ (length (now auth) ≤ 127) × (length (now part) ≤ 127) × (4 ≤ length (now part)) × (length (now part) - 4 ≤ length (now out)) ⌝ }
-    ensures valid { λ r. ⌜ Under (now (keys .entry)) (λ (key : List ℕ). r ≡ openedBy micLength key nonce (now (auth .entry)) (ciphertextOf micLength (now (part .entry))) (micOf micLength (now (part .entry))) .valid) ⌝ }
-    ensures buffer { λ r. ⌜ Under (now (keys .entry)) (λ (key : List ℕ). now (out .exit) ≡ givenIf r (openedBy micLength key nonce (now (auth .entry)) (ciphertextOf micLength (now (part .entry))) (micOf micLength (now (part .entry)))) (now (out .entry))) ⌝ }
+    ensures valid { λ r. ⌜ r ≡ openedUnder micLength (now (keys .entry)) nonce (now (auth .entry)) (ciphertextOf micLength (now (part .entry))) (micOf micLength (now (part .entry))) .valid ⌝ }
+    ensures buffer { λ r. ⌜ now (out .exit) ≡ givenIf r (openedUnder micLength (now (keys .entry)) nonce (now (auth .entry)) (ciphertextOf micLength (now (part .entry))) (micOf micLength (now (part .entry)))) (now (out .entry)) ⌝ }
 {
     let split = ccm::split_mic(part);
     let mic = split.mic;
@@ -90,8 +82,8 @@ fn open_frame(
     out: &mut [u8],
 ) -> bool
     requires { ⌜ (badHeader h ≡ false) × (length (headerBytes h) + length (auxBytes aux) ≤ 118) × (length (now part) ≤ 127) × (4 ≤ length (now part)) × (length (now part) - 4 ≤ length (now out)) ⌝ }
-    ensures valid { λ r. ⌜ Under (now (keys .entry)) (λ (key : List ℕ). r ≡ openedBy micLength key (nonce networkLevel h aux) (authenticated networkLevel h aux) (ciphertextOf micLength (now (part .entry))) (micOf micLength (now (part .entry))) .valid) ⌝ }
-    ensures buffer { λ r. ⌜ Under (now (keys .entry)) (λ (key : List ℕ). now (out .exit) ≡ givenIf r (openedBy micLength key (nonce networkLevel h aux) (authenticated networkLevel h aux) (ciphertextOf micLength (now (part .entry))) (micOf micLength (now (part .entry)))) (now (out .entry))) ⌝ }
+    ensures valid { λ r. ⌜ r ≡ openedUnder micLength (now (keys .entry)) (nonce networkLevel h aux) (authenticated networkLevel h aux) (ciphertextOf micLength (now (part .entry))) (micOf micLength (now (part .entry))) .valid ⌝ }
+    ensures buffer { λ r. ⌜ now (out .exit) ≡ givenIf r (openedUnder micLength (now (keys .entry)) (nonce networkLevel h aux) (authenticated networkLevel h aux) (ciphertextOf micLength (now (part .entry))) (micOf micLength (now (part .entry)))) (now (out .entry)) ⌝ }
 {
     let nonce = security::nonce_of(h, aux, NwkSecurityLevel::EncMic32);
     let mut auth = [0u8; 118];
@@ -104,10 +96,10 @@ fn open_frame(
     open_part(keys, nonce, &auth[..start], part, out)
 }
 
-// Open a frame under a key's round keys, for a caller that opens more than one; the same refusals as `open`.
+// Open a frame under round keys, for a caller that opens more than one; the same refusals as `open`.
 pub fn open_under(keys: &[[[u8; 4]; 4]; 11], frame: &[u8], out: &mut [u8]) -> FrameOpened
-    ensures answer { λ r. ⌜ Under (now (keys .entry)) (λ (key : List ℕ). r ≡ openFrame key (now (frame .entry)) (now (out .entry)) .answer) ⌝ }
-    ensures buffer { λ _. ⌜ Under (now (keys .entry)) (λ (key : List ℕ). now (out .exit) ≡ openFrame key (now (frame .entry)) (now (out .entry)) .out) ⌝ }
+    ensures answer { λ r. ⌜ r ≡ openUnder (now (keys .entry)) (now (frame .entry)) (now (out .entry)) .answer ⌝ }
+    ensures buffer { λ _. ⌜ now (out .exit) ≡ openUnder (now (keys .entry)) (now (frame .entry)) (now (out .entry)) .out ⌝ }
 {
     let read = read_frame(frame);
     let header = read.header;

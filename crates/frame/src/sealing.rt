@@ -1,10 +1,11 @@
 // Sealing a frame (Zigbee Specification 4.3.1.1).
+use crate::FrameSealed;
 use crate::OptionAuxHeader;
+use crate::length_refusal;
 use crate::security;
 use header::auxiliary::NwkAuxHeader;
 use header::auxiliary::NwkSecurityLevel;
 use header::nwk::NwkHeader;
-use octets::Written;
 use octets::refusals;
 use types::Key;
 ghost use mathlib.Core.Path.{_≡_};
@@ -13,56 +14,46 @@ ghost use mathlib.Core.List.{_++_};
 ghost use Prim.Native.Nat.{_+_, _≤_, _<_};
 ghost use lib.ListN.{length};
 ghost use Rattle.octets.specs.Strings.{over};
-ghost use Rattle.octets.specs.Refusals.{firstOf};
 ghost use Rattle.header.specs.Writing.{badHeader};
 ghost use Rattle.ccm.specs.Operations.{micLength, sealedBy};
 ghost use Rattle.frame.specs.Security.{networkLevel};
-ghost use Rattle.frame.specs.Sealing.{sealedLength, sealedBytes, lengthRefusals, sealRefusal, sealFrame};
+ghost use Rattle.frame.specs.Sealing.{sealedLength, sealedBytes, headersRefusal, sealRefusal, sealRefused, sealFrame};
 
-// The sealed frame's length.
-fn sealed_length(h: NwkHeader, aux: NwkAuxHeader, payload: &[u8]) -> usize
-    requires { ⌜ length (now payload) < 4096 ⌝ }
-    ensures { λ r. ⌜ r ≡ sealedLength micLength h aux (now (payload .entry)) ⌝ }
+// The frame's length, for n bytes of payload.
+fn sealed_length(h: NwkHeader, aux: NwkAuxHeader, n: usize) -> usize
+    requires { ⌜ n < 4096 ⌝ }
+    ensures { λ r. ⌜ r ≡ sealedLength micLength h aux n ⌝ }
 {
-    h.size() + aux.size() + payload.len() + ccm::MIC_LENGTH
+    h.size() + aux.size() + ccm::MIC_LENGTH + n
 }
 
-// The first of the refusals 13, 14, 15, 21, 17 and 18 that holds, or 0.
-fn seal_refusal(h: NwkHeader, aux: OptionAuxHeader, payload: &[u8], room: usize) -> u8
-    ensures { λ r. ⌜ r ≡ sealRefusal micLength h aux (now (payload .entry)) room ⌝ }
+// The first of the two headers' refusals, 13, 14 and 15, that holds, or 0.
+fn headers_refusal(h: NwkHeader, aux: OptionAuxHeader) -> u8
+    ensures { λ r. ⌜ r ≡ headersRefusal h aux ⌝ }
 {
-    let fields = h.field_refusal();
-    if fields != 0 {
-        return fields;
-    }
-    if aux.is_absent() {
-        return refusals::NO_AUXILIARY;
-    }
+    let r = h.field_refusal();
+    let r = octets::refuse(r, refusals::NO_AUXILIARY, aux.is_absent());
+    octets::refuse(r, refusals::NO_IEEE, security::no_ieee(h, aux.or_blank()))
+}
+
+// The first of the refusals 13, 14, 15, 21, 17 and 18 that holds for n bytes of payload, or 0.
+fn seal_refusal(h: NwkHeader, aux: OptionAuxHeader, n: usize, room: usize) -> u8
+    ensures { λ r. ⌜ r ≡ sealRefusal micLength h aux n room ⌝ }
+{
     let present = aux.or_blank();
-    if security::no_ieee(h, present) {
-        return refusals::NO_IEEE;
-    }
-    if present.frame_counter == types::LAST_COUNTER {
-        return refusals::LAST_COUNTER;
-    }
-    length_refusal(h, present, payload, room)
+    let front = h.size() + present.size() + ccm::MIC_LENGTH;
+    let last = present.frame_counter == types::LAST_COUNTER;
+    let r = octets::refuse(headers_refusal(h, aux), refusals::LAST_COUNTER, last);
+    length_refusal(r, front, n, room)
 }
 
-// Of those, 17 and 18.
-fn length_refusal(h: NwkHeader, aux: NwkAuxHeader, payload: &[u8], room: usize) -> u8
-    ensures { λ r. ⌜ r ≡ firstOf (lengthRefusals micLength h aux (now (payload .entry)) room) ⌝ }
-{
-    if types::MAX_NSDU_SIZE < payload.len() {
-        return refusals::LENGTH;
+impl FrameSealed {
+    // The answer of a refusal: its number alone.
+    fn refused(refusal: u8) -> FrameSealed
+        ensures { λ r. ⌜ r ≡ sealRefused refusal ⌝ }
+    {
+        FrameSealed { refusal, length: 0 }
     }
-    let whole = sealed_length(h, aux, payload);
-    if header::nwk::MAX_MAC_PAYLOAD_SIZE < whole {
-        return refusals::LENGTH;
-    }
-    if room < whole {
-        return refusals::NO_ROOM;
-    }
-    0
 }
 
 // Write ciphertext and MIC at the place start.
@@ -83,7 +74,7 @@ fn put_sealed(
 
 // Seal a frame that meets no refusal.
 fn seal_frame(key: [u8; 16], h: NwkHeader, aux: NwkAuxHeader, payload: &[u8], out: &mut [u8])
-    requires { ⌜ (badHeader h ≡ false) × (length (now payload) ≤ 108) × (sealedLength micLength h aux (now payload) ≤ 118) × (sealedLength micLength h aux (now payload) ≤ length (now out)) ⌝ }
+    requires { ⌜ (badHeader h ≡ false) × (length (now payload) ≤ 108) × (sealedLength micLength h aux (length (now payload)) ≤ 118) × (sealedLength micLength h aux (length (now payload)) ≤ length (now out)) ⌝ }
     ensures { λ _. ⌜ now (out .exit) ≡ over (now (out .entry)) 0 (sealedBytes networkLevel micLength key h aux (now (payload .entry))) ⌝ }
 {
     let nonce = security::nonce_of(h, aux, NwkSecurityLevel::EncMic32);
@@ -97,19 +88,24 @@ fn seal_frame(key: [u8; 16], h: NwkHeader, aux: NwkAuxHeader, payload: &[u8], ou
     put_sealed(key, nonce, &auth[..start], payload, out, start);
 }
 
-// Seal a frame (`NwkFrame::serialize` with a key); refusals 13, 14, 15, 21, 17 and 18, which change
-// nothing.
-pub fn seal(key: Key, h: NwkHeader, aux: OptionAuxHeader, payload: &[u8], out: &mut [u8]) -> Written
+// Seal a frame (`NwkFrame::serialize` with a key); refusals 13, 14, 15, 21, 17 and 18, which change nothing.
+pub fn seal(
+    key: Key,
+    h: NwkHeader,
+    aux: OptionAuxHeader,
+    payload: &[u8],
+    out: &mut [u8],
+) -> FrameSealed
     ensures answer { λ r. ⌜ r ≡ sealFrame (key .0) h aux (now (payload .entry)) (now (out .entry)) .answer ⌝ }
     ensures buffer { λ _. ⌜ now (out .exit) ≡ sealFrame (key .0) h aux (now (payload .entry)) (now (out .entry)) .out ⌝ }
 {
-    let refusal = seal_refusal(h, aux, payload, out.len());
+    let refusal = seal_refusal(h, aux, payload.len(), out.len());
     if refusal != 0 {
-        return Written { refusal, length: 0 };
+        return FrameSealed::refused(refusal);
     }
     let present = aux.or_blank();
     let bytes = key.0;
-    let length = sealed_length(h, present, payload);
+    let length = sealed_length(h, present, payload.len());
     seal_frame(bytes, h, present, payload, out);
-    Written { refusal: 0, length }
+    FrameSealed { refusal: 0, length }
 }

@@ -67,6 +67,12 @@ header-facts f u e =
     let none : headerRefusal f ≡ 0 = sym (header-number f) ∙ e in
     rw (accepted (headerRefusal f) (headerGiven f) (headerRefused (headerRefusal f)) none) (read-facts f u none)
 
+-- the frame control of a header that was read is the one in the bytes
+pub read-control : (f : List ℕ) → readHeader f .refusal ≡ 0 → readHeader f .header .«frame_control» ≡ control f
+unfolding readHeader headerBy
+read-control f e =
+    ap (λ (r : HeaderRead). r .header .«frame_control») (accepted (headerRefusal f) (headerGiven f) (headerRefused (headerRefusal f)) (sym (header-number f) ∙ e))
+
 -- whatever is answered, the header ends within the bytes
 pub header-within : (f : List ℕ) → Below 256 f → readHeader f .length ≤ length f
 unfolding readHeader

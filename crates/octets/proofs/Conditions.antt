@@ -5,6 +5,9 @@ use mathlib.Core.Bool.{Bool, true, false, true≢false, _||_}
 use mathlib.Core.List.{List, [], _∷_, _++_}
 use Prim.Native.Nat.{ℕ, zero, suc}
 use native.Mathlib.Omega.{arith}
+use mathlib.Core.Logic.{_⊎_, inl, inr}
+use borrow.Author.Tests.{eq-eqb}
+use lib.Dec.{eqb}
 use Rattle.octets.specs.Refusals.{unless, Condition, on, by, firstOf}
 
 -- ---- by the refusal's number
@@ -131,9 +134,38 @@ in-parts (on (suc m) false ∷ cs) ds k = in-parts cs ds k
 in-parts (by zero ∷ cs) ds k = in-parts cs ds k
 in-parts (by (suc m) ∷ cs) ds k = refl
 
+-- the same with one entry in the first part
+pub in-two : (n k : ℕ) (b : Bool) (ds : List Condition) → firstOf (by (firstOf (by n ∷ on (suc k) b ∷ [])) ∷ ds) ≡ firstOf (by n ∷ on (suc k) b ∷ ds)
+in-two n k b ds = in-parts (by n ∷ on (suc k) b ∷ []) ds tt
+
 pub in-order : (cs : List Condition) → Numbered cs → inTurn 0 cs ≡ firstOf cs
 unfolding firstOf unless
 in-order cs k = in-turn 0 cs k
+
+-- ---- a number that the list gives
+
+-- one of two types, by a bit
+abbrev pick : Bool → Type 0 → Type 0 → Type 0
+pick true A B = A
+pick false A B = B
+
+-- an entry of the list gives the number m: it is the number given before, or its condition holds
+abbrev pub Gives : ℕ → List Condition → Type 0
+Gives m [] = ⊥
+Gives m (on n b ∷ cs) = pick (eqb n m) ((b ≡ true) ⊎ Gives m cs) (Gives m cs)
+Gives m (by n ∷ cs) = (n ≡ m) ⊎ Gives m cs
+
+pub gives : (m : ℕ) (cs : List Condition) → (m ≡ 0 → ⊥) → firstOf cs ≡ m → Gives m cs
+unfolding firstOf unless
+gives m [] h e = h (sym e)
+gives m (on n true ∷ cs) h e = rw (eq-eqb n m e) (inl refl)
+gives m (on n false ∷ cs) h e = either-way (eqb n m) (gives m cs h e)
+  where
+    either-way : (b : Bool) → Gives m cs → pick b ((false ≡ true) ⊎ Gives m cs) (Gives m cs)
+    either-way true g = inr g
+    either-way false g = g
+gives m (by zero ∷ cs) h e = inr (gives m cs h e)
+gives m (by (suc n) ∷ cs) h e = inl e
 
 -- ---- two conditions under one number
 

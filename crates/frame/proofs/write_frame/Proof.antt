@@ -21,26 +21,23 @@ returns c =
     (ap (λ (r : Run). r .answer) w, ap (λ (r : Run). r .out) w)
 
 put-requires : tie.Need-put-requires
-unfolding frameBytes
 put-requires c κs =
     let passed = c .before .before in
     let w = clear-writable _ _ _ (sym (passed .before .write-refusal .ensures) ∙ passed .if1 .left) in
-    (w .good, omega (arith, simp length-append at (w .fits)))
+    (w .good, omega (arith, w .fits))
 
 copy-at-requires : tie.Need-copy-at-requires
-unfolding frameBytes
 copy-at-requires c κs =
     let header = c .before .before .before in
     let sized = header .before .before in
     let w = clear-writable _ _ _ (sym (sized .before .before .write-refusal .ensures) ∙ sized .before .if1 .left) in
-    omega (arith, simp length-append at (w .fits), sized .size .ensures .0, header .put .kept .1 .0)
+    omega (arith, w .fits, sized .size .ensures .0, header .put .kept .1 .0)
 
-add-t13 : tie.Need-add-t13
-unfolding frameBytes
-add-t13 c =
+add-t7 : tie.Need-add-t7
+add-t7 c =
     let sized = c .before .before .before .before .before .before .before .before in
     let w = clear-writable _ _ _ (sym (sized .before .before .write-refusal .ensures) ∙ sized .before .if1 .left) in
-    omega (arith, simp length-append at (w .whole), sized .size .ensures .0)
+    omega (arith, w .whole, sized .size .ensures .0)
 
 returns-2 : tie.Need-returns-2
 unfolding writeFrame frameBytes
@@ -59,5 +56,5 @@ returns-2 c =
 pub write-frame-spec : {M : Type 1} → statement M
 write-frame-spec =
     tie.close
-    (tie.spec (λ c κs. search needs) returns (λ c κs. search needs) put-requires copy-at-requires add-t13
+    (tie.spec (λ c κs. search needs) returns (λ c κs. search needs) put-requires copy-at-requires add-t7
     (λ c. search needs) returns-2)

@@ -4,7 +4,7 @@ use borrow.Author.Needs.{needs}
 use mathlib.Core.Path.{ap}
 use Rattle.frame.proofs.law.open_then_seal.Statement.{statement}
 use Rattle.frame.proofs.law.open_then_seal.Tie as tie
-use Rattle.octets.specs.Writing.{Run}
+use Rattle.frame.specs.Sealing.{Run}
 use Rattle.frame.proofs.SealingLaw.{second-half, open-then-seal-run}
 
 returns : tie.Need-returns

@@ -7,15 +7,15 @@ use native.Mathlib.Omega.{arith}
 use lib.Seq.{length-take-le}
 use Rattle.frame.proofs.law.seal_then_open.Statement.{statement}
 use Rattle.frame.proofs.law.seal_then_open.Tie as tie
-use Rattle.octets.specs.declared.Written.{Written}
+use Rattle.frame.specs.declared.FrameSealed.{FrameSealed}
 use Rattle.frame.specs.Opening.{Run}
 use Rattle.frame.proofs.SealingLaw.{seal-within, first-half, seal-then-open-run}
 
 slice-reshare-prefix-open : tie.Need-slice-reshare-prefix-open
 slice-reshare-prefix-open c =
     let sealed = c .before .before in
-    let a = sealed .before .before .before .before .before .before .before .args in
-    let e = ap (λ (r : Written). r .length) (sealed .seal .ensures .0) in
+    let a = sealed .before .before .before .before .before .before .args in
+    let e = ap (λ (r : FrameSealed). r .length) (sealed .seal .ensures .0) in
     omega (arith, seal-within (a .key .0) (a .h) (a .aux) (a .payload .now) (a .frame .now), e, sealed .seal .kept .1 .1 .1 .1 .0)
 
 slice-aggregate-open : tie.Need-slice-aggregate-open
@@ -25,8 +25,7 @@ returns : tie.Need-returns
 returns c =
     let opened = c .before .before in
     let sealed = opened .before .before .before .before .before in
-    let option = sealed .before .before in
-    let header = option .before in
+    let ranges = sealed .before .before in
     let s = sealed .seal .ensures in
     let o = opened .«open» .ensures in
     let run = seal-then-open-run _ _ _ _ _ _ _ _ _ _ (s .0) (s .1) (o .0) (o .1) in (
@@ -35,8 +34,7 @@ returns c =
         s .1,
         (
           ap (λ (r : Run). r .out) run,
-          λ accepted sec agrees aagrees room.
-              rw run (first-half _ _ _ _ _ _ (header .header-fits .ensures) (option .aux-option-fits .ensures) accepted sec agrees aagrees room),
+          λ accepted agree room. rw run (first-half _ _ _ _ _ _ (ranges .in-range .ensures) agree accepted room),
         ),
       ),
     )
@@ -44,5 +42,5 @@ returns c =
 pub seal-then-open-spec : {M : Type 1} → statement M
 seal-then-open-spec =
     tie.close
-    (tie.spec (λ c κs. search needs) (λ c κs. search needs) (λ c κs. search needs) slice-reshare-prefix-open
+    (tie.spec (λ c κs. search needs) (λ c κs. search needs) slice-reshare-prefix-open
     slice-aggregate-open (λ c κs. search needs) (λ c. search needs) (λ c. search needs) returns)

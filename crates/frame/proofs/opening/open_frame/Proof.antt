@@ -46,7 +46,7 @@ returns c =
     let part = c .before .before .open-part .ensures in
     let s = c .before .before .before .before .before in
     let n = s .before .before .before .before .before .before .nonce-of .ensures in
-    (λ key k. part .0 key k ∙ rw (n, taken s), λ key k. part .1 key k ∙ rw (n, taken s))
+    (part .0 ∙ rw (n, taken s), part .1 ∙ rw (n, taken s))
 
 pub open-frame-spec : {M : Type 1} → statement M
 open-frame-spec =

@@ -27,7 +27,7 @@ returns c =
     let split = opened .before .before .before .before in
     let m = mic-split _ _ (split .split-mic .ensures) (split .before .before .before .before .pre .2) in
     let e = opened .open-under .ensures in
-    (λ key k. e .0 key k ∙ rw m, λ key k. e .1 key k ∙ rw m)
+    (e .0 ∙ rw m, e .1 ∙ rw m)
 
 pub open-part-spec : {M : Type 1} → statement M
 open-part-spec =

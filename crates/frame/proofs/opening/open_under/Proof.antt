@@ -11,26 +11,25 @@ use Rattle.header.specs.declared.auxiliary.NwkAuxHeader.{NwkAuxHeader}
 use Rattle.header.specs.Writing.{headerBytes}
 use Rattle.header.specs.Auxiliary.{auxBytes}
 use Rattle.frame.specs.Opening as opening
-use Rattle.frame.proofs.Answers.{open-stopped, opened-clear, opened-valid, opened-invalid, ready, ready-facts}
+use Rattle.frame.proofs.Answers.{open-stopped, opened-clear, opened-valid, opened-invalid, ready-facts}
+use Rattle.frame.proofs.Accepted.{keyless}
 
 returns : tie.Need-returns
 returns c =
     let number = c .before .before in
     let read = number .before .before .before in
-    let taken = c .before .if1 .taken in (
-      λ key e. c .refused .ensures
-          ∙ ap (λ (r : opening.Run). r .answer) (open-stopped key _ _ _ _ _ (read .read-frame .ensures) (number .before .behind .ensures) (number .open-refusal .ensures) taken),
-      λ key e. ap (λ (r : opening.Run). r .out) (open-stopped key _ _ _ _ _ (read .read-frame .ensures) (number .before .behind .ensures) (number .open-refusal .ensures) taken),
-    )
+    let run =
+    open-stopped _ _ _ _ _ _ (read .read-frame .ensures) (number .before .behind .ensures) (number .open-refusal .ensures) (c .before .if1 .taken) in
+    (c .refused .ensures ∙ ap (λ (r : opening.Run). r .answer) run, ap (λ (r : opening.Run). r .out) run)
 
 returns-2 : tie.Need-returns-2
 returns-2 c =
     let passed = c .before .before in
     let rest = passed .before .before in
     let run =
-    opened-clear _ _ _ _ _ (rest .before .before .read-frame .ensures) (rest .behind .ensures) (passed .before .open-refusal .ensures) (passed .if1 .left)
+    opened-clear _ _ _ _ _ _ (rest .before .before .read-frame .ensures) (rest .behind .ensures) (passed .before .open-refusal .ensures) (passed .if1 .left)
     (not-true _ (c .if2 .taken)) in
-    (λ key e. ap (λ (r : opening.Run). r .answer) (run key), λ key e. ap (λ (r : opening.Run). r .out) (run key))
+    (ap (λ (r : opening.Run). r .answer) run, ap (λ (r : opening.Run). r .out) run)
 
 open-frame-requires : tie.Need-open-frame-requires
 open-frame-requires c κs =
@@ -39,16 +38,16 @@ open-frame-requires c κs =
     let rest = passed .before .before in
     let read = rest .before .before in
     let bit = not-false _ (sealed .if2 .left) in
-    let s = ready _ _ _ _ _ (sym (passed .before .open-refusal .ensures) ∙ passed .if1 .left) bit in
-    let r = ready-facts _ _ (λ i. read .before .before .shared-slice-known .given i .fits) (read .read-frame .ensures) (s .read) bit in
+    let s = keyless _ _ _ _ _ _ (sym (passed .before .open-refusal .ensures) ∙ passed .if1 .left) in
+    let r = ready-facts _ _ (λ i. read .before .before .shared-slice-known .given i .fits) (read .read-frame .ensures) (s .reads) bit in
     let e = ap (λ (x : NwkAuxHeader). length (headerBytes (read .read-frame .result .header)) + length (auxBytes x)) (c .before .or-blank .ensures) in
-    (r .0, omega (arith, e, r .1), omega (arith, ap length (rest .behind .ensures), r .2), s .tagged, s .fits)
+    (r .0, omega (arith, e, r .1), omega (arith, ap length (rest .behind .ensures), r .2), s .tagged bit, s .fits bit)
 
 sub-t23 : tie.Need-sub-t23
 sub-t23 c =
     let sealed = c .before .before .before .before .before .before in
     let passed = sealed .before .before in
-    omega (arith, ready _ _ _ _ _ (sym (passed .before .open-refusal .ensures) ∙ passed .if1 .left) (not-false _ (sealed .if2 .left)) .tagged)
+    omega (arith, keyless _ _ _ _ _ _ (sym (passed .before .open-refusal .ensures) ∙ passed .if1 .left) .tagged (not-false _ (sealed .if2 .left)))
 
 returns-3 : tie.Need-returns-3
 returns-3 c =
@@ -60,7 +59,7 @@ returns-3 c =
     let run =
     opened-valid _ _ _ _ _ _ _ _ _ (rest .before .before .read-frame .ensures) (rest .behind .ensures) (opened .before .before .or-blank .ensures)
     (passed .before .open-refusal .ensures) (passed .if1 .left) (not-false _ (sealed .if2 .left)) (o .0) (o .1) _ (c .source-ieee .ensures) (c .before .if3 .taken) in
-    (λ key e. ap (λ (r : opening.Run). r .answer) (run key e), λ key e. ap (λ (r : opening.Run). r .out) (run key e))
+    (ap (λ (r : opening.Run). r .answer) run, ap (λ (r : opening.Run). r .out) run)
 
 returns-4 : tie.Need-returns-4
 returns-4 c =
@@ -72,7 +71,7 @@ returns-4 c =
     let run =
     opened-invalid _ _ _ _ _ _ _ _ _ (rest .before .before .read-frame .ensures) (rest .behind .ensures) (opened .before .before .or-blank .ensures)
     (passed .before .open-refusal .ensures) (passed .if1 .left) (not-false _ (sealed .if2 .left)) (o .0) (o .1) (c .before .if3 .left) in
-    (λ key e. c .refused2 .ensures ∙ ap (λ (r : opening.Run). r .answer) (run key e), λ key e. ap (λ (r : opening.Run). r .out) (run key e))
+    (c .refused2 .ensures ∙ ap (λ (r : opening.Run). r .answer) run, ap (λ (r : opening.Run). r .out) run)
 
 pub open-under-spec : {M : Type 1} → statement M
 open-under-spec =
