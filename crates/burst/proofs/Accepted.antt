@@ -30,6 +30,6 @@ ready ns bytes room places e =
     }
 
 -- a part has 108 bytes after its frame is opened
-pub alone-size : (key fs ns o : List ℕ) → 108 * length ns ≤ length o → (k : ℕ) → k < length ns → length (alone key fs ns o k .out) ≡ 108
+pub alone-size : (ciph : List ℕ → List ℕ) (fs ns o : List ℕ) → 108 * length ns ≤ length o → (k : ℕ) → k < length ns → length (alone ciph fs ns o k .out) ≡ 108
 unfolding alone
-alone-size key fs ns o fits k h = open-length key (frameAt fs ns k) (partAt o k) ∙ length-part o k (omega arith)
+alone-size ciph fs ns o fits k h = open-length ciph (frameAt fs ns k) (partAt o k) ∙ length-part o k (omega arith)

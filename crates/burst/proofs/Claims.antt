@@ -15,6 +15,7 @@ use Rattle.octets.specs.Strings.{tab}
 use Rattle.octets.specs.Refusals.{on, firstOf}
 use Rattle.octets.proofs.Strings.{length-tab, getD-tab}
 use Rattle.octets.proofs.Conditions.{accepted, refused, none-refuse}
+use Rattle.ccm.specs.Operations.{ciphOf}
 use Rattle.frame.specs.declared.FrameOpened.{FrameOpened}
 use Rattle.frame.specs.Opening as opening
 use Rattle.frame.specs.Opening.{openFrame, payloadIn}
@@ -32,19 +33,19 @@ use Rattle.burst.proofs.Accepted.{ready, alone-size}
 -- ---- a burst that is accepted
 
 module _ (key fs ns o : List ℕ) (list : List (List ℕ)) (ok : claims.Accepted fs ns o list) where
-  run : openBurst key fs ns o list ≡ burstGiven key fs ns o list
+  run : openBurst key fs ns o list ≡ burstGiven (ciphOf key) fs ns o list
   unfolding openBurst
   run = accepted _ _ _ ok
 
-  sized : (k : ℕ) → k < length ns → length (alone key fs ns o k .out) ≡ 108
-  sized = alone-size key fs ns o (ready _ _ _ _ ok .fits)
+  sized : (k : ℕ) → k < length ns → length (alone (ciphOf key) fs ns o k .out) ≡ 108
+  sized = alone-size (ciphOf key) fs ns o (ready _ _ _ _ ok .fits)
 
   as-alone : (k : ℕ) → k < length ns → claims.AsAlone key fs ns o list k
   unfolding outAfter answersAfter alone
   as-alone k h =
       record {
         answer = ap (λ (r : Run). getD (r .answers) k []) run
-            ∙ List·getD-append (tab (λ (i : ℕ). openedRecord (alone key fs ns o i .answer)) (length ns)) _ [] k (rw (length-tab _ (length ns)) h)
+            ∙ List·getD-append (tab (λ (i : ℕ). openedRecord (alone (ciphOf key) fs ns o i .answer)) (length ns)) _ [] k (rw (length-tab _ (length ns)) h)
             ∙ getD-tab _ (length ns) k [] h;
         part = ap (λ (r : Run). partAt (r .out) k) run ∙ part-joined _ (length ns) k _ sized h;
       }
@@ -68,12 +69,12 @@ each-as-alone = as-alone
 pub each-said : claims.EachSaid
 each-said key fs ns o list u ok k h =
     let size = length-part o k (omega (arith, ready _ _ _ _ ok .fits)) in
-    ap openedOf (as-alone key fs ns o list ok k h .answer) ∙ answer-back key (frameAt fs ns k) (partAt o k) (frame-below fs ns k u) (omega arith)
+    ap openedOf (as-alone key fs ns o list ok k h .answer) ∙ answer-back (ciphOf key) (frameAt fs ns k) (partAt o k) (frame-below fs ns k u) (omega arith)
 
 pub parts-suffice : claims.PartsSuffice
 parts-suffice key fs ns o o′ list u ok room k h =
     let size = length-part o k (omega (arith, ready _ _ _ _ ok .fits)) in
-    open-roomy key (frameAt fs ns k) (partAt o k) o′ (frame-below fs ns k u) (omega arith) room
+    open-roomy (ciphOf key) (frameAt fs ns k) (partAt o k) o′ (frame-below fs ns k u) (omega arith) room
 
 pub payloads-as-alone : claims.PayloadsAsAlone
 payloads-as-alone key fs ns o list u ok k h =
@@ -93,9 +94,9 @@ pub each-its-own-number : claims.EachItsOwnNumber
 each-its-own-number key fs ns o list ok k h =
     let size = length-frame fs ns (ready _ _ _ _ ok .sum) k h in
     record {
-      empty = λ z. ap (λ (f : List ℕ). openFrame key f (partAt o k) .answer .refusal) (no-bytes _ (size ∙ z)) ∙ open-empty key (partAt o k);
-      long = λ l. open-long key (frameAt fs ns k) (partAt o k) (omega arith);
-      zeros = λ n e z. as-alone key fs ns o list ok k h .answer ∙ ap openedRecord (open-refused key (frameAt fs ns k) (partAt o k) n e z) ∙ refused-record n;
+      empty = λ z. ap (λ (f : List ℕ). openFrame key f (partAt o k) .answer .refusal) (no-bytes _ (size ∙ z)) ∙ open-empty (ciphOf key) (partAt o k);
+      long = λ l. open-long (ciphOf key) (frameAt fs ns k) (partAt o k) (omega arith);
+      zeros = λ n e z. as-alone key fs ns o list ok k h .answer ∙ ap openedRecord (open-refused (ciphOf key) (frameAt fs ns k) (partAt o k) n e z) ∙ refused-record n;
     }
   where
     no-bytes : (f : List ℕ) → length f ≡ 0 → f ≡ []
@@ -107,7 +108,7 @@ the-rest-stays = rest-stays
 
 pub behind-stays : claims.BehindStays
 behind-stays key fs ns o list ok k h =
-    ap (drop (openFrame key (frameAt fs ns k) (partAt o k) .answer .length)) (as-alone key fs ns o list ok k h .part) ∙ open-behind key (frameAt fs ns k) (partAt o k)
+    ap (drop (openFrame key (frameAt fs ns k) (partAt o k) .answer .length)) (as-alone key fs ns o list ok k h .part) ∙ open-behind (ciphOf key) (frameAt fs ns k) (partAt o k)
 
 -- ---- 20
 

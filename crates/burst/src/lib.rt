@@ -4,11 +4,10 @@ use records::opened_record;
 use types::Key;
 use types::MAX_NSDU_SIZE;
 ghost use mathlib.Core.Path.{_≡_};
-ghost use mathlib.Core.List.{List};
-ghost use Prim.Native.Nat.{ℕ, _*_, _≤_};
+ghost use Prim.Native.Nat.{_≤_};
 ghost use lib.ListN.{length};
-ghost use Rattle.ccm.specs.Operations.{Under};
-ghost use Rattle.frame.specs.Opening.{openFrame};
+ghost use Rattle.ccm.specs.Operations.{ciphUnder};
+ghost use Rattle.frame.specs.Opening.{openUnder};
 ghost use Rattle.records.specs.OpenedRecord.{openedRecord};
 ghost use Rattle.burst.specs.Burst.{total, burstRefusal, outAfter, answersAfter, openBurst};
 
@@ -43,28 +42,21 @@ fn refusal(lengths: &[u16], bytes: usize, room: usize, places: usize) -> u8
     if MAX_FRAMES < count {
         return refusals::BURST;
     }
-    if total(lengths) != bytes {
-        return refusals::BURST;
-    }
-    if room < MAX_NSDU_SIZE * count {
-        return refusals::BURST;
-    }
-    if places < count {
-        return refusals::BURST;
-    }
-    0
+    let r = octets::refuse(0, refusals::BURST, total(lengths) != bytes);
+    let r = octets::refuse(r, refusals::BURST, room < MAX_NSDU_SIZE * count);
+    octets::refuse(r, refusals::BURST, places < count)
 }
 
-// Open one frame under a key's round keys into its part of the output, its answer to its place.
+// Open one frame under round keys into its part of the output, its answer to its place.
 fn open_one(keys: &[[[u8; 4]; 4]; 11], frame: &[u8], part: &mut [u8], place: &mut [u8; 182])
-    ensures part { λ _. ⌜ Under (now (keys .entry)) (λ (key : List ℕ). now (part .exit) ≡ openFrame key (now (frame .entry)) (now (part .entry)) .out) ⌝ }
-    ensures place { λ _. ⌜ Under (now (keys .entry)) (λ (key : List ℕ). now (place .exit) ≡ openedRecord (openFrame key (now (frame .entry)) (now (part .entry)) .answer)) ⌝ }
+    ensures part { λ _. ⌜ now (part .exit) ≡ openUnder (now (keys .entry)) (now (frame .entry)) (now (part .entry)) .out ⌝ }
+    ensures place { λ _. ⌜ now (place .exit) ≡ openedRecord (openUnder (now (keys .entry)) (now (frame .entry)) (now (part .entry)) .answer) ⌝ }
 {
     let opened = frame::opening::open_under(keys, frame, part);
     opened_record::put_opened(place, opened);
 }
 
-// Open each frame of a burst that is not refused, under a key's round keys.
+// Open each frame of a burst that is not refused, under round keys.
 fn open_each(
     keys: &[[[u8; 4]; 4]; 11],
     frames: &[u8],
@@ -73,8 +65,8 @@ fn open_each(
     answers: &mut [[u8; 182]],
 )
     requires { ⌜ burstRefusal (now lengths) (length (now frames)) (length (now out)) (length (now answers)) ≡ 0 ⌝ }
-    ensures out { λ _. ⌜ Under (now (keys .entry)) (λ (key : List ℕ). now (out .exit) ≡ outAfter key (now (frames .entry)) (now (lengths .entry)) (now (out .entry)) (length (now (lengths .entry)))) ⌝ }
-    ensures answers { λ _. ⌜ Under (now (keys .entry)) (λ (key : List ℕ). now (answers .exit) ≡ answersAfter key (now (frames .entry)) (now (lengths .entry)) (now (out .entry)) (now (answers .entry)) (length (now (lengths .entry)))) ⌝ }
+    ensures out { λ _. ⌜ now (out .exit) ≡ outAfter (ciphUnder (now (keys .entry))) (now (frames .entry)) (now (lengths .entry)) (now (out .entry)) (length (now (lengths .entry))) ⌝ }
+    ensures answers { λ _. ⌜ now (answers .exit) ≡ answersAfter (ciphUnder (now (keys .entry))) (now (frames .entry)) (now (lengths .entry)) (now (out .entry)) (now (answers .entry)) (length (now (lengths .entry))) ⌝ }
 {
     let mut at = 0;
     let mut k = 0;

@@ -22,7 +22,7 @@ use Rattle.header.proofs.ReadFacts.{header-facts, aux-facts}
 use Rattle.frame.specs.declared.{OptionAuxHeader.OptionAuxHeader, Mark.Mark, FrameOpened.FrameOpened}
 use Rattle.frame.specs.Reading.{auxIf, auxBehind, readFrame}
 use Rattle.frame.specs.Security.{networkLevel, nonceIeee}
-use Rattle.frame.specs.Opening.{isSealed, behind, verified, openRefused, Run, sealedGiven, clearGiven, openFrame}
+use Rattle.frame.specs.Opening.{isSealed, behind, verified, openRefused, Run, sealedGiven, clearGiven, openWith}
 use Rattle.frame.specs.Marks.{Openable}
 use Rattle.frame.specs.SealingLaw.{AuxOptionFits}
 use Rattle.frame.proofs.Accepted.{run-either}
@@ -87,13 +87,13 @@ nonce-fits OptionEui64.Absent s f g = g
 nonce-fits (OptionEui64.Present x) s f g = f
 
 -- it has all that, for every frame of bytes: where the frame is sealed, and where it is clear
-sealed-fits : (key f o : List ℕ) → Below 256 f → length o < 2 ^ 16 → Openable networkLevel 4 key f (readFrame f) (length o)
-    → AnswerFits (sealedGiven (readFrame f) (verified networkLevel 4 key f (readFrame f)) o .answer)
-sealed-fits key f o u s p =
+sealed-fits : (ciph : List ℕ → List ℕ) (f o : List ℕ) → Below 256 f → length o < 2 ^ 16 → Openable networkLevel 4 ciph f (readFrame f) (length o)
+    → AnswerFits (sealedGiven (readFrame f) (verified networkLevel 4 ciph f (readFrame f)) o .answer)
+sealed-fits ciph f o u s p =
     let facts = secured-facts f (p .reads) (p .on) in
     let hf = header-facts f u (facts .header) in
     let af = aux-facts (drop (readHeader f .length) f) (drop-below f (readHeader f .length) 256 u) (facts .aux) in
-    let size = payload-length networkLevel 4 key f (readFrame f) in
+    let size = payload-length networkLevel 4 ciph f (readFrame f) in
     record {
       short = omega (arith, size, p .fits);
       ieee = rw (facts .read) (nonce-fits (auxBehind f (readHeader f) .aux .«extended_source») (readHeader f .header .«source_ieee») (af .fits .ieee) (hf .fits .sourceIeee));
@@ -111,12 +111,12 @@ clear-fits f o u e off =
     let size = length-drop (readFrame f .length) f in
     record { short = omega (arith, size, hf .short); ieee = tt; header = rw (facts .read) (hf .fits); relays = rw (facts .read) (hf .places); aux = rw (facts .read) tt }
 
-pub answer-fits : (key f o : List ℕ) → Below 256 f → length o < 2 ^ 16 → AnswerFits (openFrame key f o .answer)
-unfolding openFrame openRefused blankHeader headerBy relaysOf
-answer-fits key f o u s =
-    run-either networkLevel 4 key f (readFrame f) o (λ (r : Run). AnswerFits (r .answer)) (sealed-fits key f o u s) (clear-fits f o u)
+pub answer-fits : (ciph : List ℕ → List ℕ) (f o : List ℕ) → Below 256 f → length o < 2 ^ 16 → AnswerFits (openWith ciph f o .answer)
+unfolding openWith openRefused blankHeader headerBy relaysOf
+answer-fits ciph f o u s =
+    run-either networkLevel 4 ciph f (readFrame f) o (λ (r : Run). AnswerFits (r .answer)) (sealed-fits ciph f o u s) (clear-fits f o u)
     (record { short = omega arith; ieee = tt; header = read-fits [] (controlOf 0) (λ i. omega arith); relays = length-tab _ 54; aux = tt })
 
 -- so its record says it again
-pub answer-back : (key f o : List ℕ) → Below 256 f → length o < 2 ^ 16 → openedOf (openedRecord (openFrame key f o .answer)) ≡ openFrame key f o .answer
-answer-back key f o u s = opened-back (openFrame key f o .answer) (answer-fits key f o u s)
+pub answer-back : (ciph : List ℕ → List ℕ) (f o : List ℕ) → Below 256 f → length o < 2 ^ 16 → openedOf (openedRecord (openWith ciph f o .answer)) ≡ openWith ciph f o .answer
+answer-back ciph f o u s = opened-back (openWith ciph f o .answer) (answer-fits ciph f o u s)

@@ -2,6 +2,8 @@
 use borrow.Author.Needs.{needs}
 use mathlib.Core.Path.{sym, ap, _∙_}
 use Prim.Native.Nat.{ℕ}
+use Rattle.ccm.specs.Operations.{ciphOf}
+use Rattle.ccm.proofs.RoundKeys.{cipher-is}
 use Rattle.octets.proofs.Conditions.{accepted-by, refused-by}
 use Rattle.burst.proofs.open_burst.Statement.{statement}
 use Rattle.burst.proofs.open_burst.Tie as tie
@@ -12,7 +14,7 @@ unfolding openBurst
 returns c =
     let r = c .before .refusal in
     let a = c .before .before .before .before .before .args in
-    let run = refused-by _ (r .result) (burstGiven (a .key .0) (a .frames .now) (a .lengths .now) (a .out .now) (a .answers .now))
+    let run = refused-by _ (r .result) (burstGiven (ciphOf (a .key .0)) (a .frames .now) (a .lengths .now) (a .out .now) (a .answers .now))
     (λ (n : ℕ). burstNothing n (a .out .now) (a .answers .now)) (r .ensures) (c .if1 .taken) in
     (ap (λ (x : Run). x .answer) run, (ap (λ (x : Run). x .out) run, ap (λ (x : Run). x .answers) run))
 
@@ -29,12 +31,13 @@ returns-2 c =
     let passed = keys .before .before in
     let r = passed .before .refusal in
     let a = passed .before .before .before .before .before .args in
-    let run = accepted-by _ (r .result) (burstGiven (a .key .0) (a .frames .now) (a .lengths .now) (a .out .now) (a .answers .now))
+    let same = cipher-is _ _ (keys .expand .ensures) in
+    let run = accepted-by _ (r .result) (burstGiven (ciphOf (a .key .0)) (a .frames .now) (a .lengths .now) (a .out .now) (a .answers .now))
     (burstNothing _ (a .out .now) (a .answers .now)) (r .ensures) (passed .if1 .left) in (
       ap (λ (x : Run). x .answer) run,
       (
-        each .open-each .ensures .0 _ (keys .expand .ensures) ∙ ap (λ (x : Run). x .out) run,
-        each .open-each .ensures .1 _ (keys .expand .ensures) ∙ ap (λ (x : Run). x .answers) run,
+        rw same at (each .open-each .ensures .0) ∙ ap (λ (x : Run). x .out) run,
+        rw same at (each .open-each .ensures .1) ∙ ap (λ (x : Run). x .answers) run,
       ),
     )
 

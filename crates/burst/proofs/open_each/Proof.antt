@@ -2,12 +2,11 @@
 -- first k frames. The measure is what is left of the lengths. Assumes nothing.
 use borrow.Author.Needs.{needs}
 use mathlib.Core.Path.{_≡_, refl, sym, _∙_}
-use mathlib.Core.List.{List}
 use Prim.Native.Nat.{ℕ, _+_, _*_, _-_, _≤_, _<_}
 use native.Mathlib.Omega.{arith}
 use lib.ListN.{length, getD, take, length-set}
 use Rattle.octets.specs.Strings.{tab}
-use Rattle.ccm.specs.Operations.{Under}
+use Rattle.ccm.specs.Operations.{ciphUnder}
 use Rattle.burst.proofs.open_each.Statement.{statement}
 use Rattle.burst.proofs.open_each.Tie as tie
 use Rattle.burst.specs.Burst.{total, joined, outAfter, answersAfter}
@@ -18,15 +17,15 @@ use Rattle.burst.proofs.Turns.{out-more, answers-more}
 abbrev Inv-loop : tie.InvT-loop
 Inv-loop keys frames lengths out₀ answers₀ at₀ k₀ out answers at k =
     (k ≤ length lengths) × (at ≤ k * 65535) × (at ≡ total (take k lengths)) × (length out ≡ length out₀) × (length answers ≡ length answers₀)
-    × Under keys (λ (key : List ℕ). out ≡ outAfter key frames lengths out₀ k)
-    × Under keys (λ (key : List ℕ). answers ≡ answersAfter key frames lengths out₀ answers₀ k)
+    × (out ≡ outAfter (ciphUnder keys) frames lengths out₀ k)
+    × (answers ≡ answersAfter (ciphUnder keys) frames lengths out₀ answers₀ k)
 
 abbrev μ-loop : tie.MeasureT-loop
 μ-loop keys frames lengths out₀ answers₀ at₀ k₀ out answers at k = length lengths - k
 
 loop-holds : tie.Need-loop-holds Inv-loop μ-loop
 unfolding joined total tab outAfter answersAfter
-loop-holds c = (omega arith, omega arith, refl, refl, refl, λ key e. refl, λ key e. refl)
+loop-holds c = (omega arith, omega arith, refl, refl, refl, refl, refl)
 
 -- where the function begins
 abbrev start : tie.After-shared-slice-known3 Inv-loop μ-loop → tie.Start Inv-loop μ-loop
@@ -91,9 +90,9 @@ loop-again c =
       rw (l .inv .2) (sym (total-more (start read .args .lengths .now) (l .k) below)),
       c .before .out .given .1 ∙ l .inv .3,
       simp length-set (l .inv .4),
-      λ key e. out-more key _ _ _ (l .k) (l .at) _ (l .out) (f .burst .fits) below (l .inv .2) size (l .inv .5 key e) _ (o .0 key e),
-      λ key e. answers-more key _ _ _ (l .k) (l .at) _ (l .out) (f .burst .fits) below (l .inv .2) size (l .inv .5 key e) (start read .args .answers .now) _ _
-          (f .burst .listed) (l .inv .6 key e) (o .1 key e),
+      out-more _ _ _ _ (l .k) (l .at) _ (l .out) (f .burst .fits) below (l .inv .2) size (l .inv .5) _ (o .0),
+      answers-more _ _ _ _ (l .k) (l .at) _ (l .out) (f .burst .fits) below (l .inv .2) size (l .inv .5) (start read .args .answers .now) _ _
+          (f .burst .listed) (l .inv .6) (o .1),
     )
 
 same-length : tie.Need-same-length Inv-loop μ-loop
@@ -106,7 +105,7 @@ returns : tie.Need-returns Inv-loop μ-loop
 returns c =
     let l = c .before .loop in
     let all : l .k ≡ length (c .before .before .before .before .before .args .lengths .now) = omega (arith, c .loop-test .left) in
-    (λ key e. l .inv .5 key e ∙ rw all refl, λ key e. l .inv .6 key e ∙ rw all refl)
+    (l .inv .5 ∙ rw all refl, l .inv .6 ∙ rw all refl)
 
 pub open-each-spec : {M : Type 1} → statement M
 open-each-spec =

@@ -14,7 +14,7 @@ returns c =
     let size : length (opened .before .before .before .before .args .place .now) ≡ 182 = search needs in
     let o = opened .open-under in
     let whole = c .put-opened .ensures ∙ over-all _ _ (size ∙ sym (length-opened (o .result))) in
-    (o .ensures .1, λ key e. whole ∙ ap openedRecord (o .ensures .0 key e))
+    (o .ensures .1, whole ∙ ap openedRecord (o .ensures .0))
 
 pub open-one-spec : {M : Type 1} → statement M
 open-one-spec = tie.close (tie.spec (λ c κs. search needs) (λ c κs. search needs) (λ c. search needs) returns)
