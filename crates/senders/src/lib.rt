@@ -6,8 +6,8 @@ use types::Key;
 use types::LAST_COUNTER;
 ghost use mathlib.Core.Path.{_≡_};
 ghost use Rattle.senders.specs.Records.{names, recordOf, kept};
-ghost use Rattle.senders.specs.Walks.{counted, seen, found, notedBy};
-ghost use Rattle.senders.specs.Senders.{counterIf, askRefused, askedBy, inboundNetworkKey, note, forget};
+ghost use Rattle.senders.specs.Senders.{counted, counterIf, found, askRefused, askedBy, inboundNetworkKey, note, forget};
+ghost use Rattle.senders.specs.Walks.{seen, notedBy};
 
 // How many places of a list count. A place past them is never read or changed.
 pub const COUNTED: usize = 64;
