@@ -13,15 +13,15 @@ use borrow.Table.Steps.{cases}
 use Rattle.octets.specs.Strings.{Below}
 use Rattle.octets.specs.Writing.{Run, wrote}
 use Rattle.octets.specs.Numbers.{le}
-use Rattle.octets.proofs.Conditions.{none, or-false}
+use Rattle.octets.proofs.Conditions.{accepted, none, or-false}
 use Rattle.octets.proofs.Strings.{take-over}
 use Rattle.octets.proofs.Writing.{written-number, write-accepted}
-use Rattle.journal.specs.declared.format.JournalRecord.{JournalRecord}
+use Rattle.journal.specs.declared.{format.JournalRecord.JournalRecord, OptionKeyNumber.OptionKeyNumber, Recovered.Recovered}
 use Rattle.journal.specs.Format.{isKind, bodyLength, recordAt, recordBytes, kindsFrom, recordsFrom, records, someUnknown, unknownKind, totalLength, bytesOf, completeLength}
-use Rattle.journal.specs.Recovery.{blank, appliedAll, stateOf, recoverRefusal, recoverAnswer, recoveredList}
+use Rattle.journal.specs.Recovery.{State, blank, keyNumberAfter, applied, appliedAll, stateOf, recoverRefusal, recoverGiven, recoverNothing, recoverAnswer, recoveredList}
 use Rattle.journal.specs.Writing.{recordOfKind, writeRefusal, writeRecord, someCeiling}
 use Rattle.journal.specs.Life.{completePart, writes, given}
-use Rattle.journal.specs.Claims.{Fits, RecordIsApplied, SameRecovery, PartChangesNothing, CompleteRecordsRecover, CompletePartIsRecords, lengthOfKind, ReadsBack, LargestCeiling}
+use Rattle.journal.specs.Claims.{Fits, RecordIsApplied, SameRecovery, PartChangesNothing, CompleteRecordsRecover, CompletePartIsRecords, lengthOfKind, ReadsBack, LargestCeiling, NoKeyNumber, LastKeyNumberOrNone}
 use Rattle.journal.proofs.Bodies.{by-kind}
 use Rattle.journal.proofs.Whole.{length-at}
 use Rattle.journal.proofs.Appending.{records-append, unknown-append, complete-within, applied-append}
@@ -142,3 +142,23 @@ largest-ceiling j n =
     let some = someCeiling (suc n) (records j) in
     cases (leb c n) (λ e. not-true some (sym (covered j n) ∙ e) ∙ sym (le-ltb n c (leb-true c n e)))
     (λ e. not-false some (sym (covered j n) ∙ e) ∙ sym (lt-ltb n c (leb-false c n e)))
+
+-- ---- the last key number
+
+-- records of which none is a key number's leave it
+key-number-stays : (rs : List JournalRecord) (g : State) → NoKeyNumber rs → appliedAll rs g .keyNumber ≡ g .keyNumber
+unfolding appliedAll keyNumberAfter
+key-number-stays [] g n = refl
+key-number-stays (JournalRecord.Ceiling c ∷ rs) g n = key-number-stays rs (applied (JournalRecord.Ceiling c) g) n
+key-number-stays (JournalRecord.Sender s c ∷ rs) g n = key-number-stays rs (applied (JournalRecord.Sender s c) g) n
+key-number-stays (JournalRecord.KeyNumber k ∷ rs) g n = absurd n
+
+pub last-key-number-or-none : LastKeyNumberOrNone
+unfolding recoverAnswer stateOf appliedAll keyNumberAfter
+last-key-number-or-none j places z =
+    let number : Recovered → OptionKeyNumber = λ a. a .«key_number» in
+    let given = ap number (accepted (recoverRefusal j places) (recoverGiven j) (recoverNothing (recoverRefusal j places)) z) in (
+      λ before behind k e n. given ∙ ap (λ (rs : List JournalRecord). appliedAll rs blank .keyNumber) e
+          ∙ ap (λ (g : State). g .keyNumber) (applied-append before (JournalRecord.KeyNumber k ∷ behind) blank) ∙ key-number-stays behind _ n,
+      λ n. given ∙ key-number-stays (records j) blank n,
+    )
