@@ -115,7 +115,7 @@ unfolding unless firstOf over le leAt written counted bodyLength recordAt record
     ceilingAfter keyNumberAfter sendersAfter appliedAll stateOf recoverRefusal anew recoverAnswer recoveredList recordOfKind writeRefusal
     writeRecord someCeiling nextRefusal nextCounter after afterAll many listed counters
 counters-hold =
-    (refl, (refl, (refl, (refl, (refl, (refl, (refl, (refl, (refl, (refl, (refl, (refl, tt))))))))))))
+    (refl, (refl, (refl, (refl, (refl, (refl, (refl, (refl, (refl, (refl, (refl, (refl, (refl, tt)))))))))))))
 
 shrinkings-hold : AllHold shrinkings
 unfolding unless firstOf over le leAt written counted bodyLength recordAt recordBytes kindsFrom recordsFrom someUnknown totalLength noted
