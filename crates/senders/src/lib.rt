@@ -1,6 +1,6 @@
 // The inbound frame counters of at most 64 senders, in a list of records that the host lends (document 02, 5): the port of
-// `inbound_network_key` and `note_inbound_frame_counter`, and forgetting a sender. What is decided of a record is
-// decided by functions over values; those over the list only walk it.
+// `inbound_network_key` and `note_inbound_frame_counter`, and forgetting a sender. Over C the list is an array of these records, and
+// not bytes. What is decided of a record is decided by functions over values; those over the list only walk it.
 use octets::refusals;
 use types::Key;
 use types::LAST_COUNTER;
