@@ -15,12 +15,11 @@ use borrow.Table.Steps.{cases}
 use Rattle.octets.specs.Refusals.{unless}
 use Rattle.octets.specs.Strings.{Below}
 use Rattle.octets.specs.Writing.{written}
-use Rattle.octets.proofs.Conditions.{none as no-condition, or-false, unless-either}
+use Rattle.octets.proofs.Conditions.{none as no-condition, unless-either}
 use Rattle.octets.proofs.Strings.{take-over, take-below, append-below}
-use Rattle.octets.proofs.Writing.{written-number}
 use Rattle.senders.specs.declared.OptionCounter.{OptionCounter}
 use Rattle.journal.specs.declared.format.JournalRecord.{JournalRecord}
-use Rattle.journal.specs.Format.{recordBytes, recordsFrom, records, unknownKind, completeLength}
+use Rattle.journal.specs.Format.{recordBytes, recordsFrom, records, completeLength}
 use Rattle.journal.specs.Recovery.{State, blank, ceilingAfter, applied, appliedAll, stateOf, recoverRefusal, recoverGiven, recoverNothing, recoverAnswer}
 use Rattle.journal.specs.Writing.{recordOfKind, writeRefusal, writeRecord, someCeiling, nextRefusal, nextGiven, nextNothing, nextCounter}
 use Rattle.journal.specs.Shrinking.{shrink}
@@ -48,18 +47,18 @@ all-higher [] g = omega arith
 all-higher (r ∷ rs) g = omega (arith, one-higher r (g .ceiling), all-higher rs (applied r g))
 
 -- whatever bytes t stand behind the complete records
-higher : (j : List ℕ) → unknownKind j ≡ false → (t : List ℕ) → ceilingOf j ≤ ceilingOf (completePart j ++ t)
+higher : (j t : List ℕ) → ceilingOf j ≤ ceilingOf (completePart j ++ t)
 unfolding stateOf
-higher j u t =
-    let e = ap (λ (rs : List JournalRecord). appliedAll rs blank) (records-append j u t) ∙ applied-append (records j) (records t) blank in
+higher j t =
+    let e = ap (λ (rs : List JournalRecord). appliedAll rs blank) (records-append j t) ∙ applied-append (records j) (records t) blank in
     subst (λ (g : State). appliedAll (records j) blank .ceiling ≤ g .ceiling) (sym e) (all-higher (records t) (appliedAll (records j) blank))
 
 -- nor is it higher for the complete records alone
-complete-same : (j : List ℕ) → unknownKind j ≡ false → ceilingOf (completePart j) ≡ ceilingOf j
+complete-same : (j : List ℕ) → ceilingOf (completePart j) ≡ ceilingOf j
 unfolding stateOf recordsFrom
-complete-same j u =
+complete-same j =
     ap (λ (rs : List JournalRecord). appliedAll rs blank .ceiling)
-    (ap records (sym (append-nil (completePart j))) ∙ records-append j u [] ∙ append-nil (records j))
+    (ap records (sym (append-nil (completePart j))) ∙ records-append j [] ∙ append-nil (records j))
 
 -- ---- what holds in every life
 
@@ -122,11 +121,6 @@ module _ (j : List ℕ) where
       by : (n : ℕ) → unless n (recoverGiven j) (recoverNothing n) .refusal ≡ 0 → unless n (recoverGiven j) (recoverNothing n) .ceiling ≡ ceilingOf j
       by zero h = refl
       by (suc n) h = absurd (omega (arith, h))
-
-  written-known : (w : Writing) → writes j w .answer .refusal ≡ 0 → unknownKind j ≡ false
-  unfolding writeRecord writeRefusal
-  written-known w h =
-      or-false (unknownKind j) _ (no-condition _ (sym (written-number _ _ (w .out)) ∙ h) .0) .0
 
   -- not refused: no number, and one more than the last
   next-number : (last n : ℕ) → unless n (nextGiven last) (nextNothing n) .refusal ≡ 0 → (n ≡ 0) × (unless n (nextGiven last) (nextNothing n) .counter ≡ suc last)
@@ -204,9 +198,9 @@ module _ (g : Gateway) (safe : Safe g) where
   complete-below : Below 256 (completePart (g .stored))
   complete-below = take-below (g .stored) (completeLength (g .stored)) 256 (omega arith) (safe .bytes)
 
-  shortened-safe : unknownKind (g .stored) ≡ false → Safe (storing (completePart (g .stored)) (g .beside) (g .marked) g)
-  shortened-safe u =
-      let e = complete-same (g .stored) u in
+  shortened-safe : Safe (storing (completePart (g .stored)) (g .beside) (g .marked) g)
+  shortened-safe =
+      let e = complete-same (g .stored) in
       storing-safe (completePart (g .stored)) (g .beside) (g .marked) (omega (arith, e)) complete-below (by (g .marked) e (safe .standsIn))
     where
       by : (m : Bool) → ceilingOf (completePart (g .stored)) ≡ ceilingOf (g .stored) → StandsIn m (g .beside) (g .stored)
@@ -214,13 +208,13 @@ module _ (g : Gateway) (safe : Safe g) where
       by true e s = (omega (arith, e, s .0), s .1)
       by false e s = tt
 
-  behind-safe : unknownKind (g .stored) ≡ false → (t : List ℕ) → Below 256 t → Safe (behind t g)
-  behind-safe u t h = storing-safe _ (g .beside) false (higher (g .stored) u t) (append-below (completePart (g .stored)) t 256 complete-below h) tt
+  behind-safe : (t : List ℕ) → Below 256 t → Safe (behind t g)
+  behind-safe t h = storing-safe _ (g .beside) false (higher (g .stored) t) (append-below (completePart (g .stored)) t 256 complete-below h) tt
 
   appended-safe : (w : Writing) (n : ℕ) → Safe (appended (writes (g .stored) w) n g)
   appended-safe w n =
       unless-either Safe (writes (g .stored) w .answer .refusal) _ g
-      (λ z. behind-safe (written-known (g .stored) w z) _ (take-below _ n 256 (omega arith) (given-below (g .stored) w))) safe
+      (λ _. behind-safe _ (take-below _ n 256 (omega arith) (given-below (g .stored) w))) safe
 
   handed-safe : (c : ℕ) → UpTo c (g .handed) → Safe (handedOut (nextCounter (g .stored) c) g)
   handed-safe c u =
@@ -254,11 +248,6 @@ module _ (g : Gateway) (safe : Safe g) where
       let s = subst (λ (m : Bool). StandsIn m (g .beside) (g .stored)) e (safe .standsIn) in
       storing-safe (g .beside) [] false (s .0) (s .1) tt
 
--- by a test
-either : (P : Gateway → Type 0) (b : Bool) (x y : Gateway) → (b ≡ true → P x) → (b ≡ false → P y) → P (cond b x y)
-either P true x y p q = p refl
-either P false x y p q = q refl
-
 -- after a recovery
 after-recovery : (P : Gateway → Type 0) (o : OptionCounter) (f : ℕ → Gateway) (g : Gateway) → P g → ((c : ℕ) → o ≡ OptionCounter.Present c → P (f c))
     → P (afterRecovery o f g)
@@ -268,11 +257,11 @@ after-recovery P (OptionCounter.Present c) f g p q = q c refl
 safe-after : (e : Event) (g : Gateway) → Safe g → Safe (after e g)
 unfolding after
 safe-after (recovers l) g safe = recovered-safe g safe (length l)
-safe-after shortens g safe = either Safe (unknownKind (g .stored)) g _ (λ _. safe) (shortened-safe g safe)
+safe-after shortens g safe = shortened-safe g safe
 safe-after (appends w) g safe = appended-safe g safe w (length (given (writes (g .stored) w)))
 safe-after (failsAppending w n) g safe = appended-safe g safe w n
 safe-after (cutsAppending w n) g safe = off-safe (appended (writes (g .stored) w) n g) (appended-safe g safe w n)
-safe-after (garbles t) g safe = either Safe (unknownKind (g .stored)) g _ (λ _. safe) (λ u. behind-safe g safe u (asBytes t) (as-bytes-below t))
+safe-after (garbles t) g safe = behind-safe g safe (asBytes t) (as-bytes-below t)
 safe-after hands g safe =
     after-recovery Safe (g .last) (λ c. handedOut (nextCounter (g .stored) c) g) g safe
     (λ c e. handed-safe g safe c (subst (λ (o : OptionCounter). UpToLast o (g .handed)) e (safe .upToLast)))
@@ -280,7 +269,11 @@ safe-after cuts g safe = off-safe g safe
 safe-after (shrinks o) g safe = beside-safe g safe o (length (given (shrink (g .stored) o))) true (shrunk-stands-in g safe o)
 safe-after (failsShrinking o n) g safe = beside-safe g safe o n false (λ _. tt)
 safe-after (cutsShrinking o n) g safe = off-safe (shrunkBeside (shrink (g .stored) o) n false g) (beside-safe g safe o n false (λ _. tt))
-safe-after replaces g safe = either Safe (g .marked) _ g (replaced-safe g safe) (λ _. safe)
+safe-after replaces g safe = by (g .marked) refl
+  where
+    by : (m : Bool) → g .marked ≡ m → Safe (cond m (storing (g .beside) [] false g) g)
+    by true e = replaced-safe g safe e
+    by false e = safe
 
 safe-all : (es : List Event) (g : Gateway) → Safe g → Safe (afterAll es g)
 unfolding afterAll

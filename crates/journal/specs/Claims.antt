@@ -55,7 +55,7 @@ pub record WithRecord (j : List ℕ) (r : JournalRecord) (k : List ℕ) : Type 0
   pub complete : completeLength k ≡ completeLength j + length (recordBytes r)
 
 abbrev pub RecordIsApplied : Type 0
-RecordIsApplied = (j : List ℕ) (r : JournalRecord) → unknownKind j ≡ false → Fits r → WithRecord j r (completePart j ++ recordBytes r)
+RecordIsApplied = (j : List ℕ) (r : JournalRecord) → Fits r → WithRecord j r (completePart j ++ recordBytes r)
 
 -- what is recovered from one journal is what is recovered from the other, answer and list, refused or not
 abbrev pub SameRecovery : List ℕ → List ℕ → Type 0
@@ -74,7 +74,7 @@ CompleteRecordsRecover = (j : List ℕ) → unknownKind j ≡ false → SameReco
 
 -- they are the records' bytes, end to end
 abbrev pub CompletePartIsRecords : Type 0
-CompletePartIsRecords = (j : List ℕ) → unknownKind j ≡ false → Below 256 j → completePart j ≡ bytesOf (records j)
+CompletePartIsRecords = (j : List ℕ) → Below 256 j → completePart j ≡ bytesOf (records j)
 
 -- ---- 4: what the writer wrote reads back
 

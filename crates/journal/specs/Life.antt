@@ -9,7 +9,7 @@ use Rattle.octets.specs.Refusals.{unless}
 use Rattle.octets.specs.Writing.{Run}
 use Rattle.senders.specs.declared.{SenderRecord.SenderRecord, OptionCounter.OptionCounter}
 use Rattle.journal.specs.declared.{Recovered.Recovered, NextCounter.NextCounter}
-use Rattle.journal.specs.Format.{unknownKind, completeLength}
+use Rattle.journal.specs.Format.{completeLength}
 use Rattle.journal.specs.Recovery.{recoverAnswer}
 use Rattle.journal.specs.Writing.{writeRecord, nextCounter}
 use Rattle.journal.specs.Shrinking.{shrink}
@@ -53,7 +53,7 @@ pub data Event : Type 0 where
   failsAppending : Writing → ℕ → Event
   -- the power fails in the middle of an append, after so many bytes of the record
   cutsAppending : Writing → ℕ → Event
-  -- garbage stands behind the complete records; a journal that has an unknown kind is left as it is
+  -- garbage stands behind them
   garbles : List ℕ → Event
   -- the next counter is handed out
   hands : Event
@@ -70,7 +70,7 @@ pub data Event : Type 0 where
 
 -- ---- what it leaves
 
--- the complete records of a journal
+-- the complete records of a journal, up to a kind that is none
 abbrev pub completePart : List ℕ → List ℕ
 completePart j = take (completeLength j) j
 
@@ -131,11 +131,11 @@ afterRecovery (OptionCounter.Present c) f g = f c
 
 unfoldable pub after : Event → Gateway → Gateway
 after (recovers l) g = recovered (recoverAnswer (g .stored) (length l)) g
-after shortens g = cond (unknownKind (g .stored)) g (storing (completePart (g .stored)) (g .beside) (g .marked) g)
+after shortens g = storing (completePart (g .stored)) (g .beside) (g .marked) g
 after (appends w) g = let r = writes (g .stored) w in appended r (length (given r)) g
 after (failsAppending w n) g = appended (writes (g .stored) w) n g
 after (cutsAppending w n) g = off (appended (writes (g .stored) w) n g)
-after (garbles t) g = cond (unknownKind (g .stored)) g (behind (asBytes t) g)
+after (garbles t) g = behind (asBytes t) g
 after hands g = afterRecovery (g .last) (λ c. handedOut (nextCounter (g .stored) c) g) g
 after cuts g = off g
 after (shrinks o) g = let r = shrink (g .stored) o in shrunkBeside r (length (given r)) true g

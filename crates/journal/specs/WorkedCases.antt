@@ -155,11 +155,13 @@ counters =
     (recovers [] ∷ hands ∷ appends (ceilingWritten 5) ∷ hands ∷ hands ∷ cutsAppending (ceilingWritten 9) 4 ∷ hands ∷ recovers [] ∷ hands ∷ shortens
     ∷ appends (ceilingWritten 9) ∷ hands ∷ cuts ∷ recovers [] ∷ hands ∷ appends (ceilingWritten 10) ∷ hands ∷ hands ∷ [])
     (1 ∷ 2 ∷ 6 ∷ 10 ∷ [])
-    -- a life: an append before the recovery, one that fails with the power on, garbage that reads as a record, and garbage that reads as no kind
+    -- a life: an append before the recovery, one that fails with the power on, garbage that reads as a record, and garbage that is no kind, behind
+    -- which nothing is handed out until it is cut off
     ∷ lives
     (appends (ceilingWritten 5) ∷ hands ∷ recovers [] ∷ hands ∷ failsAppending (ceilingWritten 9) 4 ∷ hands ∷ appends (ceilingWritten 7) ∷ hands
-    ∷ garbles (3 ∷ 7 ∷ []) ∷ hands ∷ hands ∷ garbles (4 ∷ []) ∷ appends (ceilingWritten 9) ∷ hands ∷ recovers [] ∷ hands ∷ [])
-    (6 ∷ 7 ∷ [])
+    ∷ garbles (3 ∷ 7 ∷ []) ∷ hands ∷ hands ∷ garbles (4 ∷ []) ∷ appends (ceilingWritten 9) ∷ hands ∷ recovers [] ∷ hands ∷ shortens
+    ∷ appends (ceilingWritten 9) ∷ hands ∷ [])
+    (6 ∷ 7 ∷ 8 ∷ [])
     ∷ []
 
 unfoldable pub shrinkings : List Case
