@@ -120,6 +120,7 @@ abbrev pub LastCounterIsStored : Type 0
 LastCounterIsStored =
     (j : List ℕ) (l : List SenderRecord) (s : ℕ) → recoverRefusal j (length l) ≡ 0 → stored s (recoveredList j l) ≡ lastOf s OptionCounter.Absent (records j)
 
+-- whether s is one of xs
 abbrev pub among : ℕ → List ℕ → Bool
 among s [] = false
 among s (x ∷ xs) = eqb x s || among s xs

@@ -53,7 +53,7 @@ pub data Event : Type 0 where
   failsAppending : Writing → ℕ → Event
   -- the power fails in the middle of an append, after so many bytes of the record
   cutsAppending : Writing → ℕ → Event
-  -- garbage stands behind them
+  -- garbage stands behind the complete records
   garbles : List ℕ → Event
   -- the next counter is handed out
   hands : Event
