@@ -33,7 +33,7 @@ pub fn cipher_table() -> [u32; 256]
 }
 
 // Cipher (FIPS 197, 5.1): a block under the round keys. The block goes in as its four words, the first byte of each lowest, and comes
-// out as an array of them; between two rounds the state is held as its words too.
+// out as an array of them. The rounds are written out: in a loop the compiler would carry the state byte by byte.
 pub fn cipher(
     table: &[u32; 256],
     keys: &[[[u8; 4]; 4]; 11],
@@ -45,15 +45,18 @@ pub fn cipher(
     requires { ⌜ now table ≡ cipherTable ⌝ }
     ensures { λ r. ⌜ bytesOf r ≡ cipher (now (keys .entry)) (bytesOf (a ∷ b ∷ c ∷ d ∷ [])) ⌝ }
 {
-    let first = state::load_words(a, b, c, d);
-    let mut w = state::store_words(rounds::add_round_key(first, keys[0]));
-    for n in 1..10 {
-        let s = state::load_words(w[0], w[1], w[2], w[3]);
-        let next = state::store_words(rounds::round(table, s, keys[n]));
-        w = next;
-    }
-    let last = state::load_words(w[0], w[1], w[2], w[3]);
-    state::store_words(rounds::last_round(table, last, keys[10]))
+    let s0 = rounds::add_round_key(state::load_words(a, b, c, d), keys[0]);
+    let s1 = rounds::round(table, s0, keys[1]);
+    let s2 = rounds::round(table, s1, keys[2]);
+    let s3 = rounds::round(table, s2, keys[3]);
+    let s4 = rounds::round(table, s3, keys[4]);
+    let s5 = rounds::round(table, s4, keys[5]);
+    let s6 = rounds::round(table, s5, keys[6]);
+    let s7 = rounds::round(table, s6, keys[7]);
+    let s8 = rounds::round(table, s7, keys[8]);
+    let s9 = rounds::round(table, s8, keys[9]);
+    let s10 = rounds::last_round(table, s9, keys[10]);
+    state::store_words(s10)
 }
 
 // AES-128: a block under a key.

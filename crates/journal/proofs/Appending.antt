@@ -1,7 +1,7 @@
 -- What stands behind the complete records of a journal is read apart from them: its records come behind theirs, and its kinds alone decide
 -- whether one is unknown. By induction along the bytes, some of which belong to a body. Assumes nothing.
 use mathlib.Core.Path.{_≡_, refl, sym, ap, _∙_}
-use mathlib.Core.Bool.{true, false, not, true≢false}
+use mathlib.Core.Bool.{true, false, true≢false}
 use mathlib.Core.List.{List, [], _∷_, _++_}
 use Prim.Native.Nat.{ℕ, zero, suc, _+_, _<_, _≤_}
 use native.Mathlib.Omega.{arith}
@@ -9,10 +9,9 @@ use native.Mathlib.Nat.{zero-add}
 use lib.Dec.{leb}
 use lib.ListN.{length, getD, take, length-append, length-take, List·getD-append}
 use lib.Seq.{getD-take}
-use borrow.Author.Tests.{leb-true, le-leb, not-false}
+use borrow.Author.Tests.{leb-true, le-leb}
 use borrow.Table.Steps.{cases}
 use Rattle.octets.specs.Numbers.{leAt}
-use Rattle.octets.proofs.Conditions.{or-false}
 use Rattle.octets.proofs.Numbers.{leAt-same}
 use Rattle.journal.specs.declared.format.JournalRecord.{JournalRecord}
 use Rattle.journal.specs.Format.{isKind, bodyLength, recordAt, recordBytes, kindsFrom, recordsFrom, records, someUnknown, unknownKind, totalLength, completeLength}
@@ -49,9 +48,9 @@ module _ (xs ys : List ℕ) where
 abbrev upTo : ℕ → List ℕ → List ℕ
 upTo n l = take (n + totalLength (recordsFrom n l)) l
 
-whole-from : (k : ℕ) (l : List ℕ) → bodyLength k ≤ length l → records (k ∷ l) ≡ recordAt (k ∷ l) 0 ∷ recordsFrom (bodyLength k) l
+whole-from : (k : ℕ) (l : List ℕ) → isKind k ≡ true → bodyLength k ≤ length l → records (k ∷ l) ≡ recordAt (k ∷ l) 0 ∷ recordsFrom (bodyLength k) l
 unfolding recordsFrom
-whole-from k l h = rw (le-leb (bodyLength k) (length l) h)
+whole-from k l w h = rw (w, le-leb (bodyLength k) (length l) h)
 
 kinds-from : (k : ℕ) (l : List ℕ) → isKind k ≡ true → unknownKind (k ∷ l) ≡ someUnknown (kindsFrom (bodyLength k) l)
 unfolding kindsFrom someUnknown
@@ -63,7 +62,7 @@ unfolding totalLength
 upTo-whole k l w h =
     let rs = recordsFrom (bodyLength k) l in
     let e : 0 + (length (recordBytes (recordAt (k ∷ l) 0)) + totalLength rs) ≡ suc (bodyLength k + totalLength rs) = omega (arith, length-at (k ∷ l) 0 w) in
-    ap (λ (rs : List JournalRecord). take (0 + totalLength rs) (k ∷ l)) (whole-from k l h) ∙ ap (λ (n : ℕ). take n (k ∷ l)) e
+    ap (λ (rs : List JournalRecord). take (0 + totalLength rs) (k ∷ l)) (whole-from k l w h) ∙ ap (λ (n : ℕ). take n (k ∷ l)) e
 
 module _ (t : List ℕ) where
   -- as long as the body is there
@@ -84,53 +83,54 @@ module _ (t : List ℕ) where
       let m = bodyLength k + totalLength (recordsFrom (bodyLength k) l) in
       let body = take m l ++ t in
       rw (upTo-whole k l w h) (
-        whole-from k body (long (bodyLength k) m l h (omega arith))
+        whole-from k body w (long (bodyLength k) m l h (omega arith))
             ∙ (λ x. record-same body l k w (alike (bodyLength k) m l h (omega arith)) x ∷ behind .0 x)
-            ∙ ap (λ (rs : List JournalRecord). rs ++ records t) (sym (whole-from k l h)),
+            ∙ ap (λ (rs : List JournalRecord). rs ++ records t) (sym (whole-from k l w h)),
         kinds-from k body w ∙ behind .1,
       )
 
-  both : (n : ℕ) (l : List ℕ) → n ≤ length l → someUnknown (kindsFrom n l) ≡ false → Both n l (upTo n l)
+  both : (n : ℕ) (l : List ℕ) → n ≤ length l → Both n l (upTo n l)
   unfolding kindsFrom recordsFrom someUnknown totalLength
-  both zero [] h u = (refl, refl)
-  both zero (k ∷ l) h u =
-      let known = or-false (not (isKind k)) (someUnknown (kindsFrom (bodyLength k) l)) u in
-      cases (leb (bodyLength k) (length l))
-      (λ e. both-whole k l (not-false (isKind k) (known .0)) (leb-true (bodyLength k) (length l) e)
-      (both (bodyLength k) l (leb-true (bodyLength k) (length l) e) (known .1)))
-      (λ e. rw e (refl, refl))
-  both (suc n) [] h u = absurd (omega (arith, h))
-  both (suc n) (b ∷ l) h u =
+  both zero [] h = (refl, refl)
+  both zero (k ∷ l) h =
+      cases (isKind k)
+      (λ w. cases (leb (bodyLength k) (length l))
+      (λ e. both-whole k l w (leb-true (bodyLength k) (length l) e) (both (bodyLength k) l (leb-true (bodyLength k) (length l) e)))
+      (λ e. rw (w, e) (refl, refl)))
+      (λ w. rw w (refl, refl))
+  both (suc n) [] h = absurd (omega (arith, h))
+  both (suc n) (b ∷ l) h =
       let x = totalLength (recordsFrom n l) in
       let e : suc n + x ≡ suc (n + x) = omega arith in
-      rw e (both n l (omega (arith, h)) u)
+      rw e (both n l (omega (arith, h)))
 
 -- ---- a whole journal
 
-module _ (j : List ℕ) (u : unknownKind j ≡ false) (t : List ℕ) where
+module _ (j t : List ℕ) where
   front : completePart j ≡ upTo 0 j
   front = ap (λ (n : ℕ). take n j) (sym (zero-add (completeLength j)))
 
   pub records-append : records (completePart j ++ t) ≡ records j ++ records t
-  records-append = rw front (both t 0 j (omega arith) u .0)
+  records-append = rw front (both t 0 j (omega arith) .0)
 
   pub unknown-append : unknownKind (completePart j ++ t) ≡ unknownKind t
-  unknown-append = rw front (both t 0 j (omega arith) u .1)
+  unknown-append = rw front (both t 0 j (omega arith) .1)
 
 -- the complete records are no longer than the journal
-total-within : (n : ℕ) (l : List ℕ) → n ≤ length l → someUnknown (kindsFrom n l) ≡ false → n + totalLength (recordsFrom n l) ≤ length l
-unfolding kindsFrom recordsFrom someUnknown totalLength
-total-within zero [] h u = omega arith
-total-within zero (k ∷ l) h u =
-    let known = or-false (not (isKind k)) (someUnknown (kindsFrom (bodyLength k) l)) u in
-    cases (leb (bodyLength k) (length l))
-    (λ e. rw e (omega (arith, length-at (k ∷ l) 0 (not-false (isKind k) (known .0)), total-within (bodyLength k) l (leb-true (bodyLength k) (length l) e) (known .1))))
-    (λ e. rw e (omega arith))
-total-within (suc n) [] h u = absurd (omega (arith, h))
-total-within (suc n) (b ∷ l) h u = omega (arith, total-within n l (omega (arith, h)) u)
+total-within : (n : ℕ) (l : List ℕ) → n ≤ length l → n + totalLength (recordsFrom n l) ≤ length l
+unfolding recordsFrom totalLength
+total-within zero [] h = omega arith
+total-within zero (k ∷ l) h =
+    cases (isKind k)
+    (λ w. cases (leb (bodyLength k) (length l))
+    (λ e. rw (w, e) (omega (arith, length-at (k ∷ l) 0 w, total-within (bodyLength k) l (leb-true (bodyLength k) (length l) e))))
+    (λ e. rw (w, e) (omega arith)))
+    (λ w. rw w (omega arith))
+total-within (suc n) [] h = absurd (omega (arith, h))
+total-within (suc n) (b ∷ l) h = omega (arith, total-within n l (omega (arith, h)))
 
-pub complete-within : (j : List ℕ) → unknownKind j ≡ false → completeLength j ≤ length j
-complete-within j u = omega (arith, total-within 0 j (omega arith) u)
+pub complete-within : (j : List ℕ) → completeLength j ≤ length j
+complete-within j = omega (arith, total-within 0 j (omega arith))
 
 -- ---- the state that records make
 

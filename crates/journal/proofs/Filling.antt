@@ -13,7 +13,7 @@ use Rattle.octets.specs.Refusals.{unless}
 use Rattle.octets.proofs.Conditions.{answer-number, unless-either}
 use Rattle.senders.specs.declared.SenderRecord.{SenderRecord}
 use Rattle.senders.specs.Records.{recordOf, freeRecord}
-use Rattle.senders.specs.Walks.{counted}
+use Rattle.senders.specs.Senders.{counted}
 use Rattle.senders.proofs.Turns.{turns, counted-is, set-behind, snoc-length, snoc-append}
 use Rattle.senders.proofs.Walks.{counted-within, counted-64}
 use Rattle.journal.specs.declared.{Found.Found, Recovered.Recovered}

@@ -10,7 +10,7 @@ use borrow.Author.Tests.{leb-true, leb-false, ltb-true, ltb-false, le-leb, lt-le
 use borrow.Table.Steps.{cases}
 use Rattle.octets.specs.Refusals.{unless, firstOf}
 use Rattle.octets.proofs.Conditions.{none}
-use Rattle.senders.specs.Walks.{counted}
+use Rattle.senders.specs.Senders.{counted}
 use Rattle.journal.specs.declared.{format.JournalRecord.JournalRecord, scan.Scanned.Scanned}
 use Rattle.journal.specs.Format.{recordBytes, records, unknownKind}
 use Rattle.journal.specs.Recovery.{State, blank, larger, ceilingAfter, sendersAfter, applied, appliedAll, stateOf, recoverRefusal, recoverAnswer}

@@ -1,4 +1,5 @@
 -- The values of a journal's records, and of the state that they make, are in their ranges. Assumes nothing.
+use mathlib.Core.Bool.{_&&_}
 use mathlib.Core.List.{List, [], _∷_, _++_}
 use Prim.Native.Nat.{ℕ, zero, suc, _^_, _<_}
 use native.Mathlib.Omega.{arith}
@@ -10,7 +11,7 @@ use Rattle.octets.proofs.Numbers.{leAt-lt}
 use Rattle.senders.specs.declared.SenderRecord.{SenderRecord}
 use Rattle.senders.specs.Records.{recordOf}
 use Rattle.journal.specs.declared.format.JournalRecord.{JournalRecord}
-use Rattle.journal.specs.Format.{bodyLength, recordAt, recordsFrom, records}
+use Rattle.journal.specs.Format.{isKind, bodyLength, recordAt, recordsFrom, records}
 use Rattle.journal.specs.Recovery.{State, blank, noted, ceilingAfter, keyNumberAfter, sendersAfter, applied, appliedAll, stateOf}
 use Rattle.journal.specs.Shrinking.{sorted, keyNumberRecords, ceilingRecords, senderRecords, shrunkRecords}
 use Rattle.journal.specs.Claims.{Fits}
@@ -33,7 +34,7 @@ records-fit : (n : ℕ) (l : List ℕ) → Below 256 l → AllFit (recordsFrom n
 unfolding recordsFrom
 records-fit zero [] b = tt
 records-fit zero (k ∷ l) b =
-    cases (leb (bodyLength k) (length l)) (λ e. rw e (record-fits k l b, records-fit (bodyLength k) l (λ i. b (suc i)))) (λ e. rw e tt)
+    cases (isKind k && leb (bodyLength k) (length l)) (λ e. rw e (record-fits k l b, records-fit (bodyLength k) l (λ i. b (suc i)))) (λ e. rw e tt)
 records-fit (suc n) [] b = tt
 records-fit (suc n) (x ∷ l) b = records-fit n l (λ i. b (suc i))
 

@@ -9,6 +9,7 @@ pub mod Calls
 pub mod Appending
 pub mod ReadBack
 pub mod SendersOnce
+pub mod FirstAppearance
 pub mod AddressOrder
 pub mod Sorting
 pub mod InRange

@@ -1,28 +1,29 @@
 -- No counter is handed out twice: in every life each one handed out is up to the largest complete ceiling of the store, which no event makes
--- lower, and up to the last counter while the power is on. A recovery starts from that ceiling, and a shrunk journal has the same.
+-- lower, and up to the last counter after a recovery. A recovery starts from that ceiling, and a marked journal beside has the same.
 -- Assumes nothing.
 use mathlib.Core.Path.{_≡_, refl, sym, ap, subst, _∙_}
-use mathlib.Core.Bool.{true, false, not}
+use mathlib.Core.Bool.{Bool, true, false, cond, not}
 use mathlib.Core.List.{List, [], _∷_, _++_, append-nil}
 use Prim.Native.Nat.{ℕ, zero, suc, _<_, _≤_}
+use native.Mathlib.Nat.{mod-lt}
 use native.Mathlib.Omega.{arith}
 use lib.Dec.{ltb}
 use lib.ListN.{length, take}
+use lib.Seq.{take-length}
 use borrow.Author.Tests.{leb-false, ltb-true, not-false}
 use borrow.Table.Steps.{cases}
 use Rattle.octets.specs.Refusals.{unless}
 use Rattle.octets.specs.Strings.{Below}
 use Rattle.octets.specs.Writing.{written}
-use Rattle.octets.proofs.Conditions.{none as no-condition, or-false, unless-either}
+use Rattle.octets.proofs.Conditions.{none as no-condition, unless-either}
 use Rattle.octets.proofs.Strings.{take-over, take-below, append-below}
-use Rattle.octets.proofs.Writing.{written-number}
 use Rattle.senders.specs.declared.OptionCounter.{OptionCounter}
 use Rattle.journal.specs.declared.format.JournalRecord.{JournalRecord}
-use Rattle.journal.specs.Format.{recordBytes, recordsFrom, records, unknownKind, completeLength}
+use Rattle.journal.specs.Format.{recordBytes, recordsFrom, records, completeLength}
 use Rattle.journal.specs.Recovery.{State, blank, ceilingAfter, applied, appliedAll, stateOf, recoverRefusal, recoverGiven, recoverNothing, recoverAnswer}
 use Rattle.journal.specs.Writing.{recordOfKind, writeRefusal, writeRecord, someCeiling, nextRefusal, nextGiven, nextNothing, nextCounter}
 use Rattle.journal.specs.Shrinking.{shrink}
-use Rattle.journal.specs.Life.{Beside, none, complete, Gateway, begun, Writing, Event, recovers, shortens, appends, hands, cuts, cutsAppending, shrinks, cutsShrinking, replaces, completePart, writes, given, off, recovered, appended, handedOut, setBeside, replaced, whileOn, after, afterAll, life}
+use Rattle.journal.specs.Life.{Gateway, begun, Writing, Event, recovers, shortens, appends, failsAppending, cutsAppending, garbles, hands, cuts, shrinks, failsShrinking, cutsShrinking, replaces, completePart, writes, given, off, recovered, storing, behind, appended, asBytes, handedOut, shrunkBeside, afterRecovery, after, afterAll, life}
 use Rattle.journal.specs.Claims.{AllBelow, NoCounterTwice, EachCanBeSealed, OneMoreIfCovered}
 use Rattle.journal.proofs.Appending.{records-append, applied-append}
 use Rattle.journal.proofs.Gathered.{covered}
@@ -46,18 +47,18 @@ all-higher [] g = omega arith
 all-higher (r ∷ rs) g = omega (arith, one-higher r (g .ceiling), all-higher rs (applied r g))
 
 -- whatever bytes t stand behind the complete records
-higher : (j : List ℕ) → unknownKind j ≡ false → (t : List ℕ) → ceilingOf j ≤ ceilingOf (completePart j ++ t)
+higher : (j t : List ℕ) → ceilingOf j ≤ ceilingOf (completePart j ++ t)
 unfolding stateOf
-higher j u t =
-    let e = ap (λ (rs : List JournalRecord). appliedAll rs blank) (records-append j u t) ∙ applied-append (records j) (records t) blank in
+higher j t =
+    let e = ap (λ (rs : List JournalRecord). appliedAll rs blank) (records-append j t) ∙ applied-append (records j) (records t) blank in
     subst (λ (g : State). appliedAll (records j) blank .ceiling ≤ g .ceiling) (sym e) (all-higher (records t) (appliedAll (records j) blank))
 
 -- nor is it higher for the complete records alone
-complete-same : (j : List ℕ) → unknownKind j ≡ false → ceilingOf (completePart j) ≡ ceilingOf j
+complete-same : (j : List ℕ) → ceilingOf (completePart j) ≡ ceilingOf j
 unfolding stateOf recordsFrom
-complete-same j u =
+complete-same j =
     ap (λ (rs : List JournalRecord). appliedAll rs blank .ceiling)
-    (ap records (sym (append-nil (completePart j))) ∙ records-append j u [] ∙ append-nil (records j))
+    (ap records (sym (append-nil (completePart j))) ∙ records-append j [] ∙ append-nil (records j))
 
 -- ---- what holds in every life
 
@@ -91,15 +92,15 @@ up-to-split : (d c : ℕ) (before behind : List ℕ) → UpTo d (before ++ (c �
 up-to-split d c [] behind u = u .0
 up-to-split d c (x ∷ before) behind u = up-to-split d c before behind (u .1)
 
--- the last counter, if the power is on
+-- the last counter, after a recovery
 abbrev UpToLast : OptionCounter → List ℕ → Type 0
 UpToLast OptionCounter.Absent xs = Unit {0}
 UpToLast (OptionCounter.Present c) xs = UpTo c xs
 
--- what stands beside the journal j may take its place: bytes, whose ceiling is no lower
-abbrev StandsIn : Beside → List ℕ → Type 0
-StandsIn none j = Unit {0}
-StandsIn (complete k) j = (ceilingOf j ≤ ceilingOf k) × Below 256 k
+-- what is beside the journal j, with the mark, may take its place: bytes, whose ceiling is no lower
+abbrev StandsIn : Bool → List ℕ → List ℕ → Type 0
+StandsIn true b j = (ceilingOf j ≤ ceilingOf b) × Below 256 b
+StandsIn false b j = Unit {0}
 
 -- handed out so far: one larger than the other, all to be sealed, all up to the ceiling of the store and to the last one
 record Safe (g : Gateway) : Type 0 where
@@ -108,7 +109,7 @@ record Safe (g : Gateway) : Type 0 where
   covered : UpTo (ceilingOf (g .stored)) (g .handed)
   upToLast : UpToLast (g .last) (g .handed)
   bytes : Below 256 (g .stored)
-  standsIn : StandsIn (g .beside) (g .stored)
+  standsIn : StandsIn (g .marked) (g .beside) (g .stored)
 
 -- ---- what a call that is not refused says
 
@@ -120,11 +121,6 @@ module _ (j : List ℕ) where
       by : (n : ℕ) → unless n (recoverGiven j) (recoverNothing n) .refusal ≡ 0 → unless n (recoverGiven j) (recoverNothing n) .ceiling ≡ ceilingOf j
       by zero h = refl
       by (suc n) h = absurd (omega (arith, h))
-
-  written-known : (w : Writing) → writes j w .answer .refusal ≡ 0 → unknownKind j ≡ false
-  unfolding writeRecord writeRefusal
-  written-known w h =
-      or-false (unknownKind j) _ (no-condition _ (sym (written-number _ _ (w .out)) ∙ h) .0) .0
 
   -- not refused: no number, and one more than the last
   next-number : (last n : ℕ) → unless n (nextGiven last) (nextNothing n) .refusal ≡ 0 → (n ≡ 0) × (unless n (nextGiven last) (nextNothing n) .counter ≡ suc last)
@@ -155,6 +151,12 @@ given-below j w = by (writeRefusal j (w .kind) r (length (w .out)))
     by zero = subst (Below 256) (sym (take-over (w .out) (recordBytes r))) (record-below r)
     by (suc n) = λ i. omega arith
 
+-- garbage is bytes
+as-bytes-below : (t : List ℕ) → Below 256 (asBytes t)
+as-bytes-below [] i = omega arith
+as-bytes-below (b ∷ t) zero = mod-lt b (omega arith)
+as-bytes-below (b ∷ t) (suc i) = as-bytes-below t i
+
 -- ---- each event keeps a gateway safe
 
 module _ (g : Gateway) (safe : Safe g) where
@@ -166,13 +168,12 @@ module _ (g : Gateway) (safe : Safe g) where
         covered = safe .covered;
         upToLast = tt;
         bytes = safe .bytes;
-        standsIn = safe .standsIn;
+        standsIn = tt;
       }
 
-  -- with a store whose ceiling is no lower
-  stored-safe : (j : List ℕ) (b : Beside) → ceilingOf (g .stored) ≤ ceilingOf j → Below 256 j → StandsIn b j
-      → Safe (record { stored = j; beside = b; last = g .last; handed = g .handed })
-  stored-safe j b h bytes s =
+  -- with a journal whose ceiling is no lower
+  storing-safe : (j b : List ℕ) (m : Bool) → ceilingOf (g .stored) ≤ ceilingOf j → Below 256 j → StandsIn m b j → Safe (storing j b m g)
+  storing-safe j b m h bytes s =
       record {
         rising = safe .rising;
         sealable = safe .sealable;
@@ -197,28 +198,31 @@ module _ (g : Gateway) (safe : Safe g) where
   complete-below : Below 256 (completePart (g .stored))
   complete-below = take-below (g .stored) (completeLength (g .stored)) 256 (omega arith) (safe .bytes)
 
-  shortened-safe : unknownKind (g .stored) ≡ false
-      → Safe (record { stored = completePart (g .stored); beside = g .beside; last = g .last; handed = g .handed })
-  shortened-safe u =
-      let e = complete-same (g .stored) u in
-      stored-safe (completePart (g .stored)) (g .beside) (omega (arith, e)) complete-below (by (g .beside) e (safe .standsIn))
+  shortened-safe : Safe (storing (completePart (g .stored)) (g .beside) (g .marked) g)
+  shortened-safe =
+      let e = complete-same (g .stored) in
+      storing-safe (completePart (g .stored)) (g .beside) (g .marked) (omega (arith, e)) complete-below (by (g .marked) e (safe .standsIn))
     where
-      by : (b : Beside) → ceilingOf (completePart (g .stored)) ≡ ceilingOf (g .stored) → StandsIn b (g .stored) → StandsIn b (completePart (g .stored))
-      by none e s = tt
-      by (complete k) e s = (omega (arith, e, s .0), s .1)
+      by : (m : Bool) → ceilingOf (completePart (g .stored)) ≡ ceilingOf (g .stored) → StandsIn m (g .beside) (g .stored)
+          → StandsIn m (g .beside) (completePart (g .stored))
+      by true e s = (omega (arith, e, s .0), s .1)
+      by false e s = tt
+
+  behind-safe : (t : List ℕ) → Below 256 t → Safe (behind t g)
+  behind-safe t h = storing-safe _ (g .beside) false (higher (g .stored) t) (append-below (completePart (g .stored)) t 256 complete-below h) tt
 
   appended-safe : (w : Writing) (n : ℕ) → Safe (appended (writes (g .stored) w) n g)
   appended-safe w n =
-      let t = take n (given (writes (g .stored) w)) in
       unless-either Safe (writes (g .stored) w .answer .refusal) _ g
-      (λ z. stored-safe _ none (higher (g .stored) (written-known (g .stored) w z) t)
-      (append-below (completePart (g .stored)) t 256 complete-below (take-below _ n 256 (omega arith) (given-below (g .stored) w))) tt) safe
+      (λ _. behind-safe _ (take-below _ n 256 (omega arith) (given-below (g .stored) w))) safe
 
   handed-safe : (c : ℕ) → UpTo c (g .handed) → Safe (handedOut (nextCounter (g .stored) c) g)
   handed-safe c u =
       unless-either Safe (nextCounter (g .stored) c .refusal) _ g
       (λ z. let n = next-given (g .stored) c z in
-      subst (λ (x : ℕ). Safe (record { stored = g .stored; beside = g .beside; last = OptionCounter.Present x; handed = g .handed ++ (x ∷ []) })) (sym (n .0))
+      subst
+      (λ (x : ℕ). Safe (record { stored = g .stored; beside = g .beside; marked = g .marked; last = OptionCounter.Present x; handed = g .handed ++ (x ∷ []) }))
+      (sym (n .0))
       (record {
         rising = rises-snoc 0 c (g .handed) (safe .rising) (omega arith) u;
         sealable = up-to-snoc 0xFFFFFFFE (g .handed) (suc c) (safe .sealable) (omega (arith, n .1 .0));
@@ -228,44 +232,48 @@ module _ (g : Gateway) (safe : Safe g) where
         standsIn = safe .standsIn;
       })) safe
 
-  beside-safe : (b : Beside) → StandsIn b (g .stored) → Safe (setBeside b g)
-  beside-safe b s = stored-safe (g .stored) b (omega arith) (safe .bytes) s
+  beside-safe : (o : List ℕ) (n : ℕ) (m : Bool) → (shrink (g .stored) o .answer .refusal ≡ 0 → StandsIn m (take n (given (shrink (g .stored) o))) (g .stored))
+      → Safe (shrunkBeside (shrink (g .stored) o) n m g)
+  beside-safe o n m s =
+      unless-either Safe (shrink (g .stored) o .answer .refusal) _ g (λ z. storing-safe (g .stored) _ m (omega arith) (safe .bytes) (s z)) safe
 
-  -- a shrunk journal may take the place: it has the same ceiling
-  shrunk-safe : (o : List ℕ) → shrink (g .stored) o .answer .refusal ≡ 0 → Safe (setBeside (complete (given (shrink (g .stored) o))) g)
-  shrunk-safe o z =
+  -- a whole shrunk journal may take the place: it has the same ceiling
+  shrunk-stands-in : (o : List ℕ) → let k = given (shrink (g .stored) o) in shrink (g .stored) o .answer .refusal ≡ 0 → StandsIn true (take (length k) k) (g .stored)
+  shrunk-stands-in o z =
       let j = g .stored in
-      beside-safe (complete (given (shrink j o)))
-      (subst (λ (k : List ℕ). StandsIn (complete k) j) (sym (given-shrunk j o z)) (omega (arith, shrunk-alike j (safe .bytes) .ceiling), shrunk-below j))
+      subst (λ (k : List ℕ). StandsIn true k j) (sym (given-shrunk j o z) ∙ sym (take-length (given (shrink j o)))) (omega (arith, shrunk-alike j (safe .bytes) .ceiling), shrunk-below j)
 
-  replaced-safe : (b : Beside) → StandsIn b (g .stored) → Safe (replaced b g)
-  replaced-safe none s = safe
-  replaced-safe (complete k) s = stored-safe k none (s .0) (s .1) tt
+  replaced-safe : g .marked ≡ true → Safe (storing (g .beside) [] false g)
+  replaced-safe e =
+      let s = subst (λ (m : Bool). StandsIn m (g .beside) (g .stored)) e (safe .standsIn) in
+      storing-safe (g .beside) [] false (s .0) (s .1) tt
 
--- while the power is on
-while-on : (P : Gateway → Type 0) (o : OptionCounter) (f : ℕ → Gateway) (g : Gateway) → P g → ((c : ℕ) → o ≡ OptionCounter.Present c → P (f c)) → P (whileOn o f g)
-while-on P OptionCounter.Absent f g p q = p
-while-on P (OptionCounter.Present c) f g p q = q c refl
+-- after a recovery
+after-recovery : (P : Gateway → Type 0) (o : OptionCounter) (f : ℕ → Gateway) (g : Gateway) → P g → ((c : ℕ) → o ≡ OptionCounter.Present c → P (f c))
+    → P (afterRecovery o f g)
+after-recovery P OptionCounter.Absent f g p q = p
+after-recovery P (OptionCounter.Present c) f g p q = q c refl
 
 safe-after : (e : Event) (g : Gateway) → Safe g → Safe (after e g)
 unfolding after
 safe-after (recovers l) g safe = recovered-safe g safe (length l)
-safe-after shortens g safe =
-    cases (unknownKind (g .stored)) (λ u. rw u safe)
-    (λ u. rw u (shortened-safe g safe u))
-safe-after (appends w) g safe =
-    let r = writes (g .stored) w in
-    while-on Safe (g .last) (λ c. appended r (length (given r)) g) g safe (λ c _. appended-safe g safe w (length (given r)))
+safe-after shortens g safe = shortened-safe g safe
+safe-after (appends w) g safe = appended-safe g safe w (length (given (writes (g .stored) w)))
+safe-after (failsAppending w n) g safe = appended-safe g safe w n
+safe-after (cutsAppending w n) g safe = off-safe (appended (writes (g .stored) w) n g) (appended-safe g safe w n)
+safe-after (garbles t) g safe = behind-safe g safe (asBytes t) (as-bytes-below t)
 safe-after hands g safe =
-    while-on Safe (g .last) (λ c. handedOut (nextCounter (g .stored) c) g) g safe
+    after-recovery Safe (g .last) (λ c. handedOut (nextCounter (g .stored) c) g) g safe
     (λ c e. handed-safe g safe c (subst (λ (o : OptionCounter). UpToLast o (g .handed)) e (safe .upToLast)))
 safe-after cuts g safe = off-safe g safe
-safe-after (cutsAppending w n) g safe =
-    let f : ℕ → Gateway = λ c. appended (writes (g .stored) w) n g in
-    off-safe (whileOn (g .last) f g) (while-on Safe (g .last) f g safe (λ c _. appended-safe g safe w n))
-safe-after (shrinks o) g safe = unless-either Safe (shrink (g .stored) o .answer .refusal) _ g (shrunk-safe g safe o) safe
-safe-after cutsShrinking g safe = off-safe (setBeside none g) (beside-safe g safe none tt)
-safe-after replaces g safe = replaced-safe g safe (g .beside) (safe .standsIn)
+safe-after (shrinks o) g safe = beside-safe g safe o (length (given (shrink (g .stored) o))) true (shrunk-stands-in g safe o)
+safe-after (failsShrinking o n) g safe = beside-safe g safe o n false (λ _. tt)
+safe-after (cutsShrinking o n) g safe = off-safe (shrunkBeside (shrink (g .stored) o) n false g) (beside-safe g safe o n false (λ _. tt))
+safe-after replaces g safe = by (g .marked) refl
+  where
+    by : (m : Bool) → g .marked ≡ m → Safe (cond m (storing (g .beside) [] false g) g)
+    by true e = replaced-safe g safe e
+    by false e = safe
 
 safe-all : (es : List Event) (g : Gateway) → Safe g → Safe (afterAll es g)
 unfolding afterAll

@@ -23,7 +23,7 @@ module _ (k : ℕ) (b : List ℕ) (w : isKind k ≡ true) (e : length b ≡ body
   whole-by : (t : List ℕ) → (records (k ∷ (b ++ t)) ≡ recordAt (k ∷ (b ++ t)) 0 ∷ records t) × (unknownKind (k ∷ (b ++ t)) ≡ unknownKind t)
   whole-by t =
       let rest = drop-at b t (bodyLength k) e in (
-        records-whole k (b ++ t) (rw (length-append b t) (omega (arith, e))) ∙ ap (λ (l : List ℕ). recordAt (k ∷ (b ++ t)) 0 ∷ records l) rest,
+        records-whole k (b ++ t) w (rw (length-append b t) (omega (arith, e))) ∙ ap (λ (l : List ℕ). recordAt (k ∷ (b ++ t)) 0 ∷ records l) rest,
         unknown-behind k (b ++ t) w ∙ ap unknownKind rest,
       )
 
@@ -31,7 +31,7 @@ module _ (k : ℕ) (b : List ℕ) (w : isKind k ≡ true) (e : length b ≡ body
   unfolding kindsFrom recordsFrom someUnknown
   part-by zero h = (refl, refl)
   part-by (suc n) h =
-      let s : length (take n b) < bodyLength k = rw (length-take n b) (omega (arith, h, e)) in (records-short k (take n b) s, unknown-short k (take n b) w s)
+      let s : length (take n b) < bodyLength k = rw (length-take n b) (omega (arith, h, e)) in (records-short k (take n b) w s, unknown-short k (take n b) w s)
 
 -- ---- a record
 

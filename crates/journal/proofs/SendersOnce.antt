@@ -12,8 +12,7 @@ use borrow.Table.Steps.{cases}
 use Rattle.octets.proofs.Conditions.{accepted, none, unless-either}
 use Rattle.senders.specs.declared.{SenderRecord.SenderRecord, OptionCounter.OptionCounter}
 use Rattle.senders.specs.Records.{names}
-use Rattle.senders.specs.Senders.{countedPlaces, storedIn, stored}
-use Rattle.senders.specs.Walks.{counted}
+use Rattle.senders.specs.Senders.{countedPlaces, counted, storedIn, stored}
 use Rattle.senders.proofs.Walks.{counted-within, counted-64}
 use Rattle.journal.specs.declared.format.JournalRecord.{JournalRecord}
 use Rattle.journal.specs.Format.{records}
@@ -68,7 +67,7 @@ last-all s (JournalRecord.KeyNumber k ∷ rs) g = last-all s rs (applied (Journa
 
 -- ---- along the list, of which n places count
 
-names-marked : (s : ℕ) (r : SenderRecord) → r .used ≡ 1 → names s r ≡ eqb (r .address) s
+pub names-marked : (s : ℕ) (r : SenderRecord) → r .used ≡ 1 → names s r ≡ eqb (r .address) s
 names-marked s r e = rw e refl
 
 stored-anew : (s n : ℕ) (ss l : List SenderRecord) → Once ss → length ss ≤ n → length ss ≤ length l → storedIn s n (anew n ss l) ≡ counterOf s ss
@@ -140,11 +139,11 @@ once-state j = once-all (records j) blank tt
 
 -- a list that was filled
 module _ (j : List ℕ) (l : List SenderRecord) (z : recoverRefusal j (length l) ≡ 0) where
-  filled-anew : recoveredList j l ≡ anew countedPlaces (stateOf j .senders) l
+  pub filled-anew : recoveredList j l ≡ anew countedPlaces (stateOf j .senders) l
   unfolding recoveredList
   filled-anew = accepted (recoverRefusal j (length l)) _ l z
 
-  room : length (stateOf j .senders) ≤ counted (length l)
+  pub room : length (stateOf j .senders) ≤ counted (length l)
   unfolding recoverRefusal
   room = ltb-false (counted (length l)) (length (stateOf j .senders)) (none _ z .1 .0)
 

@@ -167,7 +167,7 @@ none-is-shorter j k o l b d z e s =
       length-given j o z,
       ap length (same-shrunk j k b d (alike-states j k l e s)),
       shrunk-within k,
-      complete-within k (known-of j k l e s k (both j k l e s)),
+      complete-within k,
     )
 
 pub never-longer : NeverLonger

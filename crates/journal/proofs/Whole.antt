@@ -43,13 +43,13 @@ kinds-short (suc n) (b ∷ l) h = kinds-short n l (omega (arith, h))
 -- ---- a byte k with the bytes l behind it
 
 module _ (k : ℕ) (l : List ℕ) where
-  pub records-whole : bodyLength k ≤ length l → records (k ∷ l) ≡ recordAt (k ∷ l) 0 ∷ records (drop (bodyLength k) l)
+  pub records-whole : isKind k ≡ true → bodyLength k ≤ length l → records (k ∷ l) ≡ recordAt (k ∷ l) 0 ∷ records (drop (bodyLength k) l)
   unfolding recordsFrom
-  records-whole h = rw (le-leb _ _ h, records-skip (bodyLength k) l)
+  records-whole w h = rw (w, le-leb _ _ h, records-skip (bodyLength k) l)
 
-  pub records-short : length l < bodyLength k → records (k ∷ l) ≡ []
+  pub records-short : isKind k ≡ true → length l < bodyLength k → records (k ∷ l) ≡ []
   unfolding recordsFrom
-  records-short h = rw (lt-leb _ _ h)
+  records-short w h = rw (w, lt-leb _ _ h)
 
   pub unknown-behind : isKind k ≡ true → unknownKind (k ∷ l) ≡ unknownKind (drop (bodyLength k) l)
   unfolding kindsFrom someUnknown
@@ -123,7 +123,7 @@ module _ (j : List ℕ) (i : ℕ) where
 
     pub records-at : records (drop i j) ≡ recordAt j i ∷ records (drop (i + suc (bodyLength k)) j)
     records-at =
-        ap records here ∙ records-whole k (drop (suc i) j) (rw (length-drop (suc i) j) (omega (arith, h)))
+        ap records here ∙ records-whole k (drop (suc i) j) w (rw (length-drop (suc i) j) (omega (arith, h)))
         ∙ (λ t. recordAt (sym here t) 0 ∷ records (behind t))
         ∙ ap (λ (r : JournalRecord). r ∷ records (drop (i + suc (bodyLength k)) j)) record-there
 
@@ -149,7 +149,7 @@ module _ (j : List ℕ) (i : ℕ) where
       (λ f. let n = drop-cons j i 0 (leb-false (length j) i f) in
       let kind : isKind k ≡ true = (rw f at e) in
       let short : length (drop (suc i) j) < bodyLength k = rw (length-drop (suc i) j) (short-by kind (leb-false (length j) i f)) in
-      (ap unknownKind n ∙ unknown-short k (drop (suc i) j) kind short, ap records n ∙ records-short k (drop (suc i) j) short))
+      (ap unknownKind n ∙ unknown-short k (drop (suc i) j) kind short, ap records n ∙ records-short k (drop (suc i) j) kind short))
     where
       short-by : isKind k ≡ true → i < length j → length j - suc i < bodyLength k
       short-by kind l =

@@ -5,7 +5,7 @@ use Rattle.octets.specs.Refusals.{unless, firstOf}
 use Rattle.octets.specs.Strings.{over}
 use Rattle.octets.specs.Numbers.{le, leAt}
 use Rattle.octets.specs.Writing.{written}
-use Rattle.senders.specs.Walks.{counted}
+use Rattle.senders.specs.Senders.{counted}
 use Rattle.journal.specs.Format.{bodyLength, recordAt, recordBytes, kindsFrom, recordsFrom, someUnknown, totalLength}
 use Rattle.journal.specs.Recovery.{noted, ceilingAfter, keyNumberAfter, sendersAfter, appliedAll, stateOf, recoverRefusal, anew, recoverAnswer, recoveredList}
 use Rattle.journal.specs.Writing.{recordOfKind, writeRefusal, writeRecord, someCeiling, nextRefusal, nextCounter}
@@ -115,7 +115,7 @@ unfolding unless firstOf over le leAt written counted bodyLength recordAt record
     ceilingAfter keyNumberAfter sendersAfter appliedAll stateOf recoverRefusal anew recoverAnswer recoveredList recordOfKind writeRefusal
     writeRecord someCeiling nextRefusal nextCounter after afterAll many listed counters
 counters-hold =
-    (refl, (refl, (refl, (refl, (refl, (refl, (refl, (refl, (refl, (refl, (refl, (refl, tt))))))))))))
+    (refl, (refl, (refl, (refl, (refl, (refl, (refl, (refl, (refl, (refl, (refl, (refl, (refl, tt)))))))))))))
 
 shrinkings-hold : AllHold shrinkings
 unfolding unless firstOf over le leAt written counted bodyLength recordAt recordBytes kindsFrom recordsFrom someUnknown totalLength noted

@@ -1,9 +1,9 @@
 -- What document 02, 6 promises of the journal, each one claim over all journals, records, lists and lives. They are proved in
--- `proofs/Claims.antt` and `proofs/NoCounterTwice.antt`.
+-- `proofs/Claims.antt`, `proofs/SendersOnce.antt`, `proofs/FirstAppearance.antt` and `proofs/NoCounterTwice.antt`.
 -- Assumes nothing.
 use Prim.Native.Nat.{ℕ, suc, _+_, _^_, _≤_, _<_}
 use mathlib.Core.Path.{_≡_}
-use mathlib.Core.Bool.{true, false, cond}
+use mathlib.Core.Bool.{Bool, true, false, cond, _||_}
 use mathlib.Core.List.{List, [], _∷_, _++_}
 use mathlib.Core.Logic.{_⊎_}
 use lib.Dec.{eqb, ltb}
@@ -11,9 +11,9 @@ use lib.ListN.{length, getD, take}
 use Rattle.octets.specs.Strings.{Below}
 use Rattle.types.specs.Counters.{lastCounter}
 use Rattle.senders.specs.declared.{SenderRecord.SenderRecord, OptionCounter.OptionCounter}
-use Rattle.senders.specs.Records.{names}
-use Rattle.senders.specs.Senders.{countedPlaces, stored}
-use Rattle.journal.specs.declared.format.JournalRecord.{JournalRecord}
+use Rattle.senders.specs.Records.{names, freeRecord}
+use Rattle.senders.specs.Senders.{countedPlaces, counted, stored}
+use Rattle.journal.specs.declared.{format.JournalRecord.JournalRecord, OptionKeyNumber.OptionKeyNumber}
 use Rattle.journal.specs.Format.{recordBytes, records, unknownKind, bytesOf, completeLength}
 use Rattle.journal.specs.Recovery.{applied, stateOf, recoverRefusal, recoverAnswer, recoveredList}
 use Rattle.journal.specs.Writing.{recordOfKind, someCeiling, nextCounter}
@@ -55,7 +55,7 @@ pub record WithRecord (j : List ℕ) (r : JournalRecord) (k : List ℕ) : Type 0
   pub complete : completeLength k ≡ completeLength j + length (recordBytes r)
 
 abbrev pub RecordIsApplied : Type 0
-RecordIsApplied = (j : List ℕ) (r : JournalRecord) → unknownKind j ≡ false → Fits r → WithRecord j r (completePart j ++ recordBytes r)
+RecordIsApplied = (j : List ℕ) (r : JournalRecord) → Fits r → WithRecord j r (completePart j ++ recordBytes r)
 
 -- what is recovered from one journal is what is recovered from the other, answer and list, refused or not
 abbrev pub SameRecovery : List ℕ → List ℕ → Type 0
@@ -74,7 +74,7 @@ CompleteRecordsRecover = (j : List ℕ) → unknownKind j ≡ false → SameReco
 
 -- they are the records' bytes, end to end
 abbrev pub CompletePartIsRecords : Type 0
-CompletePartIsRecords = (j : List ℕ) → unknownKind j ≡ false → Below 256 j → completePart j ≡ bytesOf (records j)
+CompletePartIsRecords = (j : List ℕ) → Below 256 j → completePart j ≡ bytesOf (records j)
 
 -- ---- 4: what the writer wrote reads back
 
@@ -93,6 +93,21 @@ ReadsBack =
 abbrev pub LargestCeiling : Type 0
 LargestCeiling = (j : List ℕ) (n : ℕ) → someCeiling (suc n) (records j) ≡ ltb n (stateOf j .ceiling)
 
+-- none of the records is a key number's
+abbrev pub NoKeyNumber : List JournalRecord → Type 0
+NoKeyNumber [] = Unit {0}
+NoKeyNumber (JournalRecord.Ceiling c ∷ rs) = NoKeyNumber rs
+NoKeyNumber (JournalRecord.Sender s c ∷ rs) = NoKeyNumber rs
+NoKeyNumber (JournalRecord.KeyNumber k ∷ rs) = ⊥
+
+-- the key number is that of the record behind which there is no other, or none if there is no record of one
+abbrev pub LastKeyNumberOrNone : Type 0
+LastKeyNumberOrNone =
+    (j : List ℕ) (places : ℕ) → recoverRefusal j places ≡ 0
+    → ((before behind : List JournalRecord) (k : ℕ) → records j ≡ before ++ (JournalRecord.KeyNumber k ∷ behind) → NoKeyNumber behind
+    → recoverAnswer j places .«key_number» ≡ OptionKeyNumber.Present k)
+    × (NoKeyNumber (records j) → recoverAnswer j places .«key_number» ≡ OptionKeyNumber.Absent)
+
 -- the counter of the last record of s, or none
 unfoldable pub lastOf : ℕ → OptionCounter → List JournalRecord → OptionCounter
 lastOf s o [] = o
@@ -104,6 +119,31 @@ lastOf s o (JournalRecord.KeyNumber k ∷ rs) = lastOf s o rs
 abbrev pub LastCounterIsStored : Type 0
 LastCounterIsStored =
     (j : List ℕ) (l : List SenderRecord) (s : ℕ) → recoverRefusal j (length l) ≡ 0 → stored s (recoveredList j l) ≡ lastOf s OptionCounter.Absent (records j)
+
+-- whether s is one of xs
+abbrev pub among : ℕ → List ℕ → Bool
+among s [] = false
+among s (x ∷ xs) = eqb x s || among s xs
+
+-- the senders by first appearance, where xs appeared before
+unfoldable pub appearing : List ℕ → List JournalRecord → List ℕ
+appearing xs [] = []
+appearing xs (JournalRecord.Ceiling c ∷ rs) = appearing xs rs
+appearing xs (JournalRecord.Sender s c ∷ rs) = cond (among s xs) (appearing xs rs) (s ∷ appearing (xs ++ (s ∷ [])) rs)
+appearing xs (JournalRecord.KeyNumber k ∷ rs) = appearing xs rs
+
+-- all of them have a counted place, and place i names the one that is the i-th to appear
+abbrev pub FilledByFirstAppearance : Type 0
+FilledByFirstAppearance =
+    (j : List ℕ) (l : List SenderRecord) → let ss = appearing [] (records j) in recoverRefusal j (length l) ≡ 0
+    → (length ss ≤ counted (length l))
+    × ((i : ℕ) (d : SenderRecord) → i < length ss → names (getD ss i 0) (getD (recoveredList j l) i d) ≡ true)
+
+-- the counted places behind theirs are zeroed
+abbrev pub LeftOverZeroed : Type 0
+LeftOverZeroed =
+    (j : List ℕ) (l : List SenderRecord) (i : ℕ) (d : SenderRecord) → recoverRefusal j (length l) ≡ 0
+    → length (appearing [] (records j)) ≤ i → i < counted (length l) → getD (recoveredList j l) i d ≡ freeRecord
 
 -- it names each once
 abbrev pub EachSenderOnce : Type 0

@@ -2,7 +2,7 @@
 -- least significant byte first, a sender is a number, its first wire byte lowest. The last record may be incomplete.
 -- Assumes nothing.
 use Prim.Native.Nat.{ℕ, zero, suc, _+_}
-use mathlib.Core.Bool.{Bool, false, cond, not, _||_}
+use mathlib.Core.Bool.{Bool, false, cond, not, _&&_, _||_}
 use mathlib.Core.List.{List, [], _∷_, _++_}
 use lib.Dec.{eqb, leb}
 use lib.ListN.{length, getD}
@@ -42,10 +42,10 @@ kindsFrom zero (k ∷ j) = k ∷ kindsFrom (bodyLength k) j
 kindsFrom (suc skip) [] = []
 kindsFrom (suc skip) (b ∷ j) = kindsFrom skip j
 
--- its complete records
+-- its complete records, up to a kind that is none
 unfoldable pub recordsFrom : ℕ → List ℕ → List JournalRecord
 recordsFrom zero [] = []
-recordsFrom zero (k ∷ j) = cond (leb (bodyLength k) (length j)) (recordAt (k ∷ j) 0 ∷ recordsFrom (bodyLength k) j) []
+recordsFrom zero (k ∷ j) = cond (isKind k && leb (bodyLength k) (length j)) (recordAt (k ∷ j) 0 ∷ recordsFrom (bodyLength k) j) []
 recordsFrom (suc skip) [] = []
 recordsFrom (suc skip) (b ∷ j) = recordsFrom skip j
 

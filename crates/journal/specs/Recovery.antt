@@ -9,8 +9,7 @@ use lib.ListN.{length}
 use Rattle.octets.specs.Refusals.{unless, on, firstOf}
 use Rattle.senders.specs.declared.SenderRecord.{SenderRecord}
 use Rattle.senders.specs.Records.{recordOf, freeRecord}
-use Rattle.senders.specs.Senders.{countedPlaces}
-use Rattle.senders.specs.Walks.{counted}
+use Rattle.senders.specs.Senders.{countedPlaces, counted}
 use Rattle.journal.specs.declared.{format.JournalRecord.JournalRecord, OptionKeyNumber.OptionKeyNumber, Recovered.Recovered}
 use Rattle.journal.specs.Format.{records, unknownKind, completeLength}
 

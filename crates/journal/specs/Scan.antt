@@ -9,8 +9,7 @@ use lib.ListN.{length, getD}
 use Rattle.octets.specs.Refusals.{unless, on, firstOf}
 use Rattle.senders.specs.declared.SenderRecord.{SenderRecord}
 use Rattle.senders.specs.Records.{recordOf, freeRecord}
-use Rattle.senders.specs.Senders.{countedPlaces}
-use Rattle.senders.specs.Walks.{counted}
+use Rattle.senders.specs.Senders.{countedPlaces, counted}
 use Rattle.journal.specs.declared.{Found.Found, Recovered.Recovered, OptionKeyNumber.OptionKeyNumber, scan.Scanned.Scanned}
 use Rattle.journal.specs.Format.{isKind, bodyLength, unknownKind, bytesOf, completeLength}
 use Rattle.journal.specs.Recovery.{stateOf, recoverRefusal, recoverAnswer, recoverNothing}

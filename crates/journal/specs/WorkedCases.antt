@@ -13,7 +13,7 @@ use Rattle.journal.specs.Format.{recordBytes}
 use Rattle.journal.specs.Recovery.{recoverNothing, recoverAnswer, recoveredList}
 use Rattle.journal.specs.Writing.{writeRecord, nextGiven, nextNothing, nextCounter}
 use Rattle.journal.specs.Shrinking.{shrink}
-use Rattle.journal.specs.Life.{Event, Writing, recovers, shortens, appends, hands, cuts, cutsAppending, shrinks, cutsShrinking, replaces, life}
+use Rattle.journal.specs.Life.{Event, Writing, recovers, shortens, appends, failsAppending, cutsAppending, garbles, hands, cuts, shrinks, cutsShrinking, replaces, life}
 
 -- ---- the rows
 
@@ -155,6 +155,13 @@ counters =
     (recovers [] ∷ hands ∷ appends (ceilingWritten 5) ∷ hands ∷ hands ∷ cutsAppending (ceilingWritten 9) 4 ∷ hands ∷ recovers [] ∷ hands ∷ shortens
     ∷ appends (ceilingWritten 9) ∷ hands ∷ cuts ∷ recovers [] ∷ hands ∷ appends (ceilingWritten 10) ∷ hands ∷ hands ∷ [])
     (1 ∷ 2 ∷ 6 ∷ 10 ∷ [])
+    -- a life: an append before the recovery, one that fails with the power on, garbage that reads as a record, and garbage that is no kind, behind
+    -- which nothing is handed out until it is cut off
+    ∷ lives
+    (appends (ceilingWritten 5) ∷ hands ∷ recovers [] ∷ hands ∷ failsAppending (ceilingWritten 9) 4 ∷ hands ∷ appends (ceilingWritten 7) ∷ hands
+    ∷ garbles (3 ∷ 7 ∷ []) ∷ hands ∷ hands ∷ garbles (4 ∷ []) ∷ appends (ceilingWritten 9) ∷ hands ∷ recovers [] ∷ hands ∷ shortens
+    ∷ appends (ceilingWritten 9) ∷ hands ∷ [])
+    (6 ∷ 7 ∷ 8 ∷ [])
     ∷ []
 
 unfoldable pub shrinkings : List Case
@@ -175,12 +182,12 @@ shrinkings =
     -- 64 senders and 65; 25 before 24, and 24 before 18
     ∷ shrinksTo (many 64) (replicate 833 0xEE) (many 64) ∷ shrinkRefuses (many 64) (replicate 831 0xEE) 18
     ∷ shrinkRefuses (many 65) [] 24 ∷ shrinkRefuses (many 65 ++ (4 ∷ [])) [] 25 ∷ shrinkRefuses (0 ∷ []) [] 25
-    -- a life: the shrunk journal takes the place, a cut while the next one is written, and a third that counts no more once a ceiling was
-    -- appended
+    -- a life: the shrunk journal takes the place; of the next one a cut leaves three bytes, which never do; nor does a third, once a ceiling
+    -- was appended, left over behind a cut too
     ∷ lives
-    (recovers [] ∷ appends (ceilingWritten 5) ∷ appends (ceilingWritten 9) ∷ hands ∷ shrinks (replicate 5 0) ∷ hands ∷ replaces ∷ hands ∷ cutsShrinking
-    ∷ hands ∷ recovers [] ∷ hands ∷ appends (ceilingWritten 12) ∷ hands ∷ shrinks (replicate 5 0) ∷ appends (ceilingWritten 14) ∷ replaces ∷ cuts
-    ∷ recovers [] ∷ appends (ceilingWritten 15) ∷ hands ∷ [])
+    (recovers [] ∷ appends (ceilingWritten 5) ∷ appends (ceilingWritten 9) ∷ hands ∷ shrinks (replicate 5 0) ∷ hands ∷ replaces ∷ hands
+    ∷ cutsShrinking (replicate 5 0) 3 ∷ replaces ∷ hands ∷ recovers [] ∷ hands ∷ appends (ceilingWritten 12) ∷ hands ∷ shrinks (replicate 5 0)
+    ∷ appends (ceilingWritten 14) ∷ replaces ∷ cuts ∷ replaces ∷ recovers [] ∷ appends (ceilingWritten 15) ∷ hands ∷ [])
     (1 ∷ 2 ∷ 3 ∷ 10 ∷ 15 ∷ [])
     ∷ []
 

@@ -30,9 +30,10 @@ use denote.Triple.Spec.{tripleOf}
 use Rattle.senders.specs.declared.SenderRecord.{SenderRecord}
 use Rattle.senders.specs.declared.Found.{Found}
 use Rattle.types.specs.declared.Key.{Key}
-use Rattle.senders.specs.Senders.{counterIf, askedBy}
+use Rattle.senders.specs.Senders.{counted, counterIf, found, askedBy}
 use Rattle.senders.specs.Records.{recordOf, kept}
-use Rattle.senders.specs.Walks.{counted, nowhere, seen, found, notedBy}
+use Rattle.senders.specs.Walks.{seen, notedBy}
+use Rattle.senders.proofs.Walks.{nowhere}
 use Rattle.senders.proofs.Steps.{gives-value, Back, gives-back}
 use Rattle.senders.proofs.SenderRecord as T
 use Rattle.senders.proofs.SenderRecord.Laws as T′

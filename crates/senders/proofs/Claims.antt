@@ -17,10 +17,10 @@ use Rattle.types.specs.Counters.{lastCounter}
 use Rattle.types.specs.declared.Key.{Key}
 use Rattle.senders.specs.declared.{SenderRecord.SenderRecord, OptionCounter.OptionCounter}
 use Rattle.senders.specs.Records.{isFree, names, recordOf}
-use Rattle.senders.specs.Senders.{someOf, stored, knows, hasFree, askRefused, askRefusal, askedBy, inboundNetworkKey, Run, note, forget}
+use Rattle.senders.specs.Senders.{someOf, firstPlace, stored, knows, hasFree, askRefused, askRefusal, askedBy, inboundNetworkKey, Run, note, forget}
 use Rattle.senders.specs.Claims as claims
 use Rattle.senders.proofs.Naming.{names-its-sender, names-no-other, names-one, free-names-none, unknown-stored, stored-unknown, known-stored}
-use Rattle.senders.proofs.Firsts.{first, first-below, first-meets, first-set, stored-other, stored-new, stored-own, some-there, replaced-there, stored-there}
+use Rattle.senders.proofs.Firsts.{first-below, first-meets, first-set, stored-other, stored-new, stored-own, some-there, replaced-there, stored-there}
 use Rattle.senders.proofs.Forgetting.{length-forgotten, getD-forgotten, zeros-forgotten, stored-forgotten, other-forgotten, forgotten-twice, unknown-forgotten, forgotten-free}
 use Rattle.senders.proofs.Places.{none-of, of-none, some-past, replaced-past, stored-past, forgotten-past}
 use Rattle.senders.proofs.Noting.{answer, refusal, list, placing, note-known, note-new, note-full, not-full, note-cases}
@@ -107,13 +107,13 @@ set-only s c l i h = (
 
 -- a record put over the first that meets p
 module _ (s c : ℕ) (l : List SenderRecord) (p : SenderRecord → Bool) (some : someOf p 64 l ≡ true) (run : note s c l ≡ placing p s c l) where
-  list-set : note s c l .list ≡ set l (first p 64 l) (recordOf s c)
+  list-set : note s c l .list ≡ set l (firstPlace p 64 l) (recordOf s c)
   list-set = ap list run ∙ first-set p (recordOf s c) 64 l some
 
   -- of another sender neither the new record nor the one that was there speaks
   placing-only : ((t : ℕ) (r : SenderRecord) → (t ≡ s → ⊥) → p r ≡ true → names t r ≡ false) → Only s l (note s c l .list)
   placing-only others = (
-    subst (claims.OnlyAt s l) (sym list-set) (set-only s c l (first p 64 l) (first-below p 64 l some .1)),
+    subst (claims.OnlyAt s l) (sym list-set) (set-only s c l (firstPlace p 64 l) (first-below p 64 l some .1)),
     λ key active t k x h.
         ask-by key active t k x _ (ap (stored t) (ap list run) ∙ stored-other p t (recordOf s c) (names-no-other s t c h) (λ r e. others t r h e) 64 l)
         ∙ sym (ask-by key active t k x l refl),
@@ -130,12 +130,12 @@ pub noting-takes-one-place : claims.NotingTakesOnePlace
 noting-takes-one-place s c l ok =
     note-cases s l
     (λ k. (
-      first (names s) 64 l,
+      firstPlace (names s) 64 l,
       first-below (names s) 64 l k,
       λ d. rw k (first-meets (names s) 64 l d k),
       list-set s c l (names s) k (note-known s c l k),
     ))
-    (λ k h. (first isFree 64 l, first-below isFree 64 l h, λ d. rw k (first-meets isFree 64 l d h), list-set s c l isFree h (note-new s c l k h)))
+    (λ k h. (firstPlace isFree 64 l, first-below isFree 64 l h, λ d. rw k (first-meets isFree 64 l d h), list-set s c l isFree h (note-new s c l k h)))
     (λ k h. absurd (not-full s c l ok k h))
 
 pub forgetting-changes-only-the-sender : claims.ForgettingChangesOnlyTheSender

@@ -10,38 +10,32 @@ use borrow.Table.Steps.{cases}
 use Rattle.octets.proofs.Conditions.{or-false}
 use Rattle.senders.specs.declared.{SenderRecord.SenderRecord, OptionCounter.OptionCounter}
 use Rattle.senders.specs.Records.{names}
-use Rattle.senders.specs.Senders.{someOf, firstReplaced, storedIn}
+use Rattle.senders.specs.Senders.{someOf, firstPlace, firstReplaced, storedIn}
 
 or-true : (b : Bool) → (b || true) ≡ true
 or-true true = refl
 or-true false = refl
 
 module _ (p : SenderRecord → Bool) where
-  -- the place of the first that meets p, where one does
-  unfoldable pub first : ℕ → List SenderRecord → ℕ
-  first zero l = 0
-  first (suc n) [] = 0
-  first (suc n) (r ∷ l) = cond (p r) 0 (suc (first n l))
-
   -- it counts, and it is a place of the list
-  pub first-below : (n : ℕ) (l : List SenderRecord) → someOf p n l ≡ true → (first n l < n) × (first n l < length l)
-  unfolding someOf first
+  pub first-below : (n : ℕ) (l : List SenderRecord) → someOf p n l ≡ true → (firstPlace p n l < n) × (firstPlace p n l < length l)
+  unfolding someOf firstPlace
   first-below zero l h = absurd (false≢true h)
   first-below (suc n) [] h = absurd (false≢true h)
   first-below (suc n) (r ∷ l) h =
       cases (p r) (λ e. rw e (omega arith)) (λ e. let below = first-below n l (rw e at h) in rw e (omega arith))
 
   -- the record there meets p
-  pub first-meets : (n : ℕ) (l : List SenderRecord) (d : SenderRecord) → someOf p n l ≡ true → p (getD l (first n l) d) ≡ true
-  unfolding someOf first
+  pub first-meets : (n : ℕ) (l : List SenderRecord) (d : SenderRecord) → someOf p n l ≡ true → p (getD l (firstPlace p n l) d) ≡ true
+  unfolding someOf firstPlace
   first-meets zero l d h = absurd (false≢true h)
   first-meets (suc n) [] d h = absurd (false≢true h)
   first-meets (suc n) (r ∷ l) d h =
       cases (p r) (λ e. rw e e) (λ e. rw e (first-meets n l d (rw e at h)))
 
   -- another record there
-  pub first-set : (x : SenderRecord) (n : ℕ) (l : List SenderRecord) → someOf p n l ≡ true → firstReplaced p x n l ≡ set l (first n l) x
-  unfolding someOf first firstReplaced
+  pub first-set : (x : SenderRecord) (n : ℕ) (l : List SenderRecord) → someOf p n l ≡ true → firstReplaced p x n l ≡ set l (firstPlace p n l) x
+  unfolding someOf firstPlace firstReplaced
   first-set x zero l h = absurd (false≢true h)
   first-set x (suc n) [] h = absurd (false≢true h)
   first-set x (suc n) (r ∷ l) h =
@@ -69,6 +63,14 @@ module _ (p : SenderRecord → Bool) where
       cases (p r)
       (λ e. rw e (rw a refl))
       (λ e. let o = or-false (names s r) (someOf (names s) n l) k in rw (e, o .0) (stored-new s x a n l (o .1) (rw e at h)))
+
+-- it has the counter that the list stores for s
+pub stored-first : (s n : ℕ) (l : List SenderRecord) (d : SenderRecord) → someOf (names s) n l ≡ true
+    → storedIn s n l ≡ OptionCounter.Present (getD l (firstPlace (names s) n l) d .counter)
+unfolding someOf firstPlace storedIn
+stored-first s zero l d h = absurd (false≢true h)
+stored-first s (suc n) [] d h = absurd (false≢true h)
+stored-first s (suc n) (r ∷ l) d h = cases (names s r) (λ e. rw e refl) (λ e. rw e (stored-first s n l d (rw e at h)))
 
 -- the sender's own, over its first record
 pub stored-own : (s : ℕ) (x : SenderRecord) → names s x ≡ true

@@ -10,8 +10,9 @@ use lib.ListN.{length, getD, set}
 use borrow.Author.Tests.{ltb-true, ltb-false}
 use Rattle.senders.specs.declared.{SenderRecord.SenderRecord, Found.Found}
 use Rattle.senders.specs.Records.{freeRecord, kept}
-use Rattle.senders.specs.Senders.{forgottenIn, forget}
-use Rattle.senders.specs.Walks.{counted, nowhere, seen, foundFrom, found}
+use Rattle.senders.specs.Senders.{counted, found, forgottenIn, forget}
+use Rattle.senders.specs.Walks.{seen}
+use Rattle.senders.proofs.Walks.{nowhere, foundFrom, walk-finds}
 
 -- the record at place i
 abbrev pub at : List SenderRecord → ℕ → SenderRecord
@@ -95,8 +96,7 @@ cleared-from s (suc n) d (r ∷ l) =
     ∙ snoc-append d (kept s r) (forgottenIn s n l)
 
 pub gathered-is : (s : ℕ) (l : List SenderRecord) → gathered s (counted (length l)) 0 nowhere l ≡ found s l
-unfolding found
-gathered-is s l = ap (λ (t : ℕ). gathered s t 0 nowhere l) (counted-is (length l)) ∙ gathered-from s nowhere 64 [] l
+gathered-is s l = ap (λ (t : ℕ). gathered s t 0 nowhere l) (counted-is (length l)) ∙ gathered-from s nowhere 64 [] l ∙ walk-finds s l
 
 pub cleared-is : (s : ℕ) (l : List SenderRecord) → cleared s (counted (length l)) 0 l ≡ forget s l
 unfolding forget

@@ -1,5 +1,5 @@
--- What a walk along a list gathers of a sender is what noting and asking are defined by. The place is that of the first record
--- that names the sender, else of the first free one, else 64; what is found goes by induction on the places left.
+-- What a walk along a list gathers of a sender is what the list says of it, and noting and asking are defined by. What is found goes by
+-- induction on the places left.
 -- Assumes nothing.
 use mathlib.Core.Path.{_≡_, refl, sym, ap, _∙_}
 use mathlib.Core.Bool.{Bool, true, false, cond}
@@ -8,14 +8,15 @@ use Prim.Native.Nat.{ℕ, zero, suc, _+_, _≤_, _<_}
 use native.Mathlib.Omega.{arith}
 use native.Mathlib.Nat.{zero-add}
 use lib.Dec.{ltb}
-use lib.ListN.{length, set}
+use lib.ListN.{length, getD, set}
 use borrow.Author.Tests.{ltb-true, ltb-false, lt-ltb, le-ltb}
 use borrow.Table.Steps.{cases}
-use Rattle.senders.specs.declared.{SenderRecord.SenderRecord, OptionCounter.OptionCounter, Found.Found}
-use Rattle.senders.specs.Records.{isFree, names, recordOf}
-use Rattle.senders.specs.Senders.{counterIf, someOf, storedIn, stored, knows, hasFree, note}
-use Rattle.senders.specs.Walks.{counted, seen, foundFrom, found, notedBy}
-use Rattle.senders.proofs.Firsts.{first, first-below, first-set}
+use Rattle.senders.specs.declared.{SenderRecord.SenderRecord, Found.Found}
+use Rattle.senders.specs.Records.{isFree, names, recordOf, freeRecord}
+use Rattle.senders.specs.Senders.{counted, counterIf, someOf, firstPlace, stored, knows, hasFree, found, note}
+use Rattle.senders.specs.Walks.{seen, notedBy}
+use Rattle.senders.proofs.Naming.{stored-unknown}
+use Rattle.senders.proofs.Firsts.{first-below, first-set, stored-first}
 use Rattle.senders.proofs.Noting.{answer, list, placing, note-known, note-new, note-full, note-cases}
 
 -- ---- how many places count
@@ -30,15 +31,24 @@ unfolding counted
 counted-64 n =
     cases (ltb n 64) (λ e. let h = ltb-true n 64 e in rw e (omega arith)) (λ e. rw e (omega arith))
 
--- ---- from place i on, where n places still count
+-- ---- the walk
 
 -- a record of the counter x that names the sender was seen at place j
 abbrev naming : ℕ → ℕ → Found
 naming x j = record { named = true; counter = x; place = j }
 
--- none was, and place j is the first free one
+-- none was, and place j is the first free one, or 64
 abbrev free : ℕ → Found
 free j = record { named = false; counter = 0; place = j }
+
+abbrev pub nowhere : Found
+nowhere = free 64
+
+-- from place i on, where n places still count
+unfoldable pub foundFrom : ℕ → Found → ℕ → ℕ → List SenderRecord → Found
+foundFrom s f i zero l = f
+foundFrom s f i (suc n) [] = f
+foundFrom s f i (suc n) (r ∷ l) = foundFrom s (seen s f i r) (suc i) n l
 
 -- a place, counted from the record behind and from this one
 later : (i q : ℕ) → suc i + q ≡ i + suc q
@@ -70,68 +80,65 @@ module _ (s : ℕ) where
   from-other j i n r l k =
       rw k (cases (ltb j 64) (λ e. rw e refl) (λ e. rw e (cases (isFree r) (λ z. rw z refl) (λ z. rw z refl))))
 
-  -- the counter found
-  counter-from : (j i n : ℕ) (l : List SenderRecord) → counterIf (foundFrom s (free j) i n l .named) (foundFrom s (free j) i n l .counter) ≡ storedIn s n l
-  unfolding storedIn foundFrom
-  counter-from j i zero l = refl
-  counter-from j i (suc n) [] = refl
-  counter-from j i (suc n) (r ∷ l) =
-      let by : Found → OptionCounter = λ f. counterIf (f .named) (f .counter) in
-      cases (names s r)
-      (λ k. ap by (from-naming j i n r l k) ∙ rw k refl)
-      (λ k. ap by (from-other j i n r l k) ∙ counter-from (next j i r) (suc i) n l ∙ rw k refl)
+  -- what is found, where q is the place of the first that names the sender, and j the first free one
+  abbrev foundBy : ℕ → ℕ → ℕ → List SenderRecord → Found
+  foundBy q j n l = cond (someOf (names s) n l) (naming (getD l (firstPlace (names s) n l) freeRecord .counter) q) (free j)
 
-  -- the place found, where there was a free one before
-  place-from-free : (j i n : ℕ) (l : List SenderRecord) → j < 64
-      → foundFrom s (free j) i n l .place ≡ cond (someOf (names s) n l) (i + first (names s) n l) j
-  unfolding foundFrom someOf first
-  place-from-free j i zero l h = refl
-  place-from-free j i (suc n) [] h = refl
-  place-from-free j i (suc n) (r ∷ l) h =
+  -- where a place before the list's is free
+  from-free : (j i n : ℕ) (l : List SenderRecord) → j < 64 → foundFrom s (free j) i n l ≡ foundBy (i + firstPlace (names s) n l) j n l
+  unfolding foundFrom someOf firstPlace
+  from-free j i zero l h = refl
+  from-free j i (suc n) [] h = refl
+  from-free j i (suc n) (r ∷ l) h =
       cases (names s r)
-      (λ k. ap (λ (f : Found). f .place) (from-naming j i n r l k) ∙ rw k (here i))
-      (λ k. ap (λ (f : Found). f .place) (from-other j i n r l k)
-      ∙ rw (lt-ltb j 64 h, k) (place-from-free j (suc i) n l h ∙ λ t. cond (someOf (names s) n l) (later i (first (names s) n l) t) j))
+      (λ k. from-naming j i n r l k ∙ rw k (ap (naming (r .counter)) (here i)))
+      (λ k. from-other j i n r l k
+      ∙ rw (lt-ltb j 64 h, k) (from-free j (suc i) n l h ∙ λ t. foundBy (later i (firstPlace (names s) n l) t) j n l))
 
-  -- and where there was none
-  place-from : (j i n : ℕ) (l : List SenderRecord) → 64 ≤ j → i + n ≤ 64
-      → foundFrom s (free j) i n l .place ≡ cond (someOf (names s) n l) (i + first (names s) n l) (cond (someOf isFree n l) (i + first isFree n l) j)
-  unfolding foundFrom someOf first
-  place-from j i zero l h b = refl
-  place-from j i (suc n) [] h b = refl
-  place-from j i (suc n) (r ∷ l) h b =
+  -- and where none is
+  from-none : (j i n : ℕ) (l : List SenderRecord) → 64 ≤ j → i + n ≤ 64
+      → foundFrom s (free j) i n l ≡ foundBy (i + firstPlace (names s) n l) (cond (someOf isFree n l) (i + firstPlace isFree n l) j) n l
+  unfolding foundFrom someOf firstPlace
+  from-none j i zero l h b = refl
+  from-none j i (suc n) [] h b = refl
+  from-none j i (suc n) (r ∷ l) h b =
       cases (names s r)
-      (λ k. ap (λ (f : Found). f .place) (from-naming j i n r l k) ∙ rw k (here i))
-      (λ k. ap (λ (f : Found). f .place) (from-other j i n r l k)
+      (λ k. from-naming j i n r l k ∙ rw k (ap (naming (r .counter)) (here i)))
+      (λ k. from-other j i n r l k
       ∙ rw (le-ltb j 64 h, k)
       (cases (isFree r)
-      (λ z. rw z (place-from-free i (suc i) n l (omega arith) ∙ λ t. cond (someOf (names s) n l) (later i (first (names s) n l) t) (here i t)))
-      (λ z. rw z (place-from j (suc i) n l h (omega arith)
-      ∙ λ t. cond (someOf (names s) n l) (later i (first (names s) n l) t) (cond (someOf isFree n l) (later i (first isFree n l) t) j)))))
+      (λ z. rw z (from-free i (suc i) n l (omega arith) ∙ λ t. foundBy (later i (firstPlace (names s) n l) t) (here i t) n l))
+      (λ z. rw z (from-none j (suc i) n l h (omega arith)
+      ∙ λ t. foundBy (later i (firstPlace (names s) n l) t) (cond (someOf isFree n l) (later i (firstPlace isFree n l) t) j) n l))))
 
 -- ---- the whole list
 
-pub found-stored : (s : ℕ) (l : List SenderRecord) → counterIf (found s l .named) (found s l .counter) ≡ stored s l
-unfolding found
-found-stored s l = counter-from s 64 0 64 l
-
 module _ (s : ℕ) (l : List SenderRecord) where
-  place-found : found s l .place ≡ cond (knows s l) (0 + first (names s) 64 l) (cond (hasFree l) (0 + first isFree 64 l) 64)
+  pub walk-finds : foundFrom s nowhere 0 64 l ≡ found s l
   unfolding found
-  place-found = place-from s 64 0 64 l (omega arith) (omega arith)
+  walk-finds =
+      from-none s 64 0 64 l (omega arith) (omega arith)
+      ∙ λ t. foundBy s (zero-add (firstPlace (names s) 64 l) t) (cond (hasFree l) (zero-add (firstPlace isFree 64 l) t) 64) 64 l
 
-  place-known : knows s l ≡ true → found s l .place ≡ first (names s) 64 l
-  place-known k = place-found ∙ rw k (zero-add _)
+  pub found-stored : counterIf (found s l .named) (found s l .counter) ≡ stored s l
+  unfolding found
+  found-stored = cases (knows s l) (λ k. rw k (sym (stored-first s 64 l freeRecord k))) (λ k. rw k (sym (stored-unknown s 64 l k)))
 
-  place-new : knows s l ≡ false → hasFree l ≡ true → found s l .place ≡ first isFree 64 l
-  place-new k h = place-found ∙ rw (k, h) (zero-add _)
+  place-known : knows s l ≡ true → found s l .place ≡ firstPlace (names s) 64 l
+  unfolding found
+  place-known k = rw k refl
+
+  place-new : knows s l ≡ false → hasFree l ≡ true → found s l .place ≡ firstPlace isFree 64 l
+  unfolding found
+  place-new k h = rw (k, h) refl
 
   place-full : knows s l ≡ false → hasFree l ≡ false → found s l .place ≡ 64
-  place-full k h = place-found ∙ rw (k, h) refl
+  unfolding found
+  place-full k h = rw (k, h) refl
 
 module _ (s c : ℕ) (l : List SenderRecord) where
   -- a first record that meets p was found
-  module _ (p : SenderRecord → Bool) (some : someOf p 64 l ≡ true) (at : found s l .place ≡ first p 64 l) where
+  module _ (p : SenderRecord → Bool) (some : someOf p 64 l ≡ true) (at : found s l .place ≡ firstPlace p 64 l) where
     below : (found s l .place < 64) × (found s l .place < length l)
     below = rw at (first-below p 64 l some)
 

@@ -5,17 +5,22 @@
 use Prim.Native.Nat.{ℕ, zero, suc}
 use mathlib.Core.Bool.{Bool, true, false, cond, not, _&&_, _||_}
 use mathlib.Core.List.{List, [], _∷_}
-use lib.Dec.{eqb, leb}
+use lib.Dec.{eqb, leb, ltb}
+use lib.ListN.{getD}
 use Rattle.octets.specs.Strings.{tab}
 use Rattle.octets.specs.Refusals.{unless, on, firstOf}
 use Rattle.types.specs.declared.Key.{Key}
 use Rattle.types.specs.Counters.{lastCounter}
 use Rattle.types.specs.Keys.{key}
-use Rattle.senders.specs.declared.{SenderRecord.SenderRecord, OptionCounter.OptionCounter, Asked.Asked, Noted.Noted}
-use Rattle.senders.specs.Records.{isFree, names, recordOf, kept}
+use Rattle.senders.specs.declared.{SenderRecord.SenderRecord, OptionCounter.OptionCounter, Found.Found, Asked.Asked, Noted.Noted}
+use Rattle.senders.specs.Records.{isFree, names, recordOf, freeRecord, kept}
 
 abbrev pub countedPlaces : ℕ
 countedPlaces = 64
+
+-- how many of n places count
+unfoldable pub counted : ℕ → ℕ
+counted n = cond (ltb n countedPlaces) n countedPlaces
 
 -- the counter c if it is there
 abbrev pub counterIf : Bool → ℕ → OptionCounter
@@ -29,6 +34,12 @@ unfoldable pub someOf : (SenderRecord → Bool) → ℕ → List SenderRecord �
 someOf p zero l = false
 someOf p (suc n) [] = false
 someOf p (suc n) (r ∷ l) = p r || someOf p n l
+
+-- the place of the first of its records that meets p, where one does
+unfoldable pub firstPlace : (SenderRecord → Bool) → ℕ → List SenderRecord → ℕ
+firstPlace p zero l = 0
+firstPlace p (suc n) [] = 0
+firstPlace p (suc n) (r ∷ l) = cond (p r) 0 (suc (firstPlace p n l))
 
 -- the list with x for the first of its records that meets p
 unfoldable pub firstReplaced : (SenderRecord → Bool) → SenderRecord → ℕ → List SenderRecord → List SenderRecord
@@ -61,6 +72,13 @@ hasFree l = someOf isFree countedPlaces l
 -- the counter that it stores for s; of two records that name s the first counts
 abbrev pub stored : ℕ → List SenderRecord → OptionCounter
 stored s l = storedIn s countedPlaces l
+
+-- what it says of s: the first counted place whose record names s, and that record's counter; else the first free place, or 64
+unfoldable pub found : ℕ → List SenderRecord → Found
+found s l =
+    let i : ℕ = firstPlace (names s) countedPlaces l in
+    cond (knows s l) (record { named = true; counter = getD l i freeRecord .counter; place = i })
+    (record { named = false; counter = 0; place = cond (hasFree l) (firstPlace isFree countedPlaces l) countedPlaces })
 
 -- ---- asking for the key
 

@@ -1,13 +1,13 @@
 // The inbound frame counters of at most 64 senders, in a list of records that the host lends (document 02, 5): the port of
-// `inbound_network_key` and `note_inbound_frame_counter`, and forgetting a sender. What is decided of a record is
-// decided by functions over values; those over the list only walk it.
+// `inbound_network_key` and `note_inbound_frame_counter`, and forgetting a sender. Over C the list is an array of these records, and
+// not bytes. What is decided of a record is decided by functions over values; those over the list only walk it.
 use octets::refusals;
 use types::Key;
 use types::LAST_COUNTER;
 ghost use mathlib.Core.Path.{_≡_};
 ghost use Rattle.senders.specs.Records.{names, recordOf, kept};
-ghost use Rattle.senders.specs.Walks.{counted, seen, found, notedBy};
-ghost use Rattle.senders.specs.Senders.{counterIf, askRefused, askedBy, inboundNetworkKey, note, forget};
+ghost use Rattle.senders.specs.Senders.{counted, counterIf, found, askRefused, askedBy, inboundNetworkKey, note, forget};
+ghost use Rattle.senders.specs.Walks.{seen, notedBy};
 
 // How many places of a list count. A place past them is never read or changed.
 pub const COUNTED: usize = 64;

@@ -2,10 +2,10 @@
 use borrow.Author.Needs.{needs}
 use mathlib.Core.Path.{_∙_}
 use native.Mathlib.Omega.{arith}
-use Rattle.senders.specs.Walks.{counted}
 use Rattle.senders.proofs.Walks.{counted-64}
 use Rattle.journal.proofs.find_in.Statement.{statement}
 use Rattle.journal.proofs.find_in.Tie as tie
+use Rattle.senders.specs.Senders.{counted}
 use Rattle.journal.proofs.Gathered.{recovered-by, table-held}
 
 scan-requires : tie.Need-scan-requires

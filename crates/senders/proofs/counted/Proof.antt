@@ -4,7 +4,7 @@ use mathlib.Core.Bool.{Bool, cond}
 use borrow.Author.Tests.{lt-ltb, le-ltb}
 use Rattle.senders.proofs.counted.Statement.{statement}
 use Rattle.senders.proofs.counted.Tie as tie
-use Rattle.senders.specs.Walks.{counted}
+use Rattle.senders.specs.Senders.{counted}
 
 returns : tie.Need-returns
 unfolding counted

@@ -46,9 +46,10 @@ use denote.Triple.Spec.{Meets, tripleOf}
 use denote.Triple.Table.{entered, cited}
 use denote.Triple.Walked.{says, Stays, stay-slice, stay-none, walkOf, goes-slice, goes-none, Walks, ends-at, walked, walk-meets}
 use Rattle.senders.specs.declared.{SenderRecord.SenderRecord, Found.Found}
-use Rattle.senders.specs.Walks.{counted, nowhere, seen, found}
+use Rattle.senders.specs.Senders.{counted, found}
+use Rattle.senders.specs.Walks.{seen}
 use Rattle.senders.proofs.Turns.{at, gathered, gathered-is}
-use Rattle.senders.proofs.Walks.{counted-within, counted-64}
+use Rattle.senders.proofs.Walks.{counted-within, counted-64, nowhere}
 use Rattle.senders.proofs.Steps.{local, sets, keeps, calls-value, along}
 use Rattle.senders.proofs.Rows.{found-told, record-typed, found-typed, record-out, record-back}
 use Rattle.senders.proofs.Calls.{Counted, to-counted, goes-counted, gives-counted, Seen, to-seen, goes-seen, gives-seen, nowhere-is}

@@ -47,7 +47,7 @@ use denote.Triple.Walked.{says, Stays, stay-slice, stay-none, walkOf, goes-slice
 use Rattle.senders.specs.declared.SenderRecord.{SenderRecord}
 use Rattle.senders.specs.Records.{kept}
 use Rattle.senders.specs.Senders as S
-use Rattle.senders.specs.Walks.{counted}
+use Rattle.senders.specs.Senders.{counted}
 use Rattle.senders.proofs.Turns.{at, cleared, cleared-is}
 use Rattle.senders.proofs.Walks.{counted-within, counted-64}
 use Rattle.senders.proofs.Steps.{local, sets, keeps, calls-value, along}

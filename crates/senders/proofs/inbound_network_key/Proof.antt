@@ -43,8 +43,7 @@ use Rattle.types.specs.declared.Key.{Key}
 use Rattle.types.proofs.Key as K
 use Rattle.types.proofs.Key.Laws as K′
 use Rattle.senders.specs.declared.{SenderRecord.SenderRecord, Found.Found, Asked.Asked, OptionCounter.OptionCounter}
-use Rattle.senders.specs.Senders.{counterIf, askedBy, inboundNetworkKey}
-use Rattle.senders.specs.Walks.{found}
+use Rattle.senders.specs.Senders.{counterIf, found, askedBy, inboundNetworkKey}
 use Rattle.senders.proofs.Walks.{found-stored}
 use Rattle.senders.proofs.Steps.{local, sets, keeps, calls-value}
 use Rattle.senders.proofs.Rows.{found-told, found-typed}

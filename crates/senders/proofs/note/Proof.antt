@@ -49,7 +49,8 @@ use denote.Triple.Walked.{says, Stays, stay-slice, stay-none, walkOf, goes-slice
 use Rattle.senders.specs.declared.{SenderRecord.SenderRecord, Found.Found, Noted.Noted}
 use Rattle.senders.specs.Records.{recordOf}
 use Rattle.senders.specs.Senders as S
-use Rattle.senders.specs.Walks.{found, notedBy}
+use Rattle.senders.specs.Senders.{found}
+use Rattle.senders.specs.Walks.{notedBy}
 use Rattle.senders.proofs.Walks.{noted-answer, noted-list, noted-same, found-within}
 use Rattle.senders.proofs.Steps.{local, sets, keeps, calls-value}
 use Rattle.senders.proofs.Rows.{record-told, found-told, record-typed, found-typed, record-out, record-put}
