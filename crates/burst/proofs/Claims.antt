@@ -68,8 +68,7 @@ each-as-alone = as-alone
 
 pub each-said : claims.EachSaid
 each-said key fs ns o list u ok k h =
-    let size = length-part o k (omega (arith, ready _ _ _ _ ok .fits)) in
-    ap openedOf (as-alone key fs ns o list ok k h .answer) ∙ answer-back (ciphOf key) (frameAt fs ns k) (partAt o k) (frame-below fs ns k u) (omega arith)
+    ap openedOf (as-alone key fs ns o list ok k h .answer) ∙ answer-back (ciphOf key) (frameAt fs ns k) (partAt o k) (frame-below fs ns k u)
 
 pub parts-suffice : claims.PartsSuffice
 parts-suffice key fs ns o o′ list u ok room k h =

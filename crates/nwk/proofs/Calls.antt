@@ -11,7 +11,8 @@ use Rattle.octets.specs.Strings.{over}
 use Rattle.octets.specs.Refusals.{unless}
 use Rattle.octets.specs.Writing.{written}
 use Rattle.octets.proofs.Conditions as conditions
-use Rattle.frame.specs.declared.Mark.{Mark}
+use Rattle.frame.specs.declared.{Mark.Mark, FrameSealed.FrameSealed}
+use Rattle.frame.specs.Sealing.{sealRefused, sealBy}
 use Rattle.senders.specs.declared.OptionCounter.{OptionCounter}
 use Rattle.journal.specs.declared.OptionKeyNumber.{OptionKeyNumber}
 use Rattle.journal.specs.Recovery.{recoverNothing}
@@ -110,6 +111,13 @@ pub written-by : (n k : ℕ) (bs o o′ : List ℕ) (w : Written) (r : ℕ) → 
 unfolding written unless
 written-by n zero bs o o′ w r e p q s = rw (← e) (s ∙ (λ i. answer (p i .refusal) (p i .length)), q)
 written-by n (suc k) bs o o′ w r e p q s = rw (← e) (s ∙ (λ i. answer (p i .refusal) (p i .length)), q)
+
+-- the same of sealing
+pub sealed-by : (n k : ℕ) (bs o o′ : List ℕ) (w : FrameSealed) (r : ℕ) → k ≡ n → w ≡ sealBy k bs o .answer → o′ ≡ sealBy k bs o .out
+    → r ≡ answer (w .refusal) (w .length) → (r ≡ answerBy n (length bs)) × (o′ ≡ given n bs o)
+unfolding sealBy sealRefused unless
+sealed-by n zero bs o o′ w r e p q s = rw (← e) (s ∙ (λ i. answer (p i .refusal) (p i .length)), q)
+sealed-by n (suc k) bs o o′ w r e p q s = rw (← e) (s ∙ (λ i. answer (p i .refusal) (p i .length)), q)
 
 -- ---- what a function over a journal wrote
 

@@ -1,6 +1,7 @@
 -- The refusals of the C functions over frames in their order, at each return of the code, and what opening gives past them.
 -- Assumes nothing.
-use mathlib.Core.Path.{_≡_, sym, ap, _∙_}
+use mathlib.Core.Path.{_≡_, refl, sym, ap, _∙_}
+use mathlib.Core.Bool.{true}
 use mathlib.Core.List.{List, [], _∷_}
 use Prim.Native.Nat.{ℕ, _≤_, _<_}
 use native.Mathlib.Decide.{ℕ-discrete}
@@ -8,13 +9,13 @@ use native.Mathlib.Omega.{arith}
 use borrow.Author.Tests.{lt-ltb, le-ltb}
 use lib.Dec.{ltb}
 use lib.ListN.{length}
-use Rattle.octets.specs.Refusals.{by, firstOf}
+use Rattle.octets.specs.Refusals.{on, by, firstOf}
 use Rattle.octets.proofs.Conditions.{refused, stop, skip, stop-by, skip-by, empty}
-use Rattle.ccm.specs.Operations.{micLength}
+use Rattle.ccm.specs.Operations.{micLength, ciphOf}
 use Rattle.frame.specs.declared.FrameOpened.{FrameOpened}
 use Rattle.frame.specs.Reading.{readFrame}
 use Rattle.frame.specs.Security.{networkLevel}
-use Rattle.frame.specs.Opening.{Run, openRefusal, openBy, openFrame}
+use Rattle.frame.specs.Opening.{Run, openRefusal, openBy, openWith, openFrame}
 use Rattle.frame.proofs.Accepted as frames
 use Rattle.nwk.specs.Frames.{readFrameRefusal, openNumber, wrongMic, openRecordRefusal}
 
@@ -39,12 +40,12 @@ module _ (f : List ℕ) (h a : ℕ) where
 
 module _ (key f : List ℕ) (x room : ℕ) where
   -- refused where the record has too little room: 18, unless a number that needs no key holds
-  pub open-short : (k : ℕ) → k ≡ firstOf (by (openNumber f room) ∷ by 18 ∷ []) → x < 182 → (k ≡ openRecordRefusal key f x room) × (k ≡ 0 → ⊥)
+  pub open-short : (k : ℕ) → k ≡ firstOf (by (openNumber f room) ∷ on 18 true ∷ []) → x < 182 → (k ≡ openRecordRefusal key f x room) × (k ≡ 0 → ⊥)
   unfolding openRecordRefusal
   open-short k e s =
       elim (ℕ-discrete (openNumber f room) 0) [
         | yes z ↦
-            let n = e ∙ skip-by (openNumber f room) _ z ∙ stop-by 18 [] (λ (q : 18 ≡ 0). omega arith) in
+            let n = e ∙ skip-by (openNumber f room) _ z ∙ stop 18 true [] refl in
             (n ∙ sym (skip-by (openNumber f room) _ z ∙ stop 18 (ltb x 182) _ (lt-ltb x 182 s)), λ (q : k ≡ 0). omega arith)
         | no h ↦
             let n = e ∙ stop-by (openNumber f room) _ h in
@@ -52,7 +53,7 @@ module _ (key f : List ℕ) (x room : ℕ) where
       ]
 
 -- with room for the record the number is opening's own
-pub open-number : (key f o : List ℕ) (x : ℕ) → 182 ≤ x → openRecordRefusal key f x (length o) ≡ openRefusal networkLevel micLength key f (readFrame f) (length o)
+pub open-number : (key f o : List ℕ) (x : ℕ) → 182 ≤ x → openRecordRefusal key f x (length o) ≡ openRefusal networkLevel micLength (ciphOf key) f (readFrame f) (length o)
 unfolding openRecordRefusal openRefusal openNumber wrongMic
 open-number key f o x l =
     elim (ℕ-discrete (openNumber f (length o)) 0) [
@@ -61,11 +62,11 @@ open-number key f o x l =
     ]
 
 -- the number beside what opening answers
-pub opened-number : (key f o : List ℕ) (r : FrameOpened) → r ≡ openFrame key f o .answer → r .refusal ≡ openRefusal networkLevel micLength key f (readFrame f) (length o)
-unfolding openFrame
-opened-number key f o r e = (λ i. e i .refusal) ∙ frames.open-number networkLevel micLength key f (readFrame f) o
+pub opened-number : (key f o : List ℕ) (r : FrameOpened) → r ≡ openFrame key f o .answer → r .refusal ≡ openRefusal networkLevel micLength (ciphOf key) f (readFrame f) (length o)
+unfolding openWith
+opened-number key f o r e = (λ i. e i .refusal) ∙ frames.open-number networkLevel micLength (ciphOf key) f (readFrame f) o
 
 -- a refusal leaves the output
-pub open-leaves : (key f o : List ℕ) → (openRefusal networkLevel micLength key f (readFrame f) (length o) ≡ 0 → ⊥) → openFrame key f o .out ≡ o
-unfolding openFrame openBy
-open-leaves key f o h = ap (λ (r : Run). r .out) (refused (openRefusal networkLevel micLength key f (readFrame f) (length o)) _ _ h)
+pub open-leaves : (key f o : List ℕ) → (openRefusal networkLevel micLength (ciphOf key) f (readFrame f) (length o) ≡ 0 → ⊥) → openFrame key f o .out ≡ o
+unfolding openWith openBy
+open-leaves key f o h = ap (λ (r : Run). r .out) (refused (openRefusal networkLevel micLength (ciphOf key) f (readFrame f) (length o)) _ _ h)

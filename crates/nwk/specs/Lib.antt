@@ -3,6 +3,7 @@
 pub mod Answer
 pub mod Headers
 pub mod Frames
+pub mod SealingLaw
 pub mod Commands
 pub mod Inbound
 pub mod Recovery

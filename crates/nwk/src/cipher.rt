@@ -5,8 +5,8 @@ ghost use mathlib.Core.Path.{_≡_};
 ghost use Rattle.octets.specs.Refusals.{unless};
 ghost use Rattle.types.specs.Keys.{keyBytes};
 ghost use Rattle.aes.specs.Cipher.{aes128};
-ghost use Rattle.ccm.specs.Operations.{encryptCcm, decryptCcm, splitMic};
-ghost use Rattle.nwk.specs.Answer.{answer};
+ghost use Rattle.ccm.specs.Operations.{micLength, encryptCcm, decryptCcm, splitMic};
+ghost use Rattle.nwk.specs.Answer.{answer, answerBy};
 
 // Seal a payload: the ciphertext goes to the front of the output, and the MIC to its own; refusals 1 and 18.
 #[no_mangle]
@@ -53,18 +53,22 @@ pub extern "C" fn nwk_decrypt_ccm(
     answer(opened.refusal, opened.length)
 }
 
-// Split the MIC from the end of a received ciphertext: the length is that of the ciphertext in front; refusal 16.
+// Split the MIC from the end of a received ciphertext, of any length: the MIC goes to its own, the length of the ciphertext in
+// front of it to a number, and the answer's length is the MIC's; refusal 16.
 #[no_mangle]
-pub extern "C" fn nwk_split_mic(bytes: &[u8], mic: &mut [u8; 4]) -> u64
-    ensures answer { λ r. ⌜ r ≡ answer (splitMic (now (bytes .entry)) .refusal) (splitMic (now (bytes .entry)) .length) ⌝ }
+pub extern "C" fn nwk_split_mic(bytes: &[u8], mic: &mut [u8; 4], front: &mut u64) -> u64
+    ensures answer { λ r. ⌜ r ≡ answerBy (splitMic (now (bytes .entry)) .refusal) micLength ⌝ }
     ensures mic { λ _. ⌜ now (mic .exit) ≡ unless (splitMic (now (bytes .entry)) .refusal) (splitMic (now (bytes .entry)) .mic) (now (mic .entry)) ⌝ }
+    ensures front { λ _. ⌜ now (front .exit) ≡ unless (splitMic (now (bytes .entry)) .refusal) (splitMic (now (bytes .entry)) .length) (now (front .entry)) ⌝ }
 {
     let split = ccm::split_mic(bytes);
-    if split.refusal == 0 {
-        let tag = split.mic;
-        *mic = tag;
+    if split.refusal != 0 {
+        return answer(split.refusal, 0);
     }
-    answer(split.refusal, split.length)
+    let tag = split.mic;
+    *mic = tag;
+    *front = split.length as u64;
+    answer(0, ccm::MIC_LENGTH)
 }
 
 // One block of AES-128; nothing is refused.

@@ -1,20 +1,24 @@
 // Reading, writing, sealing and opening frames, one or a burst of them, and what a payload is.
 use crate::answer::answer;
 use crate::answer::opened_answer;
+use frame::Mark;
 use frame::NwkPayload;
 use header::control::NwkFrameType;
+use header::nwk::MAX_MAC_PAYLOAD_SIZE;
 use octets::refusals;
 use records::auxiliary_record;
 use records::header_record;
 use records::opened_record;
 use types::Key;
 ghost use mathlib.Core.Path.{_≡_};
+ghost use mathlib.Core.Bool.{true};
 ghost use mathlib.Core.List.{[], _∷_};
-ghost use Rattle.octets.specs.Refusals.{by, firstOf};
+ghost use Prim.Native.Nat.{_≤_};
+ghost use Rattle.octets.specs.Refusals.{on, by, firstOf};
 ghost use Rattle.types.specs.Keys.{keyBytes};
 ghost use Rattle.burst.specs.Burst.{openBurst};
 ghost use Rattle.nwk.specs.Answer.{answer};
-ghost use Rattle.nwk.specs.Frames.{openNumber, readFrameAnswer, readFrameHeader, readFrameAuxiliary, writeFrameAnswer, writeFrameOutput, sealAnswer, sealOutput, openAnswer, openRecord, openOutput, payloadCode, payloadKindAnswer};
+ghost use Rattle.nwk.specs.Frames.{openNumber, readFrameAnswer, readFrameHeader, readFrameAuxiliary, writeFrameAnswer, writeFrameOutput, sealAnswer, sealOutput, openAnswer, openRecord, openOutput, payloadCode, payloadKindAnswer, placeOf, payloadPlace};
 
 // Read a frame into a header record and an auxiliary record, and give how many bytes the two headers take; the payload
 // or ciphertext is the rest of the frame. Refusals 1 to 12 and 18.
@@ -78,23 +82,20 @@ pub extern "C" fn nwk_seal(
     }
     let key = Key::from_halves(key_first, key_second);
     let h = header_record::header_of(header);
-    let written = frame::sealing::seal(key, h, opened_record::option_of(auxiliary), payload, out);
-    answer(written.refusal, written.length)
+    let sealed = frame::sealing::seal(key, h, opened_record::option_of(auxiliary), payload, out);
+    answer(sealed.refusal, sealed.length)
 }
 
 // The refusal of opening where the record has too little room: 18, unless a smaller number holds.
 fn short_refusal(bytes: &[u8], room: usize) -> u8
-    ensures { λ r. ⌜ r ≡ firstOf (by (openNumber (now (bytes .entry)) room) ∷ by 18 ∷ []) ⌝ }
+    ensures { λ r. ⌜ r ≡ firstOf (by (openNumber (now (bytes .entry)) room) ∷ on 18 true ∷ []) ⌝ }
 {
     let read = frame::read_frame(bytes);
     let h = read.header;
     let a = read.aux;
     let part = frame::behind(bytes, read.length);
     let number = frame::opening::open_refusal(read.refusal, h, a, part.len(), room);
-    if number != 0 {
-        return number;
-    }
-    refusals::NO_ROOM
+    octets::refuse(number, refusals::NO_ROOM, true)
 }
 
 // Open a frame: the answer with both headers goes to the opened record. A sealed frame's payload goes to the front of the
@@ -142,6 +143,37 @@ pub extern "C" fn nwk_open_burst(
     let key = Key::from_halves(key_first, key_second);
     let opened = burst::open_burst(key, frames, lengths, out, answers);
     answer(opened.refusal, opened.frames)
+}
+
+// Where the payload is that opening spoke of, by the mark's code and the payload's length that it gave, and the frame's length: in the
+// frame if clear (bit 40), its first byte's place in bits 48 to 55, else at the front of the output; refusals 1 and 13.
+#[no_mangle]
+pub extern "C" fn nwk_payload_place(mark: u8, length: u64, frame_length: u64) -> u64
+    ensures { λ r. ⌜ r ≡ payloadPlace mark length «frame_length» ⌝ }
+{
+    let n = length as usize;
+    let frame = frame_length as usize;
+    let long = octets::either(MAX_MAC_PAYLOAD_SIZE < n, MAX_MAC_PAYLOAD_SIZE < frame);
+    let r = octets::refuse(0, refusals::TOO_LONG, long);
+    let r = octets::refuse(r, refusals::FIELD, 2 < mark);
+    if r != 0 {
+        return answer(r, 0);
+    }
+    place(opened_record::mark_of(mark), n, frame)
+}
+
+// The place of a payload of a mark, in a frame of so many bytes.
+fn place(mark: Mark, n: usize, frame: usize) -> u64
+    requires { ⌜ (n ≤ 118) × (frame ≤ 118) ⌝ }
+    ensures { λ r. ⌜ r ≡ placeOf mark n frame ⌝ }
+{
+    match mark {
+        Mark::Unmarked => 0,
+        Mark::Clear => {
+            n as u64 + 0x100_0000_0000 + octets::minus(frame, n) as u64 * 0x1_0000_0000_0000
+        }
+        Mark::Sealed => n as u64,
+    }
 }
 
 // The number of a kind of payload.

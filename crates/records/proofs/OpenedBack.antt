@@ -41,7 +41,7 @@ option-back OptionAuxHeader.Absent f = ap (λ (b : Bool). auxIf b (auxOf (auxRec
 option-back (OptionAuxHeader.Present a) f = λ i. auxIf (present-back true a i) (aux-back true a f i)
 
 -- the mark that its number says
-mark-back : (m : Mark) → markOf (markCode m) ≡ m
+pub mark-back : (m : Mark) → markOf (markCode m) ≡ m
 unfolding markOf
 mark-back Mark.Unmarked = refl
 mark-back Mark.Clear = refl
@@ -55,10 +55,10 @@ pub record AnswerFits (o : FrameOpened) : Type 0 where
   pub relays : length (o .header .relays) ≡ 54
   pub aux : AuxOptionFits (o .aux)
 
-header-part : (front header aux : List ℕ) → length front ≡ 16 → length header ≡ 147 → take 147 (drop 16 (front ++ (header ++ aux))) ≡ header
+pub header-part : (front header aux : List ℕ) → length front ≡ 16 → length header ≡ 147 → take 147 (drop 16 (front ++ (header ++ aux))) ≡ header
 header-part front header aux f h = ap (take 147) (drop-at front (header ++ aux) 16 f) ∙ take-at header aux 147 h
 
-aux-part : (front header aux : List ℕ) → length front ≡ 16 → length header ≡ 147 → drop 163 (front ++ (header ++ aux)) ≡ aux
+pub aux-part : (front header aux : List ℕ) → length front ≡ 16 → length header ≡ 147 → drop 163 (front ++ (header ++ aux)) ≡ aux
 aux-part front header aux f h =
     rw (← append-assoc front header aux) (drop-at (front ++ header) aux 163 (rw (length-append front header, f, h) refl))
 
@@ -87,15 +87,16 @@ nonce-fits OptionEui64.Absent s f g = g
 nonce-fits (OptionEui64.Present x) s f g = f
 
 -- it has all that, for every frame of bytes: where the frame is sealed, and where it is clear
-sealed-fits : (ciph : List ℕ → List ℕ) (f o : List ℕ) → Below 256 f → length o < 2 ^ 16 → Openable networkLevel 4 ciph f (readFrame f) (length o)
+sealed-fits : (ciph : List ℕ → List ℕ) (f o : List ℕ) → Below 256 f → Openable networkLevel 4 ciph f (readFrame f) (length o)
     → AnswerFits (sealedGiven (readFrame f) (verified networkLevel 4 ciph f (readFrame f)) o .answer)
-sealed-fits ciph f o u s p =
+unfolding behind
+sealed-fits ciph f o u p =
     let facts = secured-facts f (p .reads) (p .on) in
     let hf = header-facts f u (facts .header) in
     let af = aux-facts (drop (readHeader f .length) f) (drop-below f (readHeader f .length) 256 u) (facts .aux) in
     let size = payload-length networkLevel 4 ciph f (readFrame f) in
     record {
-      short = omega (arith, size, p .fits);
+      short = omega (arith, size, length-drop (readFrame f .length) f, hf .short);
       ieee = rw (facts .read) (nonce-fits (auxBehind f (readHeader f) .aux .«extended_source») (readHeader f .header .«source_ieee») (af .fits .ieee) (hf .fits .sourceIeee));
       header = rw (facts .read) (hf .fits);
       relays = rw (facts .read) (hf .places);
@@ -111,12 +112,12 @@ clear-fits f o u e off =
     let size = length-drop (readFrame f .length) f in
     record { short = omega (arith, size, hf .short); ieee = tt; header = rw (facts .read) (hf .fits); relays = rw (facts .read) (hf .places); aux = rw (facts .read) tt }
 
-pub answer-fits : (ciph : List ℕ → List ℕ) (f o : List ℕ) → Below 256 f → length o < 2 ^ 16 → AnswerFits (openWith ciph f o .answer)
+pub answer-fits : (ciph : List ℕ → List ℕ) (f o : List ℕ) → Below 256 f → AnswerFits (openWith ciph f o .answer)
 unfolding openWith openRefused blankHeader headerBy relaysOf
-answer-fits ciph f o u s =
-    run-either networkLevel 4 ciph f (readFrame f) o (λ (r : Run). AnswerFits (r .answer)) (sealed-fits ciph f o u s) (clear-fits f o u)
+answer-fits ciph f o u =
+    run-either networkLevel 4 ciph f (readFrame f) o (λ (r : Run). AnswerFits (r .answer)) (sealed-fits ciph f o u) (clear-fits f o u)
     (record { short = omega arith; ieee = tt; header = read-fits [] (controlOf 0) (λ i. omega arith); relays = length-tab _ 54; aux = tt })
 
 -- so its record says it again
-pub answer-back : (ciph : List ℕ → List ℕ) (f o : List ℕ) → Below 256 f → length o < 2 ^ 16 → openedOf (openedRecord (openWith ciph f o .answer)) ≡ openWith ciph f o .answer
-answer-back ciph f o u s = opened-back (openWith ciph f o .answer) (answer-fits ciph f o u s)
+pub answer-back : (ciph : List ℕ → List ℕ) (f o : List ℕ) → Below 256 f → openedOf (openedRecord (openWith ciph f o .answer)) ≡ openWith ciph f o .answer
+answer-back ciph f o u = opened-back (openWith ciph f o .answer) (answer-fits ciph f o u)

@@ -13,7 +13,7 @@ ghost use Prim.Native.Nat.{_≤_};
 ghost use lib.ListN.{length};
 ghost use Rattle.octets.specs.Strings.{over};
 ghost use Rattle.frame.specs.Security.{isAbsent};
-ghost use Rattle.records.specs.OpenedRecord.{optionRecord, optionOf, markCode, openedFront, openedRecord};
+ghost use Rattle.records.specs.OpenedRecord.{optionRecord, optionOf, markCode, markOf, openedFront, openedRecord};
 
 pub const OPENED_RECORD_SIZE: usize = 182;
 
@@ -63,6 +63,19 @@ pub fn mark_code(mark: Mark) -> u8
         Mark::Clear => 1,
         Mark::Sealed => 2,
     }
+}
+
+// The mark of a number; a number that no mark has says nothing.
+pub fn mark_of(code: u8) -> Mark
+    ensures { λ r. ⌜ r ≡ markOf code ⌝ }
+{
+    if code == 1 {
+        return Mark::Clear;
+    }
+    if code == 2 {
+        return Mark::Sealed;
+    }
+    Mark::Unmarked
 }
 
 // Write the number, the mark, the length and the nonce's address, and zeros in the other places up to the header record.

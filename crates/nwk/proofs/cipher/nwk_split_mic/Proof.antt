@@ -1,23 +1,30 @@
--- `nwk_split_mic` meets its contract: what splitting gives, and the MIC where nothing is refused. Assumes nothing.
+-- `nwk_split_mic` meets its contract: refused with nothing changed, or what splitting gives. Assumes nothing.
 use borrow.Author.Needs.{needs}
-use mathlib.Core.Path.{sym, ap, _∙_}
-use mathlib.Core.Logic.{⊎-elim}
-use Rattle.octets.proofs.Conditions.{accepted, refused}
+use mathlib.Core.Path.{refl, sym, ap, _∙_}
+use Prim.Native.Nat.{ℕ}
+use mathlib.Core.List.{List}
+use Rattle.octets.proofs.Conditions.{accepted-by, refused-by}
 use Rattle.ccm.specs.declared.Split.{Split}
-use Rattle.nwk.specs.Answer.{answer}
+use Rattle.nwk.proofs.Calls.{refused-answer, passed-answer}
 use Rattle.nwk.proofs.cipher.nwk_split_mic.Statement.{statement}
 use Rattle.nwk.proofs.cipher.nwk_split_mic.Tie as tie
 
 returns : tie.Need-returns
 returns c =
     let a = c .before .before .before .before .before .args in
-    let e = c .before .before .before .split-mic .ensures in (
-      c .answer .ensures ∙ (λ i. answer (e i .refusal) (e i .length)),
-      ⊎-elim
-          (λ w. w .2 ∙ (λ i. e i .mic) ∙ sym (accepted _ _ (a .mic .now) (ap (λ (r : Split). r .refusal) (sym e) ∙ w .0 .taken)))
-          (λ w. w .1 ∙ sym (refused _ _ (a .mic .now) (λ z. w .0 .left (ap (λ (r : Split). r .refusal) e ∙ z))))
-          (c .before .if1 .came),
-    )
+    let e = ap (λ (r : Split). r .refusal) (c .before .before .before .split-mic .ensures) in
+    let h = c .before .if1 .taken in
+    (refused-answer _ _ _ _ e h (c .answer .ensures),
+    (refused-by _ _ _ (λ (n : ℕ). a .mic .now) e h, refused-by _ _ _ (λ (n : ℕ). a .front .now) e h))
+
+returns-2 : tie.Need-returns-2
+returns-2 c =
+    let passed = c .before .before in
+    let e = passed .before .before .split-mic .ensures in
+    let n = ap (λ (r : Split). r .refusal) e in
+    let z = sym n ∙ passed .if1 .left in
+    (passed-answer _ _ _ z (c .answer2 .ensures),
+    ((λ i. e i .mic) ∙ accepted-by _ _ _ _ refl z, (λ i. e i .length) ∙ accepted-by _ _ _ _ refl z))
 
 pub nwk-split-mic-spec : {M : Type 1} → statement M
-nwk-split-mic-spec = tie.close (tie.spec (λ c κs. search needs) (λ c κs. search needs) returns)
+nwk-split-mic-spec = tie.close (tie.spec (λ c κs. search needs) (λ c κs. search needs) returns (λ c κs. search needs) returns-2)

@@ -7,7 +7,7 @@ use Rattle.nwk.proofs.frames.nwk_seal.Tie as tie
 use Rattle.octets.proofs.Conditions.{stop, skip}
 use Rattle.frame.specs.Sealing.{sealFrame}
 use Rattle.nwk.specs.Frames.{sealRecordsRefusal, sealedRecords}
-use Rattle.nwk.proofs.Calls.{refused-by, written-by}
+use Rattle.nwk.proofs.Calls.{refused-by, sealed-by}
 use Rattle.nwk.proofs.Refusals.{write-good}
 
 returns : tie.Need-returns
@@ -37,7 +37,7 @@ returns-3 c =
     let d = sym (passed .before .is-bad2 .ensures) ∙ passed .if2 .left in
     let s = sealed .seal .ensures in
     let x = option .option-of .ensures in
-    written-by _ _ _ _ _ _ _ (write-good _ _ d ∙ sym (skip 13 _ _ e)) (s .0 ∙ rw (k, h, x)) (s .1 ∙ rw (k, h, x)) (c .answer3 .ensures)
+    sealed-by _ _ _ _ _ _ _ (write-good _ _ d ∙ sym (skip 13 _ _ e)) (s .0 ∙ rw (k, h, x)) (s .1 ∙ rw (k, h, x)) (c .answer3 .ensures)
 
 pub nwk-seal-spec : {M : Type 1} → statement M
 nwk-seal-spec =
