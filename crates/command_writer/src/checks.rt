@@ -141,26 +141,15 @@ fn misfits(given: NwkCommandWithLists) -> bool
 fn field_refusal(given: NwkCommandWithLists) -> u8
     ensures { λ r. ⌜ r ≡ fieldRefusal given ⌝ }
 {
-    if misfits(given) {
-        return refusals::FIELD;
-    }
-    0
+    octets::refuse(0, refusals::FIELD, misfits(given))
 }
 
 // The refusal number, or 0: that of the fields, then 17 and 18 in this order.
 pub fn refusal(given: NwkCommandWithLists, room: usize) -> u8
     ensures { λ r. ⌜ r ≡ writeRefusal given room ⌝ }
 {
-    let by_fields = field_refusal(given);
-    if by_fields != 0 {
-        return by_fields;
-    }
     let n = length_of(given);
-    if n > MAX_NSDU_SIZE {
-        return refusals::LENGTH;
-    }
-    if room < n {
-        return refusals::NO_ROOM;
-    }
-    0
+    let r = field_refusal(given);
+    let r = octets::refuse(r, refusals::LENGTH, MAX_NSDU_SIZE < n);
+    octets::refuse(r, refusals::NO_ROOM, room < n)
 }

@@ -21,15 +21,15 @@ use Rattle.header.specs.Reading.{sourceAt, multicastAt, routeAt, relaysA
 use Rattle.header.specs.Auxiliary.{keySequenceAt, auxBy}
 use Rattle.header.specs.Same.{IeeeFits, MulticastFits, RouteFits, RelaysFit, HeaderFits, AuxFits}
 
-ieee-fits : (b : Bool) (x : ℕ) → x < 2 ^ 64 → IeeeFits (ieeeIf b x)
+pub ieee-fits : (b : Bool) (x : ℕ) → x < 2 ^ 64 → IeeeFits (ieeeIf b x)
 ieee-fits true x h = h
 ieee-fits false x h = tt
 
-multicast-fits : (b : Bool) (x : ℕ) → x < 2 ^ 8 → MulticastFits (multicastIf b x)
+pub multicast-fits : (b : Bool) (x : ℕ) → x < 2 ^ 8 → MulticastFits (multicastIf b x)
 multicast-fits true x h = h
 multicast-fits false x h = tt
 
-route-fits : (b : Bool) (n i : ℕ) → n < 2 ^ 8 → i < 2 ^ 8 → RouteFits (routeIf b n i)
+pub route-fits : (b : Bool) (n i : ℕ) → n < 2 ^ 8 → i < 2 ^ 8 → RouteFits (routeIf b n i)
 route-fits true n i h k = (h, k)
 route-fits false n i h k = tt
 
@@ -38,7 +38,7 @@ relay-fits true x h = h
 relay-fits false x h = omega arith
 
 -- addresses within their range, and 0 past their end
-relays-fit : (f : ℕ → Nwk) (n : ℕ) → ((i : ℕ) → f i .0 < 2 ^ 16) → RelaysFit (tab f n)
+pub relays-fit : (f : ℕ → Nwk) (n : ℕ) → ((i : ℕ) → f i .0 < 2 ^ 16) → RelaysFit (tab f n)
 relays-fit f n h i =
     elim (decLt i n) [
       | yes l ↦ rw (getD-tab f n i noNwk l) (h i)

@@ -165,19 +165,10 @@ pub fn recover(journal: &[u8], list: &mut [SenderRecord]) -> Recovered
 fn write_refusal(known: bool, kind: u8, senders: usize, room: usize, length: usize) -> u8
     ensures { λ r. ⌜ r ≡ writeRefusalBy known kind senders room length ⌝ }
 {
-    if !known {
-        return refusals::JOURNAL_KIND;
-    }
-    if !is_kind(kind) {
-        return refusals::JOURNAL_KIND;
-    }
-    if COUNTED < senders {
-        return refusals::NO_PLACE;
-    }
-    if room < length {
-        return refusals::NO_ROOM;
-    }
-    0
+    let unknown = octets::either(!known, !is_kind(kind));
+    let r = octets::refuse(0, refusals::JOURNAL_KIND, unknown);
+    let r = octets::refuse(r, refusals::NO_PLACE, COUNTED < senders);
+    octets::refuse(r, refusals::NO_ROOM, room < length)
 }
 
 // The refusal of a record to be written behind a journal.
@@ -222,16 +213,9 @@ pub fn write_record(
 fn next_refusal(known: bool, ceiling: u32, last: u32) -> u8
     ensures { λ r. ⌜ r ≡ nextRefusalBy known ceiling last ⌝ }
 {
-    if !known {
-        return refusals::JOURNAL_KIND;
-    }
-    if LAST_COUNTER - 1 <= last {
-        return refusals::COUNTERS_USED_UP;
-    }
-    if ceiling <= last {
-        return refusals::NO_CEILING;
-    }
-    0
+    let r = octets::refuse(0, refusals::JOURNAL_KIND, !known);
+    let r = octets::refuse(r, refusals::COUNTERS_USED_UP, LAST_COUNTER - 1 <= last);
+    octets::refuse(r, refusals::NO_CEILING, ceiling <= last)
 }
 
 // The next outgoing counter behind the last one, if a ceiling of the journal covers it; refusals 25, 26 and 27.

@@ -3,3 +3,4 @@ pub mod Calls
 pub mod Refusals
 pub mod FrameRefusals
 pub mod ReadThenWritten
+pub mod SealingLaw

@@ -3,11 +3,11 @@
 use mathlib.Core.Path.{_≡_, refl, sym, ap, _∙_}
 use mathlib.Core.Bool.{Bool, true, false, true≢false, _||_}
 use mathlib.Core.List.{List, [], _∷_, _++_}
-use Prim.Native.Nat.{ℕ, zero, suc}
+use Prim.Native.Nat.{ℕ, zero, suc, _<_}
 use native.Mathlib.Omega.{arith}
 use mathlib.Core.Logic.{_⊎_, inl, inr}
-use borrow.Author.Tests.{eq-eqb}
-use lib.Dec.{eqb}
+use borrow.Author.Tests.{eq-eqb, ltb-true}
+use lib.Dec.{eqb, ltb}
 use Rattle.octets.specs.Refusals.{unless, Condition, on, by, firstOf}
 
 -- ---- by the refusal's number
@@ -166,6 +166,21 @@ gives m (on n false ∷ cs) h e = either-way (eqb n m) (gives m cs h e)
     either-way false g = g
 gives m (by zero ∷ cs) h e = inr (gives m cs h e)
 gives m (by (suc n) ∷ cs) h e = inl e
+
+-- ---- the numbers of the list are below a limit
+
+abbrev pub NumbersBelow : ℕ → List Condition → Type 0
+NumbersBelow m [] = Unit {0}
+NumbersBelow m (on n b ∷ cs) = (ltb n m ≡ true) × NumbersBelow m cs
+NumbersBelow m (by n ∷ cs) = (n < m) × NumbersBelow m cs
+
+pub number-below : (m : ℕ) (cs : List Condition) → 0 < m → NumbersBelow m cs → firstOf cs < m
+unfolding firstOf unless
+number-below m [] h k = h
+number-below m (on n true ∷ cs) h k = ltb-true n m (k .0)
+number-below m (on n false ∷ cs) h k = number-below m cs h (k .1)
+number-below m (by zero ∷ cs) h k = number-below m cs h (k .1)
+number-below m (by (suc n) ∷ cs) h k = k .0
 
 -- ---- two conditions under one number
 

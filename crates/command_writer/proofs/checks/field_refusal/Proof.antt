@@ -1,12 +1,14 @@
--- `command_writer::checks::field_refusal` meets its contract: a field that misfits is refused by 13. Assumes nothing.
+-- `command_writer::checks::field_refusal` meets its contract: one entry. Assumes nothing.
 use borrow.Author.Needs.{needs}
+use mathlib.Core.Path.{_∙_}
+use Rattle.octets.proofs.Conditions.{in-order}
+use Rattle.commands.specs.Writing.{fieldRefusal}
 use Rattle.command_writer.proofs.checks.field_refusal.Statement.{statement}
 use Rattle.command_writer.proofs.checks.field_refusal.Tie as tie
-use Rattle.octets.specs.Refusals.{firstOf}
-use Rattle.commands.specs.Writing.{fieldRefusal}
+
+returns : tie.Need-returns
+unfolding fieldRefusal
+returns c = (cc) ∙ in-order _ tt
 
 pub field-refusal-spec : {M : Type 1} → statement M
-unfolding fieldRefusal firstOf
-field-refusal-spec =
-    tie.close (tie.spec (λ c κs. search needs) (λ c. rw (← c .before .misfits .ensures, c .if1 .taken))
-    (λ c. rw (← c .before .misfits .ensures, c .if1 .left)))
+field-refusal-spec = tie.close (tie.spec (λ c κs. search needs) (λ c κs. search needs) returns)
