@@ -1,5 +1,5 @@
 # bench.mk: the target `bench`, for the Makefile at the root to include. It builds the benchmark to target/bench and prints
-# the tables of docs/PERFORMANCE.md. The root Makefile has the rule for the archive.
+# the tables that those of docs/PERFORMANCE.md are taken from. The root Makefile has the rule for the archive.
 #
 # A peer is used where it is installed (Debian: nettle-dev, libmbedtls-dev, libwolfssl-dev). Of mbedtls the static archive is linked, so that
 # the linker can send its question for AES instructions to bench/mbedtls.c.
