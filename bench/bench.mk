@@ -24,7 +24,7 @@ BENCH_CFLAGS += -DHAVE_WOLFSSL $(shell pkg-config --cflags wolfssl)
 BENCH_LIBS += $(shell pkg-config --libs wolfssl)
 endif
 
-$(BENCH_PROGRAM): $(wildcard bench/*.c bench/*.h) bench/bench.mk include/nwk.h $(ARCHIVE)
+$(BENCH_PROGRAM): $(wildcard bench/*.c bench/*.h) bench/bench.mk $(wildcard include/*.h) $(ARCHIVE)
 	@mkdir -p $(@D)
 	$(CC) $(BENCH_CFLAGS) $(wildcard bench/*.c) $(ARCHIVE) $(BENCH_LIBS) -o $@
 

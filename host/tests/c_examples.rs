@@ -1,5 +1,4 @@
-//! The C programs of the README, of `include/nwk.h` and of `examples/`: they compile without a warning and print what they
-//! are said to print.
+//! The C programs of the README and of `examples/`: they compile without a warning and print what they are said to print.
 use std::fs;
 use std::path::{Path, PathBuf};
 use std::process::Command;
@@ -47,15 +46,6 @@ fn the_readmes_program() {
     let behind = readme.split_once("```c\n").expect("the program").1;
     let printed = between(behind, "and prints\n\n```text\n", "```");
     assert_eq!(output_of_text("readme", program), printed);
-}
-
-#[test]
-fn the_headers_program() {
-    let header = fs::read_to_string(root().join("include/nwk.h")).expect("include/nwk.h");
-    let lines = between(&header, " * Example:\n *\n", " *\n * It prints");
-    let program: Vec<&str> = lines.lines().map(|line| line.strip_prefix(" *   ").unwrap_or("")).collect();
-    let printed = between(&header, " * It prints \"", "\"");
-    assert_eq!(output_of_text("header", &program.join("\n")), format!("{printed}\n"));
 }
 
 #[test]
