@@ -43,8 +43,8 @@
 extern "C" {
 #endif
 
-#define NWK_VERSION "0.8.0"
-#define NWK_VERSION_NUMBER 0x000800
+#define NWK_VERSION "0.9.0"
+#define NWK_VERSION_NUMBER 0x000900
 
 #ifdef __cplusplus
 #define NWK_CAST(type, value) static_cast<type>(value)
