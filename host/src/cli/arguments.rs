@@ -280,7 +280,7 @@ fn ieee(text: &str) -> Result<Eui64, String> {
 /// An address as it is printed: two bytes, perhaps behind `0x`, or the eight of a long one.
 fn source(text: &str) -> Result<SourceAddress, String> {
     let short = text.strip_prefix("0x").unwrap_or(text);
-    if (1..=4).contains(&short.len()) {
+    if (1..=4).contains(&short.len()) && short.bytes().all(|digit| digit.is_ascii_hexdigit()) {
         if let Ok(address) = u16::from_str_radix(short, 16) {
             return Ok(SourceAddress::Short(Nwk(address)));
         }
@@ -288,11 +288,10 @@ fn source(text: &str) -> Result<SourceAddress, String> {
     text.parse().map(SourceAddress::Long).map_err(|e| format!("--source: {e}"))
 }
 
-/// A decimal number, or a hexadecimal one behind `0x`, that fits the type.
+/// A decimal number, or a hexadecimal one behind `0x`, that fits the type: digits alone, without a sign.
 fn number<T: TryFrom<u64>>(option: &str, text: &str) -> Result<T, String> {
-    let parsed = match text.strip_prefix("0x") {
-        Some(digits) => u64::from_str_radix(digits, 16),
-        None => text.parse(),
-    };
-    parsed.ok().and_then(|number| T::try_from(number).ok()).ok_or(format!("{option}: {text:?} is no number that fits"))
+    let (digits, radix) = text.strip_prefix("0x").map_or((text, 10), |digits| (digits, 16));
+    let unsigned = !digits.starts_with(['+', '-']);
+    let parsed = u64::from_str_radix(digits, radix).ok().filter(|_| unsigned);
+    parsed.and_then(|number| T::try_from(number).ok()).ok_or(format!("{option}: {text:?} is no number that fits"))
 }
