@@ -420,21 +420,39 @@ uint64_t nwk_forget_sender(struct nwk_sender *senders, size_t senders_count, uin
  *   3  NWK_JOURNAL_KEY_NUMBER     the active key number (1)                                          2
  *
  * A power cut may leave the last record incomplete: it counts for nothing, but its kind is looked at. The host keeps the journal
- * where it survives a cut and lends it whole to each call. It puts a record there in this order: nwk_write_journal_record; shorten the
- * journal to its complete records, where it is longer, and wait until the store has it so, since bytes of the incomplete one could
- * else stand behind the new one after a cut; append what was written, and wait again. Only then does the record count.
+ * where it survives a cut and lends it whole to each call.
+ *
+ * The store is to keep what it has said that it has, and of an append that a cut hits nothing or its first bytes. A disk may show a
+ * file's length before its bytes, which read as 0 then, and lose, reorder or tear what was not flushed. On it that is had so:
+ *
+ *   append    look whether the name still leads to the file, and stop for good where it does not; write what nwk_write_journal_record
+ *             wrote behind the complete records, with 0 in place of its kind; wait until the disk has it; write the kind; wait again.
+ *             Only then does the record count. Those of a burst may go together, NWK_JOURNAL_APPEND bytes at most, with 0 in
+ *             place of the first kind alone
+ *   start     lend the first nwk_finished_journal(..) bytes to nwk_recover_journal, and put a shrunk journal in the place of the
+ *             file (nwk_shrink_journal). Never append to the file that was there, nor after an error in writing or flushing: the
+ *             system may show bytes of it that are not on disk
+ *   begin     an empty journal once, on purpose. Where there is none at a start that is an error: counters would come again
+ *
+ * The order for a frame that arrives: open it, ask nwk_inbound_network_key, note its counter in the list, write the sender's record and
+ * wait for the store, then hand it on. A cut before the record is there costs the frame, which may be taken if it is sent again; one
+ * behind it costs the frame for good. A host that hands on first loses none, and takes one twice that somebody recorded.
  *
  * The last counter is the recovered ceiling after each nwk_recover_journal, and from then on the one that was handed out last. So a
  * host that reserves 1,000 counters at a time writes a ceiling of the last counter + 1,000, hands out those up to it, and writes
  * the next. Where no other writer extended the journal from empty, no counter is ever handed out twice, whatever byte the power failed
  * at; those between the last one and the ceiling are lost. Ceiling 0 covers nothing, so counter 0 is never handed out. No record says
- * that a sender was forgotten: recovery brings it back. */
+ * that a sender was forgotten: a host that forgets one writes the records of the others to a new journal and puts it in the place of
+ * the old one. What the sender sent before is then taken once more. */
 #define NWK_JOURNAL_CEILING 1
 #define NWK_JOURNAL_SENDER 2
 #define NWK_JOURNAL_KEY_NUMBER 3
 
 /* The length of the longest record. */
 #define NWK_JOURNAL_RECORD 13
+
+/* The most bytes that are appended at once: the senders of a burst. */
+#define NWK_JOURNAL_APPEND 208
 
 /* The length of the longest journal that nwk_shrink_journal writes: a key number, a ceiling and 64 senders. */
 #define NWK_SHRUNK_JOURNAL 839
@@ -444,7 +462,7 @@ uint64_t nwk_forget_sender(struct nwk_sender *senders, size_t senders_count, uin
  * an incomplete last one; 24 a 65th sender, or one past the places of the list.
  * Afterwards the list names each sender once, by first appearance, with its last counter and used 1. The places that count and are
  * left over are free, with address, counter and used 0; those past the 64th have not changed. *complete is the length of the
- * complete records: what is behind them is to be cut off before anything is appended. */
+ * complete records: nothing is appended while there is anything behind them. */
 uint64_t nwk_recover_journal(const uint8_t *journal, size_t journal_len, struct nwk_sender *senders, size_t senders_count,
                              uint64_t *complete);
 
@@ -469,9 +487,9 @@ uint64_t nwk_next_counter(const uint8_t *journal, size_t journal_len, uint32_t l
  * shorter than what is to be written.
  * Afterwards out holds the shrunk journal in its first bytes. The journal is as it was.
  * The shrunk journal may take the journal's place if nothing was appended meanwhile. Write it beside the journal, wait until the store
- * has it whole, put it in the journal's place in one step, such as renaming a file, and wait until the store has it so: only then
- * append to it, also after a start, since the program before may have ended in between. A cut before that step leaves the old
- * journal. The last counter stays what it was, and none is handed out twice. */
+ * has it whole, put it in the journal's place in one step, such as renaming a file, and wait until the store has it so (the folder
+ * is flushed): only then append to it. A cut before that step leaves the old journal. The last counter stays what it was, and none is
+ * handed out twice. */
 uint64_t nwk_shrink_journal(const uint8_t *journal, size_t journal_len, uint8_t *out, size_t out_len);
 
 /* ---- commands */
@@ -575,6 +593,19 @@ static inline const uint8_t *nwk_payload(uint64_t answer, const uint8_t *bytes, 
     return NULL;
   }
   return NWK_CLEAR(answer) ? bytes + (bytes_len - NWK_LENGTH(answer)) : out;
+}
+
+/* The length of a journal without an append that a power cut left unfinished: a tail that begins with 0 and has at most
+ * NWK_JOURNAL_APPEND bytes. A longer one is no append: the whole length is given, and the journal refused by 25. */
+static inline size_t nwk_finished_journal(const uint8_t *journal, size_t journal_len) {
+  static const uint8_t lengths[] = {0, 5, NWK_JOURNAL_RECORD, 2};
+  size_t end = 0;
+  while (end < journal_len && journal[end] >= NWK_JOURNAL_CEILING && journal[end] <= NWK_JOURNAL_KEY_NUMBER &&
+         lengths[journal[end]] <= journal_len - end) {
+    end += lengths[journal[end]];
+  }
+  const int unfinished = end < journal_len && journal[end] == 0 && journal_len - end <= NWK_JOURNAL_APPEND;
+  return unfinished ? end : journal_len;
 }
 
 /* A number of two, four or eight bytes in a record, which has the least significant byte first. */
