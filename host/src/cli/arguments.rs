@@ -36,11 +36,22 @@ pub enum Task {
     Seal(Sealing),
     Command,
     Journal {
-        /// The file for a shrunk copy.
-        shrink: Option<String>,
+        /// The new journal to be written.
+        copy: Option<JournalCopy>,
     },
     Refusals,
 }
+
+/// A new journal of what is in one, and the file for it.
+#[derive(Debug, PartialEq)]
+pub enum JournalCopy {
+    Shrunk { out: String, without: Vec<Eui64> },
+    Repaired { out: String, margin: u32 },
+}
+
+/// How far a repaired ceiling is raised where nothing is said. A journal that `JournalFile` keeps has less than 4,096 bytes, so damage
+/// hides at most 820 ceilings: this covers gateways that reserve up to 20,000 counters at a time, and takes one 256th of all counters.
+const MARGIN: u32 = 1 << 24;
 
 /// A source to show, by its short or its long address.
 #[derive(Debug, Clone, Copy, PartialEq)]
@@ -75,7 +86,7 @@ pub enum Parsed {
 const COMMANDS: [&str; 6] = ["open", "read", "seal", "command", "journal", "refusals"];
 
 /// The options: the commands that have them, whether they take a value, and whether they may be given more than once.
-const OPTIONS: [(&str, &[&str], bool, bool); 16] = [
+const OPTIONS: [(&str, &[&str], bool, bool); 19] = [
     ("--key", &["open", "seal"], true, true),
     ("--key-file", &["open", "seal"], true, true),
     ("--full", &["open", "read", "command"], false, false),
@@ -90,6 +101,9 @@ const OPTIONS: [(&str, &[&str], bool, bool); 16] = [
     ("--counter", &["seal"], true, false),
     ("--key-sequence", &["open", "seal"], true, false),
     ("--shrink", &["journal"], true, false),
+    ("--forget", &["journal"], true, true),
+    ("--repair", &["journal"], true, false),
+    ("--margin", &["journal"], true, false),
     ("--help", &COMMANDS, false, true),
     ("--version", &COMMANDS, false, true),
 ];
@@ -185,7 +199,7 @@ fn arguments_of(name: &str, given: Given) -> Result<Arguments, String> {
         "seal" => Task::Seal(sealing(&given)?),
         "read" => Task::Read,
         "command" => Task::Command,
-        "journal" => Task::Journal { shrink: given.value("--shrink").map(new_file).transpose()? },
+        "journal" => Task::Journal { copy: journal_copy(&given)? },
         _ => Task::Refusals,
     };
     let filter = Filter {
@@ -265,10 +279,26 @@ fn sealing(given: &Given) -> Result<Sealing, String> {
     })
 }
 
+/// What `--shrink` or `--repair` is to write.
+fn journal_copy(given: &Given) -> Result<Option<JournalCopy>, String> {
+    let new_file = |option| given.value(option).map(|name| new_file(option, name)).transpose();
+    let without = given.values("--forget").map(|text| text.parse().map_err(|e| format!("--forget: {e}")));
+    let without = without.collect::<Result<Vec<Eui64>, _>>()?;
+    let margin = given.value("--margin").map(|text| number("--margin", text)).transpose()?;
+    match (new_file("--shrink")?, new_file("--repair")?) {
+        (Some(_), Some(_)) => Err("--shrink and --repair exclude each other".to_string()),
+        (_, None) if margin.is_some() => Err("--margin goes with --repair OUT".to_string()),
+        (None, _) if !without.is_empty() => Err("--forget goes with --shrink OUT".to_string()),
+        (Some(out), None) => Ok(Some(JournalCopy::Shrunk { out, without })),
+        (None, Some(out)) => Ok(Some(JournalCopy::Repaired { out, margin: margin.unwrap_or(MARGIN) })),
+        (None, None) => Ok(None),
+    }
+}
+
 /// The name of a file to be written. Standard output has what is printed.
-fn new_file(text: &str) -> Result<String, String> {
+fn new_file(option: &str, text: &str) -> Result<String, String> {
     match text {
-        "" | "-" => Err(format!("--shrink: {text:?} is no name of a file")),
+        "" | "-" => Err(format!("{option}: {text:?} is no name of a file")),
         name => Ok(name.to_string()),
     }
 }
