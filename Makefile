@@ -3,7 +3,7 @@
 # make command          the archive and the command, host/target/release/store-reader
 # make test             the gate: every proof and must-fail edit, then the tests of the host and of the C programs
 # make host-test        the tests of the host and of the C programs alone
-# make bench            times beside nettle, mbedtls and wolfSSL, stack and memory
+# make bench            times beside nettle, mbedtls and wolfSSL, of a journal in a file, stack and memory
 # make install          the command, its man page and completion, headers, archive and pkg-config file, below PREFIX
 # make clean            removes what the above made
 # make help             this list

@@ -2,7 +2,7 @@
 # the tables that those of docs/PERFORMANCE.md are taken from. The root Makefile has the rule for the archive.
 #
 # A peer is used where it is installed (Debian: nettle-dev, libmbedtls-dev, libwolfssl-dev). Of mbedtls the static archive is linked, so that
-# the linker can send its question for AES instructions to bench/mbedtls.c.
+# the linker can send its question for AES instructions to bench/mbedtls.c. A journal in a file is measured by host/benches/journal_file.rs.
 
 BENCH_PROGRAM := target/bench/bench
 BENCH_CFLAGS := -std=c11 -O2 -Wall -Wextra -Iinclude -Ibench
@@ -35,5 +35,7 @@ bench: $(BENCH_PROGRAM)
 	@echo "load before: $$(cut -d ' ' -f 1 /proc/loadavg) on $$(nproc) processors"
 	@$(BENCH_PROGRAM)
 	@sh bench/memory.sh $(ARCHIVE)
+	@if command -v cargo > /dev/null; then (cd host && cargo bench --offline --quiet --bench journal_file); \
+	else echo "cargo is missing: JournalFile is not measured"; fi
 	@echo
 	@echo "load after: $$(cut -d ' ' -f 1 /proc/loadavg)"

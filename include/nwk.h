@@ -23,8 +23,8 @@
 extern "C" {
 #endif
 
-#define NWK_VERSION "0.8.0"
-#define NWK_VERSION_NUMBER 0x000800
+#define NWK_VERSION "0.9.0"
+#define NWK_VERSION_NUMBER 0x000900
 
 #ifdef __cplusplus
 #define NWK_CAST(type, value) static_cast<type>(value)
@@ -311,29 +311,43 @@ uint64_t nwk_forget_sender(struct nwk_sender *senders, size_t senders_count, uin
  *   3  NWK_JOURNAL_KEY_NUMBER     the active key number (1)                                          2
  *
  * A power cut may leave the last record incomplete: it counts for nothing, but its kind is looked at. The host keeps the journal where
- * it survives a cut and lends it whole to each call. To put a record there:
+ * it survives a cut and lends it whole to each call. The store is to keep what it said that it has, and of an append that a cut hits
+ * nothing or its first bytes. A disk may show a file's length before its bytes, which read as 0 then, and lose, reorder or tear what
+ * was not flushed. On a disk, therefore:
  *
- *   1. nwk_write_journal_record
- *   2. shorten the journal to its complete records, where it is longer, and wait until the store has it so
- *   3. append what was written, and wait until the store has it: only then does the record count
+ *   begin     an empty journal once, on purpose. Where there is none at a start that is an error: counters would come again
+ *   start     1. lend the first nwk_finished_journal(..) bytes to nwk_recover_journal
+ *             2. put a shrunk journal in the place of the file (nwk_shrink_journal). Never append to the file that was there, nor
+ *                after an error in writing or flushing: the system may show bytes of it that are not on disk
+ *   append    1. see that the name still leads to the file, and stop for good where it does not
+ *             2. write what nwk_write_journal_record wrote behind the complete records, with 0 in place of its kind, and wait
+ *                until the disk has it
+ *             3. write the kind, and wait again: only then does the record count
+ *             Those of a burst may go together, NWK_JOURNAL_APPEND bytes at most, with 0 in place of the first kind alone
+ *   a frame   1. open it  2. ask nwk_inbound_network_key  3. note its counter in the list  4. append the sender's record  5. hand it
+ *             on. A cut before 4 is done costs the frame, which may be taken if it is sent again; one behind it costs the frame
+ *             for good. Handing on before 4 loses none, and takes one twice that somebody recorded
  *
  * The last counter is the recovered ceiling after each nwk_recover_journal, and from then on the one handed out last. A host that
  * reserves 1,000 counters at a time writes a ceiling of the last counter + 1,000, hands out those up to it, and writes the next. Where
  * no other writer extended the journal from empty, no counter is handed out twice, whatever byte the power failed at; those between
- * the last one and the ceiling are lost. No record says that a sender was forgotten: recovery brings it back. */
+ * the last one and the ceiling are lost. No record says that a sender was forgotten: a host that forgets one writes the records of the
+ * others to a new journal, which takes the place of the old one. What the sender sent before is then taken once more. */
 #define NWK_JOURNAL_CEILING 1
 #define NWK_JOURNAL_SENDER 2
 #define NWK_JOURNAL_KEY_NUMBER 3
 
-/* The length of the longest record, and of the longest journal that nwk_shrink_journal writes: a key number, a ceiling, 64 senders. */
+/* The length of the longest record; of the longest journal that nwk_shrink_journal writes, a key number, a ceiling and 64 senders; and
+ * the most bytes that are appended at once, the senders of a burst. */
 #define NWK_JOURNAL_RECORD 13
 #define NWK_SHRUNK_JOURNAL 839
+#define NWK_JOURNAL_APPEND 208
 
 /* Recover what a journal says, after each start. In place of the length: the largest ceiling, 0 if there is none. NWK_KNOWN(answer)
  * tells whether there is a key number, NWK_KEY_NUMBER(answer) the last one. Refusals: 25 a record's kind is not 1 to 3, also that of
  * an incomplete last one; 24 a 65th sender, or one past the places of the list.
  * Afterwards the list names each sender once, by first appearance, with its last counter; places left over that count are all zeros.
- * *complete is the length of the complete records: what is behind them is to be cut off before anything is appended. */
+ * *complete is the length of the complete records: nothing is appended while there is anything behind them. */
 uint64_t nwk_recover_journal(const uint8_t *journal, size_t journal_len, struct nwk_sender *senders, size_t senders_count,
                              uint64_t *complete);
 
@@ -356,7 +370,7 @@ uint64_t nwk_next_counter(const uint8_t *journal, size_t journal_len, uint32_t l
  *
  *   1. write it beside the journal, and wait until the store has it whole; never use one that was left over
  *   2. put it in the journal's place in one step, such as renaming a file
- *   3. wait until the store has it so, also after a start, since the program before may have ended in between; only then append to it
+ *   3. wait until the store has it so (flush the folder): only then append to it
  *
  * A cut before step 2 leaves the old journal. The last counter stays what it was. */
 uint64_t nwk_shrink_journal(const uint8_t *journal, size_t journal_len, uint8_t *out, size_t out_len);
@@ -457,6 +471,19 @@ static inline const uint8_t *nwk_payload(uint64_t answer, const uint8_t *bytes, 
     return NULL;
   }
   return NWK_CLEAR(answer) ? bytes + (bytes_len - NWK_LENGTH(answer)) : out;
+}
+
+/* The length of a journal without an append that a power cut left unfinished: a tail that begins with 0 and has at most
+ * NWK_JOURNAL_APPEND bytes. A longer one is no append: the whole length is given, and the journal is refused by 25. */
+static inline size_t nwk_finished_journal(const uint8_t *journal, size_t journal_len) {
+  static const uint8_t lengths[] = {0, 5, NWK_JOURNAL_RECORD, 2};
+  size_t end = 0;
+  while (end < journal_len && journal[end] >= NWK_JOURNAL_CEILING && journal[end] <= NWK_JOURNAL_KEY_NUMBER &&
+         lengths[journal[end]] <= journal_len - end) {
+    end += lengths[journal[end]];
+  }
+  const int unfinished = end < journal_len && journal[end] == 0 && journal_len - end <= NWK_JOURNAL_APPEND;
+  return unfinished ? end : journal_len;
 }
 
 /* A number of two, four or eight bytes in a record, which has the least significant byte first. */

@@ -107,7 +107,8 @@ fn check_senders<'a>(lines: &mut impl Iterator<Item = &'a str>) {
 /// kind is 25; recovery gives the ceiling, the sender in the first place and zeros in the other, key number 0, which is
 /// told apart from none, and the length; a key number cut off is ignored; the byte 0 behind is 25 and changes nothing.
 /// The next counter is given up to the ceiling, 26 at `FFFFFFFE`, else 27. By request 7 a shrunk journal has the key
-/// number, if it is whole, then the ceiling and the sender; 25 and 18 as before, and the exact room is enough.
+/// number, if it is whole, then the ceiling and the sender; 25 and 18 as before, and the exact room is enough. A tail of zeros is an
+/// append that was cut up to the 16 senders of a burst, 208 bytes; an incomplete record, a longer tail and another kind stay.
 fn check_journal<'a>(lines: &mut impl Iterator<Item = &'a str>) {
     assert_eq!(MAX_SHRUNK_JOURNAL, 839);
     for expected in [
@@ -127,6 +128,7 @@ fn check_journal<'a>(lines: &mut impl Iterator<Item = &'a str>) {
         "shrink_zero 25 0",
         "shrink_exact 0 20 03 00 01 03 02 01 00 02 C3 B2 A1 1C 00 4B 12 00 FE FF FF FF",
         "shrink_no_room 18 0",
+        "finished 20 19 20 229 21 0",
     ] {
         assert_eq!(lines.next(), Some(expected));
     }
