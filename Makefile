@@ -3,8 +3,8 @@
 # make command          the archive and the command, host/target/release/store-reader
 # make test             the gate: every proof and must-fail edit, then the tests of the host and of the C programs
 # make host-test        the tests of the host and of the C programs alone
-# make bench            times beside nettle, mbedtls and wolfSSL, stack and memory
-# make install          the command, its man page and completion, header, archive and pkg-config file, below PREFIX
+# make bench            times beside nettle, mbedtls and wolfSSL, of a journal in a file, stack and memory
+# make install          the command, its man page and completion, headers, archive and pkg-config file, below PREFIX
 # make clean            removes what the above made
 # make help             this list
 
@@ -87,6 +87,7 @@ install: $(COMMAND)
 	install -D -m 644 host/man/store-reader.1 $$to/share/man/man1/store-reader.1
 	install -D -m 644 host/completions/store-reader.bash $$to/share/bash-completion/completions/store-reader
 	install -D -m 644 include/nwk.h $$to/include/nwk.h
+	install -D -m 644 include/nwk_null.h $$to/include/nwk_null.h
 	install -D -m 644 $(ARCHIVE) $$to/lib/libnwk.a
 	install -d $$to/lib/pkgconfig
 	sed 's|@PREFIX@|$(PREFIX)|; s|@VERSION@|$(VERSION)|' include/nwk.pc.in > $$to/lib/pkgconfig/nwk.pc

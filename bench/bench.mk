@@ -1,8 +1,8 @@
 # bench.mk: the target `bench`, for the Makefile at the root to include. It builds the benchmark to target/bench and prints
-# the tables of docs/PERFORMANCE.md. The root Makefile has the rule for the archive.
+# the tables that those of docs/PERFORMANCE.md are taken from. The root Makefile has the rule for the archive.
 #
 # A peer is used where it is installed (Debian: nettle-dev, libmbedtls-dev, libwolfssl-dev). Of mbedtls the static archive is linked, so that
-# the linker can send its question for AES instructions to bench/mbedtls.c.
+# the linker can send its question for AES instructions to bench/mbedtls.c. A journal in a file is measured by host/benches/journal_file.rs.
 
 BENCH_PROGRAM := target/bench/bench
 BENCH_CFLAGS := -std=c11 -O2 -Wall -Wextra -Iinclude -Ibench
@@ -24,7 +24,7 @@ BENCH_CFLAGS += -DHAVE_WOLFSSL $(shell pkg-config --cflags wolfssl)
 BENCH_LIBS += $(shell pkg-config --libs wolfssl)
 endif
 
-$(BENCH_PROGRAM): $(wildcard bench/*.c bench/*.h) bench/bench.mk include/nwk.h $(ARCHIVE)
+$(BENCH_PROGRAM): $(wildcard bench/*.c bench/*.h) bench/bench.mk $(wildcard include/*.h) $(ARCHIVE)
 	@mkdir -p $(@D)
 	$(CC) $(BENCH_CFLAGS) $(wildcard bench/*.c) $(ARCHIVE) $(BENCH_LIBS) -o $@
 
@@ -35,5 +35,7 @@ bench: $(BENCH_PROGRAM)
 	@echo "load before: $$(cut -d ' ' -f 1 /proc/loadavg) on $$(nproc) processors"
 	@$(BENCH_PROGRAM)
 	@sh bench/memory.sh $(ARCHIVE)
+	@if command -v cargo > /dev/null; then (cd host && cargo bench --offline --quiet --bench journal_file); \
+	else echo "cargo is missing: JournalFile is not measured"; fi
 	@echo
 	@echo "load after: $$(cut -d ' ' -f 1 /proc/loadavg)"

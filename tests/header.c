@@ -198,6 +198,12 @@ static void print_journal(void) {
   print_written("shrink_zero", nwk_shrink_journal(journal, n + 1, shrunk, sizeof shrunk), shrunk);
   print_written("shrink_exact", nwk_shrink_journal(journal, n, shrunk, n), shrunk);
   print_written("shrink_no_room", nwk_shrink_journal(journal, n, shrunk, n - 1), shrunk);
+  uint8_t tail[20 + NWK_JOURNAL_APPEND + 1] = {0};
+  memcpy(tail, journal, n);
+  printf("finished %zu %zu %zu %zu", nwk_finished_journal(tail, n), nwk_finished_journal(tail, n - 1),
+         nwk_finished_journal(tail, sizeof tail - 1), nwk_finished_journal(tail, sizeof tail));
+  tail[n] = 4;
+  printf(" %zu %zu\n", nwk_finished_journal(tail, n + 1), nwk_finished_journal(NULL, 0));
 }
 
 /* Bursts without frames, lengths or answers, and one whose only frame has no bytes. */

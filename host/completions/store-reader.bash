@@ -9,18 +9,18 @@ _store_reader() {
     return
   fi
   case $before in
-  --key-file | --shrink)
+  --key-file | --shrink | --repair)
     mapfile -t COMPREPLY < <(compgen -f -- "$word")
     return
     ;;
-  --key | --source | --ieee | --counter | --key-sequence) return ;;
+  --key | --source | --ieee | --counter | --key-sequence | --forget | --margin) return ;;
   esac
   case $command in
   open) options="--key --key-file --full --json --csv --by-sender --summary-only --refused --source --replay --key-sequence" ;;
   read) options="--full --json --csv --by-sender --summary-only --refused --source" ;;
   seal) options="--key --key-file --counter --ieee --key-sequence --json" ;;
   command) options="--full --json --csv --summary-only --refused" ;;
-  journal) options="--shrink --json" ;;
+  journal) options="--shrink --forget --repair --margin --json" ;;
   refusals) options="--json --csv" ;;
   *) return ;;
   esac

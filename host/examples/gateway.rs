@@ -1,14 +1,14 @@
 //! The gateway's loop: the frames that the radio hands over at once are opened in one call, each sealed one is asked for by its
-//! sender's last counter and noted, in a journal too, and what does not pass is counted by its number. Clear frames, for which nobody
-//! vouches, go another way than authenticated ones. After a power cut the journal still knows which frames were taken; a long one is
-//! shrunk then.
+//! sender's last counter and noted, and what does not pass is counted by its number. What was noted goes into a journal at once, and
+//! the frames are handed on when it is on disk: a cut in between loses them and lets none pass twice. Clear frames, for which nobody
+//! vouches, go another way. After a power cut the journal still knows which frames were taken. Last a probe is replaced.
 //!
 //!   cargo run --release --example gateway
 use std::collections::BTreeMap;
 use std::path::Path;
 use store_reader::{
-    hex, open_burst, ClearFrame, JournalError, JournalFile, Key, NwkCommand, NwkPayload, Opened, OpenedFrame,
-    OpenedRecord, Refusal, Senders, MAX_BURST, MAX_BURST_OUTPUT, MAX_FRAME, MAX_SHRUNK_JOURNAL,
+    hex, open_burst, ClearFrame, Eui64, JournalError, JournalFile, Key, NwkCommand, NwkPayload, Opened, OpenedFrame,
+    OpenedRecord, Refusal, SenderRecord, Senders, MAX_BURST, MAX_BURST_OUTPUT, MAX_FRAME,
 };
 
 /// The number of the network key in use.
@@ -27,9 +27,6 @@ const HEARD: [&str; 6] = [
 /// Outgoing counters are reserved so many at a time.
 const STEP: u32 = 1000;
 
-/// A journal that is longer is shrunk at a start: it has then at least twice the bytes that it needs.
-const WORTH_SHRINKING: usize = 2 * MAX_SHRUNK_JOURNAL;
-
 /// Each sender's last counter, in memory and on disk, why frames did not pass, and how many were clear.
 struct Gateway {
     senders: Senders,
@@ -39,51 +36,60 @@ struct Gateway {
 }
 
 impl Gateway {
-    /// Starts with what the journal says. One that cannot be shrunk is used as it is; where that is not safe the next call says so.
+    /// Begins the journal, once in the gateway's life: a new one hands out counters from 1.
+    fn install(journal: &Path) -> Result<(), JournalError> {
+        JournalFile::create(journal, STEP, &mut Senders::new()).map(drop)
+    }
+
+    /// Starts with what the journal says.
     fn start(journal: &Path) -> Result<Self, JournalError> {
         let mut senders = Senders::new();
-        let mut journal = JournalFile::open(journal, STEP, &mut senders)?;
-        if journal.records().len() > WORTH_SHRINKING {
-            match journal.shrink() {
-                Ok(saved) => println!("the journal is {saved} bytes shorter"),
-                Err(error) => println!("the journal is not shrunk: {error}"),
-            }
-        }
+        let journal = JournalFile::open(journal, STEP, &mut senders)?;
         Ok(Self { senders, journal, refused: BTreeMap::new(), clear: 0 })
     }
 
-    /// Takes a burst from the radio: its frames end to end, and their lengths.
+    /// Takes a burst from the radio: its frames end to end, and their lengths. What was noted of all of them is on disk before any is
+    /// handed on.
     fn receive(&mut self, key: &Key, frames: &[u8], lengths: &[u16]) -> Result<(), JournalError> {
         let mut answers = [OpenedRecord::new(); MAX_BURST];
         let mut out = [0; MAX_BURST_OUTPUT];
-        open_burst(key, frames, lengths, &mut answers, &mut out)?.try_for_each(|answer| self.take(key, answer))
-    }
-
-    /// Takes what was answered of a frame.
-    fn take(&mut self, key: &Key, answer: Result<Opened<'_>, Refusal>) -> Result<(), JournalError> {
-        match answer {
-            Ok(Opened::Sealed(frame)) => match self.note(key, &frame) {
-                Ok(()) => deliver(&frame)?,
-                Err(JournalError::Refused(refusal)) => self.refuse(refusal)?,
-                Err(error) => return Err(error),
-            },
-            Ok(Opened::Clear(frame)) => {
-                self.clear += 1;
-                show_to_staff(&frame)?;
+        let mut taken = Vec::new();
+        for answer in open_burst(key, frames, lengths, &mut answers, &mut out)? {
+            match answer.and_then(|opened| self.take(key, opened)) {
+                Ok(frame) => taken.extend(frame),
+                Err(refusal) => self.refuse(refusal)?,
             }
-            Err(refusal) => self.refuse(refusal)?,
         }
-        Ok(())
+        let notes = taken.iter().map(|frame| (frame.nonce_ieee, frame.auxiliary.frame_counter));
+        self.journal.note_senders(&notes.collect::<Vec<_>>())?;
+        Ok(taken.iter().try_for_each(deliver)?)
     }
 
-    /// Asks whether a frame's key is the active one and its counter above its sender's last one, whose place it then takes. The
-    /// frame is taken when that is on disk. A clear frame has no counter.
-    fn note(&mut self, key: &Key, frame: &OpenedFrame<'_>) -> Result<(), JournalError> {
+    /// Asks whether a sealed frame's key is the active one and its counter above its sender's last one, whose place it then takes. A
+    /// clear frame has no counter: it is shown, and none is taken.
+    fn take<'a>(&mut self, key: &Key, opened: Opened<'a>) -> Result<Option<OpenedFrame<'a>>, Refusal> {
+        let frame = match opened {
+            Opened::Sealed(frame) => frame,
+            Opened::Clear(frame) => {
+                self.clear += 1;
+                return show_to_staff(&frame).map(|()| None);
+            }
+        };
         let (sender, counter) = (frame.nonce_ieee, frame.auxiliary.frame_counter);
         let number = frame.auxiliary.key_sequence_number;
         self.senders.inbound_network_key(key, ACTIVE_KEY_SEQUENCE_NUMBER, sender, number, counter)?;
         self.senders.note_inbound_frame_counter(sender, counter)?;
-        self.journal.note_sender(sender, counter)
+        Ok(Some(frame))
+    }
+
+    /// Forgets a probe that is gone for good, so that another can have its place, the journal's first: what it sent before would be
+    /// taken once more.
+    fn replace(&mut self, probe: Eui64) -> Result<(), JournalError> {
+        self.journal.forget(probe)?;
+        self.senders.forget(probe);
+        let left = self.senders.records().iter().filter_map(SenderRecord::noted).count();
+        println!("{probe} is replaced: {left} of 64 places taken");
+        Ok(())
     }
 
     /// Counts a frame that does not pass.
@@ -140,12 +146,14 @@ fn main() -> Result<(), Box<dyn std::error::Error>> {
         end += n;
     }
     let journal = std::env::temp_dir().join(format!("gateway-{}.journal", std::process::id()));
+    Gateway::install(&journal)?;
     for start in ["the first start", "after a power cut, the same frames again"] {
         println!("{start}");
         let mut gateway = Gateway::start(&journal)?;
         gateway.receive(&key, &frames[..end], &lengths)?;
         gateway.report()?;
     }
+    Gateway::start(&journal)?.replace("00:12:4B:00:1C:A1:B2:C3".parse()?)?;
     std::fs::remove_file(&journal)?;
     Ok(())
 }

@@ -1,6 +1,6 @@
 //! The journal: counters, senders and the key number as records that survive a power cut.
 use crate::refusal::{is_known, key_number, length};
-use crate::{sys, Eui64, Refusal, SenderRecord, Senders};
+use crate::{sys, Eui64, Refusal, SenderRecord, Senders, MAX_JOURNAL_APPEND, MAX_JOURNAL_RECORD, MAX_SHRUNK_JOURNAL};
 
 /// A record of a journal.
 #[derive(Debug, Clone, Copy, PartialEq, Eq)]
@@ -120,6 +120,111 @@ pub fn write_record(journal: &[u8], record: JournalRecord, out: &mut [u8]) -> Re
         )
     };
     length(answer)
+}
+
+/// The bytes of a ceiling's record and of a key number's. That of a sender is the longest.
+pub(crate) const CEILING_RECORD: usize = 5;
+pub(crate) const KEY_NUMBER_RECORD: usize = 2;
+
+/// The bytes of a record by its kind; none for another kind than 1 to 3.
+fn record_length(kind: u8) -> Option<usize> {
+    match kind {
+        1 => Some(CEILING_RECORD),
+        2 => Some(MAX_JOURNAL_RECORD),
+        3 => Some(KEY_NUMBER_RECORD),
+        _ => None,
+    }
+}
+
+/// Where the complete records of a journal end, and whether a byte stands there that is no kind, by which it is refused by 25.
+#[doc(hidden)]
+#[must_use]
+pub fn complete_records(journal: &[u8]) -> (usize, bool) {
+    let mut end = 0;
+    while let Some(kind) = journal.get(end) {
+        match record_length(*kind) {
+            Some(length) if length <= journal.len() - end => end += length,
+            known => return (end, known.is_none()),
+        }
+    }
+    (end, false)
+}
+
+/// A journal without the append that a power cut left unfinished, if there is one.
+///
+/// A store that shows a length before its bytes, or tears between them, cannot append a record in one step. So a host appends with 0 in
+/// place of the first kind byte, waits for the store, writes that kind byte and waits again: a cut leaves the whole, or a tail that
+/// begins with 0. Such a tail counts for nothing if it has at most [`MAX_JOURNAL_APPEND`] bytes. A longer one is no append: it
+/// stays, and the journal is refused by 25.
+///
+/// ```
+/// use store_reader::{finished, recover, Refusal, Senders};
+///
+/// // Ceiling 3, and an append of which the store has the length alone.
+/// let journal = [1, 3, 0, 0, 0, 0, 0, 0, 0, 0];
+/// assert_eq!(recover(&journal, &mut Senders::new()), Err(Refusal::JOURNAL_KIND));
+/// assert_eq!(finished(&journal), [1, 3, 0, 0, 0]);
+/// ```
+#[must_use]
+pub fn finished(journal: &[u8]) -> &[u8] {
+    let (end, unknown) = complete_records(journal);
+    match journal.split_at_checked(end) {
+        Some((records, tail)) if unknown && is_unfinished(tail) => records,
+        _ => journal,
+    }
+}
+
+/// Whether this can be what a cut left of an append.
+pub(crate) fn is_unfinished(tail: &[u8]) -> bool {
+    tail.first() == Some(&0) && tail.len() <= MAX_JOURNAL_APPEND
+}
+
+/// Writes a journal that recovers to the same but for these senders, which are left out: the key number, the ceiling, and the others
+/// by first appearance.
+pub(crate) fn restate(journal: &[u8], without: &[Eui64], out: &mut [u8]) -> Result<usize, Refusal> {
+    let mut senders = Senders::new();
+    let recovered = recover(journal, &mut senders)?;
+    without.iter().for_each(|sender| senders.forget(*sender));
+    let ceiling = Some(recovered.ceiling).filter(|ceiling| *ceiling > 0).map(JournalRecord::Ceiling);
+    let noted = senders.records().iter().filter_map(SenderRecord::noted);
+    let noted = noted.map(|(address, counter)| JournalRecord::Sender { address, counter });
+    let mut length = 0;
+    for record in recovered.key_number.map(JournalRecord::KeyNumber).into_iter().chain(ceiling).chain(noted) {
+        let mut bytes = [0; MAX_JOURNAL_RECORD];
+        let n = write_record(out.get(..length).ok_or(Refusal::INTERNAL)?, record, &mut bytes)?;
+        let place = out.get_mut(length..length + n).ok_or(Refusal::NO_ROOM)?;
+        place.copy_from_slice(bytes.get(..n).ok_or(Refusal::INTERNAL)?);
+        length += n;
+    }
+    Ok(length)
+}
+
+/// Shrinks a journal and leaves these senders out: no record says that a sender was forgotten, so a journal forgets one by being
+/// replaced by what this writes. One that it does not name changes nothing.
+///
+/// What a forgotten sender sent before, and somebody recorded, is taken once more, since the counter of an unknown sender is not
+/// compared. So forget one that is gone for good, or that has another key by now.
+///
+/// ```
+/// use store_reader::{shrink_without, Eui64, Refusal, MAX_SHRUNK_JOURNAL};
+///
+/// // Ceiling 3, sender 7 with counter 50, sender 8 with counter 1.
+/// let journal = [
+///     1, 3, 0, 0, 0, 2, 7, 0, 0, 0, 0, 0, 0, 0, 50, 0, 0, 0, 2, 8, 0, 0, 0, 0, 0, 0, 0, 1, 0, 0, 0,
+/// ];
+/// let mut out = [0; MAX_SHRUNK_JOURNAL];
+/// let n = shrink_without(&journal, &[Eui64::from(7)], &mut out)?;
+/// assert_eq!(out[..n], [1, 3, 0, 0, 0, 2, 8, 0, 0, 0, 0, 0, 0, 0, 1, 0, 0, 0]);
+/// # Ok::<(), Refusal>(())
+/// ```
+///
+/// # Errors
+///
+/// Those of [`shrink`].
+pub fn shrink_without(journal: &[u8], senders: &[Eui64], out: &mut [u8]) -> Result<usize, Refusal> {
+    let mut restated = [0; MAX_SHRUNK_JOURNAL];
+    let length = restate(journal, senders, &mut restated)?;
+    shrink(restated.get(..length).ok_or(Refusal::INTERNAL)?, out)
 }
 
 /// The next outgoing counter, one more than the last. After each recovery the last one is the recovered ceiling, then the one that was

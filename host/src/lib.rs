@@ -2,7 +2,8 @@
 //!
 //! An operation succeeds, or it is refused by a number whose condition is written down ([`Refusal`]) and nothing lent to it
 //! has changed. No input of any length or content makes an operation panic. The library depends on no other crate, and without its
-//! feature `std`, which is on by default and adds `JournalFile` alone, it needs neither the standard library nor an allocator.
+//! feature `std`, which is on by default and adds `JournalFile` (and the command), it needs neither the standard library nor an
+//! allocator.
 //!
 //! ```
 //! use store_reader::{
@@ -32,6 +33,20 @@
 //! one call by [`open_burst`]. That no frame is taken twice is for [`Senders`] to see to, which keeps the counters of up to
 //! [`MAX_SENDERS`] senders. That no outgoing counter is used twice, power cuts or not, is for a journal to see to: [`recover`],
 //! [`write_record`], [`next_counter`] and [`shrink`] over bytes, and `JournalFile` over a file.
+//!
+//! # The order for frames that arrive
+//!
+//! 1. Open them: [`open`], or [`open_burst`].
+//! 2. Ask for each ([`Senders::inbound_network_key`]) and note its counter ([`Senders::note_inbound_frame_counter`]) before the next one is
+//!    asked for, so that a frame which is twice in a burst passes once.
+//! 3. Journal what was noted, all of a burst by one `JournalFile::note_senders`, and wait for the disk.
+//! 4. Hand the frames on.
+//!
+//! A cut before 3 is done costs the burst: none of it was handed on, and what is sent again may be taken. A cut between 3 and 4
+//! costs it for good, since it is refused by 23 from then on. Handing on before 3 would lose nothing, but after a cut a recorded frame
+//! could be handed on twice. The example `gateway` has the order above, because a lost reading can be weighted and a replayed one
+//! looks like any other. Where the list refuses a new sender by 24 so does the journal, as long as both forget the same ones
+//! (`JournalFile::forget` first: if it fails, nothing has changed).
 #![no_std]
 #![deny(missing_docs)]
 #![warn(clippy::missing_errors_doc, clippy::must_use_candidate)]
@@ -71,7 +86,12 @@ pub use header::{
     NwkAuxHeader, NwkFrameControl, NwkFrameType, NwkHeader, NwkPayload, NwkRouteDiscovery,
     NwkSecurityHeaderControlField, NwkSecurityHeaderKeyId, NwkSecurityLevel, NwkSourceRoute, OpenedRecord,
 };
-pub use journal::{next_counter, recover, shrink, write_record, JournalRecord, Recovered};
+#[doc(hidden)]
+pub use journal::complete_records;
+pub use journal::{finished, next_counter, recover, shrink, shrink_without, write_record, JournalRecord, Recovered};
+#[cfg(feature = "std")]
+#[doc(hidden)]
+pub use journal_file::{keep_owner, open_journal_to_copy, JournalReading};
 #[cfg(feature = "std")]
 pub use journal_file::{JournalError, JournalFile};
 pub use list::{Full, List};
@@ -93,6 +113,9 @@ pub const MAX_SENDERS: usize = 64;
 
 /// The most bytes that a record of a journal has.
 pub const MAX_JOURNAL_RECORD: usize = 13;
+
+/// The most bytes that are appended to a journal at once: the counters of a burst's senders.
+pub const MAX_JOURNAL_APPEND: usize = MAX_BURST * MAX_JOURNAL_RECORD;
 
 /// The most bytes that a shrunk journal has: a key number, a ceiling and [`MAX_SENDERS`] senders.
 pub const MAX_SHRUNK_JOURNAL: usize = 2 + 5 + MAX_SENDERS * MAX_JOURNAL_RECORD;

@@ -33,7 +33,7 @@ use std::process::ExitCode;
 
 const HELP: &str = include_str!("cli/help.txt");
 
-/// Wrong arguments, a file that cannot be opened, or a capture of another link type.
+/// Wrong arguments, a file that cannot be opened or written, standard output included, or a capture of another link type.
 const USAGE: u8 = 2;
 
 fn main() -> ExitCode {
@@ -81,7 +81,7 @@ fn failed(failure: Failure) -> ExitCode {
         Failure::Output(e) if e.kind() == ErrorKind::BrokenPipe => ExitCode::SUCCESS,
         Failure::Output(e) => {
             complain(&format!("standard output: {e}"));
-            ExitCode::FAILURE
+            ExitCode::from(USAGE)
         }
         Failure::Input(why) => {
             complain(&why);

@@ -3,7 +3,7 @@
 #[allow(dead_code)]
 mod support;
 
-use std::collections::{BTreeMap, BTreeSet};
+use std::collections::BTreeMap;
 use std::fs;
 use store_reader::{Refusal, MAX_SHRUNK_JOURNAL};
 use support::command::{root, scratch, tool};
@@ -107,7 +107,8 @@ fn check_senders<'a>(lines: &mut impl Iterator<Item = &'a str>) {
 /// kind is 25; recovery gives the ceiling, the sender in the first place and zeros in the other, key number 0, which is
 /// told apart from none, and the length; a key number cut off is ignored; the byte 0 behind is 25 and changes nothing.
 /// The next counter is given up to the ceiling, 26 at `FFFFFFFE`, else 27. By request 7 a shrunk journal has the key
-/// number, if it is whole, then the ceiling and the sender; 25 and 18 as before, and the exact room is enough.
+/// number, if it is whole, then the ceiling and the sender; 25 and 18 as before, and the exact room is enough. A tail of zeros is an
+/// append that was cut up to the 16 senders of a burst, 208 bytes; an incomplete record, a longer tail and another kind stay.
 fn check_journal<'a>(lines: &mut impl Iterator<Item = &'a str>) {
     assert_eq!(MAX_SHRUNK_JOURNAL, 839);
     for expected in [
@@ -127,6 +128,7 @@ fn check_journal<'a>(lines: &mut impl Iterator<Item = &'a str>) {
         "shrink_zero 25 0",
         "shrink_exact 0 20 03 00 01 03 02 01 00 02 C3 B2 A1 1C 00 4B 12 00 FE FF FF FF",
         "shrink_no_room 18 0",
+        "finished 20 19 20 229 21 0",
     ] {
         assert_eq!(lines.next(), Some(expected));
     }
@@ -194,38 +196,25 @@ fn the_enum_has_the_names_of_the_list() {
     assert_eq!(numbers, expected);
 }
 
-/// The values of the macros whose names start so.
-fn offsets(header: &str, front: &str) -> BTreeSet<usize> {
+/// The offsets of a record's fields with the bytes of each: lines `#define NWK_HEADER_SOURCE 12 /* 2 bytes */`.
+fn fields(header: &str, front: &str) -> Vec<(usize, usize)> {
     let lines = header.lines().filter_map(|line| line.strip_prefix("#define ")?.strip_prefix(front)?.split_once(' '));
-    lines.filter(|(name, _)| *name != "RECORD").map(|(_, value)| value.parse().expect("an offset")).collect()
+    let sized = lines.filter_map(|(_, rest)| rest.split_once(" /* "));
+    let number = |text: &str| text.trim().parse().expect("a number");
+    sized.map(|(offset, bytes)| (number(offset), number(bytes.split_once(" byte").expect("bytes").0))).collect()
 }
 
-/// The offsets of a table in the header's comments: lines with an offset and a number of bytes.
-fn table(header: &str, from: &str, to: &str) -> BTreeSet<usize> {
-    let part = header.split_once(from).expect(from).1.split_once(to).expect(to).0;
-    let numbers = part.lines().filter_map(|line| {
-        let mut words = line.strip_prefix(" *")?.split_whitespace();
-        let offset = words.next()?.parse().ok()?;
-        words.next()?.parse::<usize>().ok().map(|_| offset)
-    });
-    numbers.collect()
-}
-
-/// Each field of the tables has a name with its offset.
+/// Each byte of a record belongs to one field, which has a name; of the opened record bytes 14 and 15 hold nothing.
 #[test]
 fn every_field_has_a_name() {
     let header = header();
-    assert_eq!(
-        offsets(&header, "NWK_HEADER_"),
-        table(&header, "Header record, 147 bytes", "Auxiliary record, 19 bytes")
-    );
-    let auxiliary = table(&header, "Auxiliary record, 19 bytes", "Opened record, 182 bytes");
-    assert_eq!(offsets(&header, "NWK_AUXILIARY_"), auxiliary);
-    let mut opened = table(&header, "Opened record, 182 bytes", "#define NWK_HEADER_RECORD");
-    assert!(opened.remove(&14), "two bytes that hold nothing");
-    assert_eq!(offsets(&header, "NWK_OPENED_"), opened);
-    // A list stands behind its count, in the same line of the table.
-    let counts = table(&header, "Command record, 535 bytes", "Only the command's own list counts");
-    let lists: BTreeSet<usize> = [25, 132, 257, 320, 426].map(|count| count + 1).into();
-    assert_eq!(offsets(&header, "NWK_COMMAND_"), &counts | &lists);
+    for (front, size) in [("NWK_HEADER_", 147), ("NWK_AUXILIARY_", 19), ("NWK_OPENED_", 182), ("NWK_COMMAND_", 535)] {
+        assert!(header.contains(&format!("#define {front}RECORD {size}\n")), "the size of {front}");
+        let mut end = 0;
+        for (offset, bytes) in fields(&header, front) {
+            assert!(offset == end || (front, end, offset) == ("NWK_OPENED_", 14, 16), "{front}: {end}, then {offset}");
+            end = offset + bytes;
+        }
+        assert_eq!(end, size, "{front}");
+    }
 }

@@ -657,3 +657,53 @@ fn the_examples_of_the_help_run() {
         assert!(ran.status.success() && ran.stderr.is_empty() && !ran.stdout.is_empty(), "{line}");
     }
 }
+
+// ---- outputs, inputs and numbers at their limits
+
+/// A full standard output is a file that cannot be written.
+#[test]
+fn a_full_output_ends_with_2() {
+    let folder = PathBuf::from(env!("CARGO_BIN_EXE_store-reader"));
+    for arguments in ["refusals", "--help", "read samples/store.pcap", "journal samples/store.journal"] {
+        let line = format!("{} {arguments} > /dev/full", folder.display());
+        let Some(ran) = tool("bash", &["-c", &line]) else { return };
+        let message = "store-reader: standard output: No space left on device (os error 28)\n";
+        assert_eq!(
+            (String::from_utf8_lossy(&ran.stderr).as_ref(), ran.status.code()),
+            (message, Some(2)),
+            "{arguments}"
+        );
+    }
+}
+
+/// 200 MB without a line's end, in a process that may have 100: the line is told, and the next one is read.
+#[test]
+fn a_line_without_end_takes_little_memory() {
+    let line = format!(
+        "ulimit -v 100000; {{ head -c 200000000 /dev/zero | tr '\\0' '8'; echo; echo 0800000034121E07AA; }} | {} read",
+        env!("CARGO_BIN_EXE_store-reader")
+    );
+    let Some(ran) = tool("bash", &["-c", &line]) else { return };
+    let (out, err) = (String::from_utf8_lossy(&ran.stdout), String::from_utf8_lossy(&ran.stderr));
+    assert_eq!(
+        (err.as_ref(), ran.status.code()),
+        ("store-reader: line 1: the line has more than 65535 bytes\n", Some(1))
+    );
+    assert!(out.starts_with("   2  data "), "{out}");
+}
+
+/// A number is digits, or digits behind `0x`: a sign is none.
+#[test]
+fn a_sign_is_no_digit() {
+    for (option, value) in [("--counter", "0x+5"), ("--counter", "+5"), ("--counter", "0x"), ("--counter", "-5")] {
+        let ran = run(&["seal", "--key", KEY, option, value], b"");
+        let message =
+            format!("store-reader: {option}: {value:?} is no number that fits\nstore-reader --help says more\n");
+        assert_eq!((ran.err, ran.status), (message, 2));
+    }
+    assert_eq!(run(&["read", "--source", "0x+5"], b"").status, 2);
+    for value in ["0x5", "5"] {
+        let arguments = ["seal", "--key", KEY, "--counter", value, "--ieee", "00:12:4B:00:1C:A1:B2:C3"];
+        assert_eq!(run(&arguments, b"0800000034121E07AA\n").status, 0);
+    }
+}

@@ -4,7 +4,9 @@
 mod support;
 
 use std::fs;
-use std::os::unix::fs::symlink;
+use std::os::unix::fs::{symlink, PermissionsExt};
+use std::path::Path;
+use store_reader::{JournalFile, Senders};
 use support::command::{not_installed, root, run, scratch, tool};
 use support::journal_files::{bytes, fresh, on_disk};
 use support::model::journal::Entry;
@@ -80,22 +82,42 @@ fn json_has_every_field() {
     assert_eq!(printed(&[], &["--json"]), format!("{none}\n"));
 }
 
-/// A refusal is an answer: it is printed with its number and words, and the status is 0. 64 senders are shown, 65 are refused.
+const KIND: &str = "a record of a journal, or the one to be written, has a kind that is not 1 to 3";
+const PLACE: &str =
+    "the sender is new and no place is free, or a journal names more senders than 64 or than the list has places";
+
+fn naming(count: u64) -> Vec<u8> {
+    bytes(&(0..count).map(|sender| Entry::Sender(sender, 1)).collect::<Vec<_>>())
+}
+
+/// A refusal is printed with its number and words, 25 with its place and what helps, and the status is 1. 64 senders are shown, 65
+/// are refused. 25 comes before 24, but a tail that begins with 0 is an append that was cut.
 #[test]
 fn refusals_are_printed() {
-    let kind = "a record of a journal, or the one to be written, has a kind that is not 1 to 3";
-    let place =
-        "the sender is new and no place is free, or a journal names more senders than 64 or than the list has places";
-    let naming = |count: u64| bytes(&(0..count).map(|sender| Entry::Sender(sender, 1)).collect::<Vec<_>>());
-    for (journal, number, words) in
-        [(vec![4], 25, kind), ([naming(65), vec![0]].concat(), 25, kind), (naming(65), 24, place)]
-    {
-        assert_eq!(printed(&journal, &[]), format!("refused by {number}: {words}\n"));
-        let json = format!("{{\"refusal\":{number},\"condition\":\"{words}\"}}\n");
-        assert_eq!(printed(&journal, &["--json"]), json);
+    let damaged = |at: usize| {
+        format!("refused by 25 at byte {at}: {KIND}; --repair OUT writes what is before it and says what that risks\n")
+    };
+    let no_place = format!("refused by 24: {PLACE}\n");
+    for (journal, number, at, text) in [
+        (vec![4], 25, Some(0), damaged(0)),
+        ([naming(3), vec![4]].concat(), 25, Some(39), damaged(39)),
+        ([naming(65), vec![4]].concat(), 25, Some(845), damaged(845)),
+        ([naming(65), vec![0]].concat(), 24, None, no_place.clone()),
+        (naming(65), 24, None, no_place.clone()),
+        ([naming(2), vec![0; 209]].concat(), 25, Some(26), damaged(26)),
+    ] {
+        let ran = run(&["journal"], &journal);
+        assert_eq!((ran.out, ran.err.as_str(), ran.status), (text, "", 1));
+        let condition = if number == 25 { KIND } else { PLACE };
+        let at = at.map_or(String::new(), |at| format!(",\"at\":{at}"));
+        let json = format!("{{\"refusal\":{number},\"condition\":\"{condition}\"{at}}}\n");
+        let ran = run(&["journal", "--json"], &journal);
+        assert_eq!((ran.out, ran.status), (json, 1));
     }
     let full = printed(&naming(64), &[]);
     assert!(full.contains("\n64 senders\n") && full.lines().count() == 4 + 64, "{full}");
+    let cut = printed(&[naming(1), vec![0; 208]].concat(), &[]);
+    assert!(cut.ends_with("\n13 bytes of complete records, 208 bytes of an incomplete one behind them\n"), "{cut}");
 }
 
 #[test]
@@ -149,7 +171,9 @@ fn the_copy_is_on_disk_when_it_is_told_of() {
     // `fsync(3</folder/command-flushed.journal>) = 0`: the call, and whether it is for the copy.
     let calls =
         lines.lines().filter_map(|line| Some((line.split_once('(')?.0, line.contains("/command-flushed.journal>"))));
-    assert_eq!(calls.collect::<Vec<_>>(), [("write", true), ("fsync", true), ("write", false)], "{lines}");
+    // The copy, then the folder with its name.
+    let expected = [("write", true), ("fsync", true), ("fsync", false), ("write", false)];
+    assert_eq!(calls.collect::<Vec<_>>(), expected, "{lines}");
 }
 
 /// Of an incomplete record nothing is left, and an empty journal is a file of no bytes.
@@ -187,10 +211,188 @@ fn nothing_is_overwritten() {
 #[test]
 fn a_refused_journal_is_not_shrunk() {
     let out = fresh("command-refused.journal");
-    let senders: Vec<Entry> = (0..65).map(|sender| Entry::Sender(sender, 1)).collect();
-    for journal in [vec![4], bytes(&senders)] {
-        let shrunk = printed(&journal, &["--shrink", out.to_str().expect("UTF-8")]);
-        assert_eq!((shrunk, out.exists()), (printed(&journal, &[]), false));
+    for journal in [vec![4], naming(65)] {
+        let (shrunk, shown) =
+            (run(&["journal", "--shrink", out.to_str().expect("UTF-8")], &journal), run(&["journal"], &journal));
+        assert_eq!((shrunk.out, shrunk.status, out.exists()), (shown.out, 1, false));
+    }
+}
+
+/// While a gateway has the journal open nothing is copied: what is appended later would not be in it. It may be looked at.
+#[test]
+fn a_journal_in_use_is_not_copied() {
+    let (path, out) = (fresh("command-in-use.journal"), fresh("command-in-use.out"));
+    let (journal, name) = (path.to_str().expect("UTF-8"), out.to_str().expect("UTF-8"));
+    let mut gateway = JournalFile::create(&path, 5, &mut Senders::new()).expect("a journal");
+    assert_eq!(gateway.next_counter().expect("a counter"), 1);
+    let message = format!("store-reader: {journal}: the journal is open in another process: stop the gateway first\n");
+    for option in ["--shrink", "--repair"] {
+        let ran = run(&["journal", journal, option, name], b"");
+        assert_eq!((ran.out.as_str(), ran.err.as_str(), ran.status), ("", message.as_str(), 2));
+        assert!(!out.exists());
+    }
+    let shown = run(&["journal", journal], b"");
+    assert_eq!((shown.out.lines().next(), shown.status), (Some("ceiling 5"), 0));
+    drop(gateway);
+    assert_eq!(run(&["journal", journal, "--shrink", name], b"").status, 0);
+    assert_eq!(on_disk(&out), bytes(&[Entry::Ceiling(5)]));
+}
+
+/// A copy has the journal's permissions, and of standard input it is for its owner alone.
+#[test]
+fn a_copy_has_the_journals_permissions() {
+    let (path, out) = (fresh("command-permissions.journal"), fresh("command-permissions.out"));
+    fs::write(&path, bytes(&[Entry::Ceiling(5)])).expect("a file");
+    let mode = |path: &Path| fs::metadata(path).expect("a file").permissions().mode() & 0o777;
+    for wanted in [0o600, 0o640, 0o644] {
+        fs::set_permissions(&path, fs::Permissions::from_mode(wanted)).expect("permissions");
+        let _ = fs::remove_file(&out);
+        let (journal, name) = (path.to_str().expect("UTF-8"), out.to_str().expect("UTF-8"));
+        assert_eq!(run(&["journal", journal, "--shrink", name], b"").status, 0);
+        assert_eq!(mode(&out), wanted);
+    }
+    fs::remove_file(&out).expect("the copy");
+    printed(&bytes(&[Entry::Ceiling(5)]), &["--shrink", out.to_str().expect("UTF-8")]);
+    assert_eq!(mode(&out), 0o600);
+}
+
+// ---- forgetting
+
+/// The sample without one of its two senders, or without both; one that it does not name is told.
+#[test]
+fn senders_are_left_out() {
+    let (probe, router, out) = ("00:12:4B:00:1C:A1:B2:C3", "00:12:4B:00:1C:A1:00:02", fresh("command-forgotten"));
+    let name = out.to_str().expect("UTF-8");
+    let command = ["journal", "samples/store.journal", "--shrink", name];
+    let ran = run(&[&command[..], &["--forget", probe]].concat(), b"");
+    let told = ": 20 bytes, 43 saved\nforgotten: 1 sender; what was sent before is taken once more\n";
+    assert_eq!((ran.out, ran.err.as_str(), ran.status), (format!("{SAMPLE}{name}{told}"), "", 0));
+    let left = [Entry::KeyNumber(0), Entry::Ceiling(90300), Entry::Sender(0x0012_4B00_1CA1_0002, 7002)];
+    assert_eq!(on_disk(&out), bytes(&left));
+    fs::remove_file(&out).expect("the copy");
+    let ran = run(&[&command[..], &["--forget", probe, "--forget", router, "--json"]].concat(), b"");
+    assert!(ran.out.ends_with(",\"shrunk\":7,\"saved\":56,\"forgotten\":2}\n"), "{}", ran.out);
+    assert_eq!(on_disk(&out), bytes(&left[..2]));
+    fs::remove_file(&out).expect("the copy");
+    let ran = run(&[&command[..], &["--forget", "00:12:4B:00:1C:A1:B2:C4"]].concat(), b"");
+    let message = "store-reader: --forget: the journal does not name 00:12:4B:00:1C:A1:B2:C4\n";
+    assert_eq!((ran.out.as_str(), ran.err.as_str(), ran.status), ("", message, 2));
+    assert!(!out.exists());
+}
+
+// ---- repair
+
+/// A ceiling of 9, key number 3 and a sender, and 23 bytes of damage: they can have been four ceilings of 5 bytes.
+fn damaged() -> Vec<u8> {
+    let records = [Entry::Ceiling(9), Entry::KeyNumber(3), Entry::Sender(7, 50)];
+    [bytes(&records), vec![9; 23]].concat()
+}
+
+/// The records before the damage with the ceiling raised, by 16,777,216 or by what is given; what is told of it; and the gateway goes
+/// on.
+#[test]
+fn a_damaged_journal_is_repaired() {
+    let (path, out) = (fresh("command-damaged.journal"), fresh("command-repaired.journal"));
+    let (journal, name) = (path.to_str().expect("UTF-8"), out.to_str().expect("UTF-8"));
+    fs::write(&path, damaged()).expect("a file");
+    for (options, margin, most) in [
+        (&[][..], 16_777_216, "4194304 counters"),
+        (&["--margin", "0x4"], 4, "1 counter"),
+        (&["--margin=0"], 0, "0 counters"),
+    ] {
+        let _ = fs::remove_file(&out);
+        let ran = run(&[&["journal", journal, "--repair", name], options].concat(), b"");
+        let expected = format!(
+            "ceiling 9
+key number 3
+1 sender
+  00:00:00:00:00:00:00:07  counter 50
+20 bytes of complete records, 23 bytes of damage behind them
+{name}: 20 bytes
+kept: the complete records; the ceiling is raised by {margin} to {}
+dropped: 23 bytes, which can have been 4 ceilings
+risk: counters come twice if the gateway reserved more than {most} at a time
+risk: frames can be replayed whose counters were noted in what was dropped
+",
+            9 + margin
+        );
+        assert_eq!((ran.out, ran.err.as_str(), ran.status), (expected, "", 0));
+        let repaired = [Entry::KeyNumber(3), Entry::Ceiling(9 + margin), Entry::Sender(7, 50)];
+        assert_eq!((on_disk(&out), on_disk(&path)), (bytes(&repaired), damaged()));
+        let mut gateway = JournalFile::open(&out, 5, &mut Senders::new()).expect("a journal");
+        assert_eq!(gateway.next_counter().expect("a counter"), 9 + margin + 1);
+    }
+}
+
+/// A zeroed sector behind the sample's records, as the reference shows it: the margin over 102 ceilings is 164,482.
+#[test]
+fn the_reference_shows_a_repair() {
+    let reference = fs::read_to_string(root().join("docs/COMMAND.md")).expect("docs/COMMAND.md");
+    let shown = reference.split("| store-reader journal --repair repaired.journal\n..\n").nth(1).expect("a repair");
+    let shown = shown.split("```").next().expect("its end");
+    let out = fresh("command-reference.journal");
+    let sample = on_disk(&root().join("samples/store.journal"));
+    let damaged = [&sample[..59], &[0; 512]].concat();
+    let told = printed(&damaged, &["--repair", out.to_str().expect("UTF-8")]);
+    assert!(told.replace(out.to_str().expect("UTF-8"), "repaired.journal").ends_with(shown), "{told}");
+    assert!(shown.contains("can have been 102 ceilings\n") && shown.contains(" more than 164482 counters "), "{shown}");
+}
+
+/// From standard input and as JSON; so short that no ceiling was in it; and where no counter is left.
+#[test]
+fn what_a_repair_risks() {
+    let out = fresh("command-risks.journal");
+    let name = out.to_str().expect("UTF-8");
+    let json = printed(&damaged(), &["--repair", name, "--json"]);
+    assert!(json.ends_with(",\"complete\":20,\"dropped\":23,\"repaired\":20,\"raised_to\":16777225}\n"), "{json}");
+    for (journal, expected, ceiling) in [
+        (vec![4], "risk: none that a counter comes twice, if no byte behind the damage is missing\n", 16_777_216),
+        (
+            [bytes(&[Entry::Ceiling(0xFFFF_FFF0)]), vec![4; 5]].concat(),
+            "risk: no counter is left; the network needs another key\n",
+            0xFFFF_FFFE,
+        ),
+    ] {
+        fs::remove_file(&out).expect("the copy");
+        let text = printed(&journal, &["--repair", name]);
+        assert!(text.contains(expected), "{text}");
+        assert_eq!(on_disk(&out), bytes(&[Entry::Ceiling(ceiling)]));
+    }
+}
+
+/// Where nothing is damaged, and where 65 senders stand before the damage, nothing is written. A long one is repaired too.
+#[test]
+fn what_is_not_repaired() {
+    let out = fresh("command-not-repaired.journal");
+    let name = out.to_str().expect("UTF-8");
+    let ran = run(&["journal", "samples/store.journal", "--repair", name], b"");
+    let message = "store-reader: samples/store.journal: nothing is damaged, so nothing is repaired\n";
+    assert_eq!((ran.out.as_str(), ran.err.as_str(), ran.status), ("", message, 2));
+    let ran = run(&["journal", "--repair", name], &[naming(65), vec![4]].concat());
+    assert_eq!((ran.out, ran.status), (format!("refused by 24: {PLACE}\n"), 1));
+    assert!(!out.exists());
+    let long = bytes(&(0..20_000).map(|at| Entry::Sender(at % 3, at as u32)).collect::<Vec<_>>());
+    let text = printed(&[&long[..], &[4], &long].concat(), &["--repair", name, "--margin", "1"]);
+    assert!(text.contains("260000 bytes of complete records, 260001 bytes of damage behind them\n"), "{text}");
+    let last = [19_998, 19_999, 19_997].into_iter().zip(0..).map(|(counter, sender)| Entry::Sender(sender, counter));
+    assert_eq!(on_disk(&out), bytes(&[Entry::Ceiling(1)].into_iter().chain(last).collect::<Vec<_>>()));
+}
+
+/// Options that do not go together, and values that are none.
+#[test]
+fn wrong_options_are_told() {
+    for (options, message) in [
+        (&["--shrink", "a", "--repair", "b"][..], "--shrink and --repair exclude each other"),
+        (&["--margin", "5"], "--margin goes with --repair OUT"),
+        (&["--shrink", "a", "--margin", "5"], "--margin goes with --repair OUT"),
+        (&["--forget", "00:12:4B:00:1C:A1:B2:C3"], "--forget goes with --shrink OUT"),
+        (&["--repair", "a", "--forget", "00:12:4B:00:1C:A1:B2:C3"], "--forget goes with --shrink OUT"),
+        (&["--repair", "-"], "--repair: \"-\" is no name of a file"),
+        (&["--repair", "a", "--margin", "4294967296"], "--margin: \"4294967296\" is no number that fits"),
+    ] {
+        let ran = run(&[&["journal"], options].concat(), b"");
+        let expected = format!("store-reader: {message}\nstore-reader --help says more\n");
+        assert_eq!((ran.out.as_str(), ran.err, ran.status), ("", expected, 2));
     }
 }
 

@@ -1,85 +1,28 @@
 //! A journal in a file while the system fails: each call that shrinking rests on fails once, and other things happen between two
-//! calls. The calls go through functions of this program, which the linker takes before those of the C library.
+//! calls. `disk_states.rs` cuts the power after such a failure.
 #[allow(dead_code)]
 mod support;
+#[allow(dead_code)]
+#[path = "support/system_calls.rs"]
+mod system_calls;
 
 use std::cell::RefCell;
 use std::fs;
-use std::io::ErrorKind;
 use std::os::unix::fs::MetadataExt;
 use std::path::{Path, PathBuf};
 use std::rc::Rc;
-use store_reader::{Eui64, JournalError, JournalFile, Senders};
-use support::journal_files::{beside, bytes, fresh, goes_on, on_disk, LONG, SHRUNK};
+use store_reader::{Eui64, JournalError, JournalFile, SenderRecord, Senders};
+use support::journal_files::{beside, bytes, fresh, goes_on, long, on_disk, LONG, SHRUNK};
 use support::model::journal::Entry;
-
-// ---- the system's calls
-
-/// What is asked before a call of its thread is made. It may give an error's number: the call then fails with that, unmade.
-type Watcher = Box<dyn FnMut(&str) -> Option<i32>>;
-
-thread_local! {
-    static WATCHER: RefCell<Option<Watcher>> = const { RefCell::new(None) };
-}
-
-/// An error of the disk, `EIO`.
-const BROKEN: i32 = 5;
-
-extern "C" {
-    fn syscall(number: i64, ...) -> i64;
-    fn __errno_location() -> *mut i32;
-}
-
-/// What the watcher says of a call. It is not asked of those that it makes itself.
-fn asked(call: &str) -> Option<i32> {
-    let mut watcher = WATCHER.try_with(RefCell::take).ok().flatten()?;
-    let error = watcher(call);
-    WATCHER.set(Some(watcher));
-    error
-}
-
-macro_rules! calls {
-    ($($name:ident, $number:literal: $($argument:ident $type:ty),+;)+) => {
-        $(#[no_mangle]
-        unsafe extern "C" fn $name($($argument: $type),+) -> i64 {
-            match asked(stringify!($name)) {
-                None => syscall($number, $($argument),+),
-                Some(error) => {
-                    *__errno_location() = error;
-                    -1
-                }
-            }
-        })+
-    };
-}
-
-// By their numbers on x86-64 Linux.
-calls! {
-    open64, 2: path *const i8, flags i32, mode u32;
-    pwrite64, 18: file i32, bytes *const u8, length usize, offset i64;
-    flock, 73: file i32, operation i32;
-    fsync, 74: file i32;
-    fdatasync, 75: file i32;
-    rename, 82: from *const i8, to *const i8;
-    unlink, 87: path *const i8;
-    fchmod, 91: file i32, mode u32;
-}
-
-/// Runs something while calls are watched.
-fn watched<T>(watcher: impl FnMut(&str) -> Option<i32> + 'static, run: impl FnOnce() -> T) -> T {
-    WATCHER.set(Some(Box::new(watcher)));
-    let given = run();
-    WATCHER.set(None);
-    given
-}
+use system_calls::{fail, watched, Call, BROKEN};
 
 /// The calls that something makes, in their order.
-fn calls_of(run: impl FnOnce()) -> Vec<String> {
+fn calls_of(run: impl FnOnce()) -> Vec<&'static str> {
     let calls = Rc::new(RefCell::new(Vec::new()));
     let seen = calls.clone();
-    let note = move |call: &str| {
-        seen.borrow_mut().push(call.to_string());
-        None
+    let note = move |name, _: &Call<'_>, make: &mut dyn FnMut() -> i64| {
+        seen.borrow_mut().push(name);
+        make()
     };
     watched(note, run);
     calls.take()
@@ -88,10 +31,23 @@ fn calls_of(run: impl FnOnce()) -> Vec<String> {
 /// Runs something of which the call at this place fails, counted from 0.
 fn failing<T>(place: usize, run: impl FnOnce() -> T) -> T {
     let mut calls = 0..;
-    watched(move |_| (calls.next() == Some(place)).then_some(BROKEN), run)
+    let one = move |_, _: &Call<'_>, make: &mut dyn FnMut() -> i64| match calls.next() == Some(place) {
+        true => fail(BROKEN),
+        false => make(),
+    };
+    watched(one, run)
 }
 
-// ---- journals
+/// Runs something before each call of this name.
+fn before<T>(call: &'static str, mut act: impl FnMut() + 'static, run: impl FnOnce() -> T) -> T {
+    let acting = move |name, _: &Call<'_>, make: &mut dyn FnMut() -> i64| {
+        if name == call {
+            act();
+        }
+        make()
+    };
+    watched(acting, run)
+}
 
 fn open(path: &Path) -> Result<JournalFile, JournalError> {
     JournalFile::open(path, 3, &mut Senders::new())
@@ -99,19 +55,16 @@ fn open(path: &Path) -> Result<JournalFile, JournalError> {
 
 /// Whether the system reported this error.
 fn is_broken<T>(answer: &Result<T, JournalError>) -> bool {
-    matches!(answer, Err(JournalError::Io(error)) if error.raw_os_error() == Some(BROKEN))
+    matches!(answer, Err(JournalError::Io { error, .. }) if error.raw_os_error() == Some(BROKEN))
 }
 
 /// Whether somebody else has the journal.
 fn is_locked<T>(answer: &Result<T, JournalError>) -> bool {
-    matches!(answer, Err(JournalError::Io(error)) if error.kind() == ErrorKind::WouldBlock)
+    matches!(answer, Err(JournalError::Locked(_)))
 }
 
-/// The path of the long journal.
-fn long(name: &str) -> PathBuf {
-    let path = fresh(&format!("journal-errors-{name}"));
-    fs::write(&path, bytes(&LONG)).expect("a file");
-    path
+fn path(name: &str) -> PathBuf {
+    fresh(&format!("journal-errors-{name}"))
 }
 
 fn inode(path: &Path) -> u64 {
@@ -120,42 +73,50 @@ fn inode(path: &Path) -> u64 {
 
 /// Nothing is written or handed out, and opening anew finds the shrunk journal.
 fn has_stopped(mut journal: JournalFile, path: &Path) {
-    assert!(matches!(journal.next_counter(), Err(JournalError::Stopped)));
-    assert!(matches!(journal.reserve(), Err(JournalError::Stopped)));
-    assert!(matches!(journal.note_sender(Eui64::from(7), 52), Err(JournalError::Stopped)));
-    assert!(matches!(journal.set_key_number(1), Err(JournalError::Stopped)));
-    assert!(matches!(journal.shrink(), Err(JournalError::Stopped)));
+    assert!(matches!(journal.next_counter(), Err(JournalError::Stopped(_))));
+    assert!(matches!(journal.reserve(), Err(JournalError::Stopped(_))));
+    assert!(matches!(journal.note_sender(Eui64::from(7), 52), Err(JournalError::Stopped(_))));
+    assert!(matches!(journal.note_senders(&[]), Err(JournalError::Stopped(_))));
+    assert!(matches!(journal.set_key_number(1), Err(JournalError::Stopped(_))));
+    assert!(matches!(journal.shrink(), Err(JournalError::Stopped(_))));
+    assert!(matches!(journal.forget(Eui64::from(7)), Err(JournalError::Stopped(_))));
     assert_eq!(on_disk(path), bytes(&SHRUNK));
     drop(journal);
     assert_eq!(open(path).expect("a journal").next_counter().expect("a counter"), 10);
 }
 
-// ---- errors in shrinking
+// ---- errors in shrinking and forgetting
 
-/// Up to the renaming a failure leaves the old journal in use. If the folder cannot be flushed behind it, everything has stopped. The
-/// old file need not be unlocked.
+/// What is left beside the journal.
+fn left_beside(path: &Path) -> bool {
+    (1..10).map(|at| PathBuf::from(format!("{}.{at}", beside(path).display()))).any(|name| name.exists())
+        || beside(path).exists()
+}
+
+/// Up to the renaming a failure leaves the old journal in use, or is of no matter: another name is taken, and permissions and owner are
+/// kept as far as may be. If the folder cannot be flushed behind it, everything has stopped.
 #[test]
 fn each_call_of_shrinking_fails_once() {
-    let path = long("calls");
-    let mut journal = open(&path).expect("a journal");
+    let path = path("calls");
+    let mut journal = long(&path);
     let calls = calls_of(|| assert_eq!(journal.shrink().expect("a shrunk journal"), 13));
     drop(journal);
-    assert_eq!(calls.join(" "), "open64 unlink open64 flock fchmod pwrite64 fsync rename fsync flock");
+    assert_eq!(calls.join(" "), "open64 fsync unlink open64 flock fchown fchmod pwrite64 fsync rename fsync");
     for (place, call) in calls.iter().enumerate() {
-        let path = long("calls");
-        let (mut journal, before) = (open(&path).expect("a journal"), inode(&path));
+        let (mut journal, before) = (long(&path), inode(&path));
         let answer = failing(place, || journal.shrink());
-        assert_eq!(inode(&path) == before, place <= 7, "{call} failed");
-        assert_eq!(is_broken(&answer), place <= 8, "{call} failed: {answer:?}");
+        let survived = matches!(place, 2 | 3 | 5 | 6);
+        assert_eq!(is_broken(&answer), !survived, "{call} failed: {answer:?}");
+        assert_eq!(inode(&path) == before, !survived && place < 10, "{call} failed");
+        assert!(!left_beside(&path), "{call} failed");
         match place {
-            0..=7 => {
-                assert!(!beside(&path).exists(), "{call} failed");
+            _ if survived => assert_eq!(journal.next_counter().expect("a counter"), 10),
+            10 => has_stopped(journal, &path),
+            _ => {
                 goes_on(&mut journal, &path);
                 assert_eq!(journal.shrink().expect("a shrunk journal"), 13 + 5);
                 assert_eq!(journal.next_counter().expect("a counter"), 11);
             }
-            8 => has_stopped(journal, &path),
-            _ => assert_eq!(journal.next_counter().expect("a counter"), 10),
         }
     }
 }
@@ -163,28 +124,79 @@ fn each_call_of_shrinking_fails_once() {
 /// A renaming that is done and yet reported as failed, as over a network.
 #[test]
 fn a_renaming_that_is_not_known() {
-    let path = long("unknown");
-    let mut journal = open(&path).expect("a journal");
-    let (from, to) = (beside(&path), path.clone());
-    let rename = move |call: &str| match call {
-        "rename" => fs::rename(&from, &to).map(|()| BROKEN).ok(),
-        _ => None,
+    let path = path("unknown");
+    let mut journal = long(&path);
+    let rename = |name, _: &Call<'_>, make: &mut dyn FnMut() -> i64| match (name, make()) {
+        ("rename", 0) => fail(BROKEN),
+        (_, answer) => answer,
     };
     let answer = watched(rename, || journal.shrink());
     assert!(is_broken(&answer), "{answer:?}");
     has_stopped(journal, &path);
 }
 
-/// Whatever fails in opening, nothing is handed out, and what was there can be opened the next time. The folder is flushed each time.
+/// Whatever fails in appending, nothing more is handed out until the file is opened anew, and all that was acknowledged is there then.
+#[test]
+fn each_call_of_appending_fails_once() {
+    let path = path("appending");
+    let mut journal = long(&path);
+    let calls = calls_of(|| journal.note_sender(Eui64::from(7), 52).expect("a record"));
+    drop(journal);
+    assert_eq!(calls.join(" "), "pwrite64 fdatasync pwrite64 fdatasync");
+    for (place, call) in calls.iter().enumerate() {
+        let mut journal = long(&path);
+        let answer = failing(place, || journal.note_sender(Eui64::from(7), 52));
+        assert!(is_broken(&answer), "{call} failed: {answer:?}");
+        assert_eq!(journal.records(), bytes(&LONG));
+        assert!(matches!(journal.next_counter(), Err(JournalError::Stopped(_))));
+        drop(journal);
+        let mut senders = Senders::new();
+        let mut journal = JournalFile::open(&path, 3, &mut senders).expect("a journal");
+        // It counts when the kind byte is written, whether that is on disk or in the system's memory.
+        let counter = if place < 3 { 51 } else { 52 };
+        assert_eq!(senders.records()[0], SenderRecord::new(Eui64::from(7), counter));
+        assert_eq!(journal.next_counter().expect("a counter"), 10);
+    }
+}
+
+/// Whatever fails in opening, nothing is handed out, the list is as it was, and what was there can be opened the next time.
 #[test]
 fn each_call_of_opening_fails_once() {
-    let path = long("opening");
+    let path = path("opening");
+    let tail = [&bytes(&LONG)[..], &[0, 7, 0]].concat();
+    fs::write(&path, &tail).expect("a file");
     let calls = calls_of(|| drop(open(&path).expect("a journal")));
-    assert_eq!(calls, ["open64", "flock", "fsync", "open64", "fsync", "flock"]);
-    for (place, call) in calls.iter().enumerate().take(calls.len() - 1) {
-        let answer = failing(place, || open(&path));
+    let replacing = "open64 fsync unlink open64 flock fchown fchmod pwrite64 fsync rename fsync";
+    assert_eq!(calls.join(" "), format!("open64 flock {replacing}"));
+    for (place, call) in calls.iter().enumerate() {
+        fs::write(&path, &tail).expect("a file");
+        let mut senders = Senders::new();
+        senders.note_inbound_frame_counter(Eui64::from(99), 99).expect("a place");
+        let answer = failing(place, || JournalFile::open(&path, 3, &mut senders));
+        let survived = matches!(place, 4 | 5 | 7 | 8);
+        assert_eq!(is_broken(&answer), !survived, "{call} failed: {answer:?}");
+        let expected =
+            if survived { SenderRecord::new(Eui64::from(7), 51) } else { SenderRecord::new(Eui64::from(99), 99) };
+        assert_eq!((senders.records()[0], senders.records()[1]), (expected, SenderRecord::FREE), "{call} failed");
+        drop(answer);
+        assert!(!left_beside(&path), "{call} failed");
+        assert_eq!(open(&path).expect("a journal").records(), bytes(&SHRUNK));
+    }
+}
+
+/// Where a journal cannot be begun no file is left, and a folder that cannot be flushed is found before one is made.
+#[test]
+fn each_call_of_beginning_fails_once() {
+    let path = path("beginning");
+    let begin = |path: &Path| JournalFile::create(path, 3, &mut Senders::new());
+    let calls = calls_of(|| drop(begin(&path).expect("a journal")));
+    assert_eq!(calls.join(" "), "open64 fsync open64 flock fsync fsync");
+    for (place, call) in calls.iter().enumerate() {
+        fs::remove_file(&path).expect("the journal");
+        let answer = failing(place, || begin(&path));
         assert!(is_broken(&answer), "{call} failed: {answer:?}");
-        assert_eq!(open(&path).expect("a journal").records(), bytes(&LONG));
+        assert!(!path.exists(), "{call} failed");
+        assert_eq!(begin(&path).expect("a journal").next_counter().expect("a counter"), 1);
     }
 }
 
@@ -194,17 +206,15 @@ fn each_call_of_opening_fails_once() {
 /// without a name then, in which no start would find a ceiling.
 #[test]
 fn a_file_that_lost_its_name_is_not_used() {
-    let path = long("lost");
-    let mut first = Some(open(&path).expect("a journal"));
-    let shrink = move |call: &str| {
-        if let Some(mut journal) = first.take_if(|_| call == "flock") {
+    let path = path("lost");
+    let mut first = Some(long(&path));
+    let shrink = move || {
+        if let Some(mut journal) = first.take() {
             let _ = (journal.shrink(), journal.next_counter());
         }
-        None
     };
-    let mut second = watched(shrink, || open(&path)).expect("a journal");
-    let records = bytes(&[&SHRUNK[..], &[Entry::Ceiling(12)]].concat());
-    assert_eq!(second.records(), records);
+    let mut second = before("flock", shrink, || open(&path)).expect("a journal");
+    assert_eq!(second.records(), bytes(&[Entry::Ceiling(12), Entry::Sender(7, 51)]));
     assert_eq!(second.next_counter().expect("a counter"), 13);
     assert_eq!(on_disk(&path), second.records());
 }
@@ -212,14 +222,10 @@ fn a_file_that_lost_its_name_is_not_used() {
 /// The same while the first process goes on: the old file is free, and the journal is not.
 #[test]
 fn a_journal_that_was_shrunk_is_still_locked() {
-    let path = long("kept");
-    let first = Rc::new(RefCell::new(open(&path).expect("a journal")));
+    let path = path("kept");
+    let first = Rc::new(RefCell::new(long(&path)));
     let kept = first.clone();
-    let shrink = move |call: &str| {
-        let _ = (call == "flock").then(|| kept.borrow_mut().shrink());
-        None
-    };
-    let second = watched(shrink, || open(&path));
+    let second = before("flock", move || drop(kept.borrow_mut().shrink()), || open(&path));
     assert!(is_locked(&second), "{second:?}");
     assert_eq!(on_disk(&path), bytes(&SHRUNK));
     assert_eq!(first.borrow_mut().next_counter().expect("a counter"), 10);
@@ -228,13 +234,11 @@ fn a_journal_that_was_shrunk_is_still_locked() {
 /// A name that leads to another file each time counts as locked: opening gives up.
 #[test]
 fn a_name_that_never_stays() {
-    let path = long("restless");
+    let path = path("restless");
+    drop(long(&path));
     let (from, to) = (beside(&path), path.clone());
-    let replace = move |call: &str| {
-        let replaced = (call == "flock").then(|| fs::copy(&to, &from).and_then(|_| fs::rename(&from, &to)));
-        replaced.and_then(|replaced| replaced.err()?.raw_os_error())
-    };
-    let opened = watched(replace, || open(&path));
+    let replace = move || drop(fs::copy(&to, &from).and_then(|_| fs::rename(&from, &to)));
+    let opened = before("flock", replace, || open(&path));
     assert!(is_locked(&opened), "{opened:?}");
-    assert_eq!(open(&path).expect("a journal").records(), bytes(&LONG));
+    assert_eq!(open(&path).expect("a journal").records(), bytes(&SHRUNK));
 }

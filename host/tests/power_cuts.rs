@@ -1,6 +1,6 @@
 //! The power is cut for real: a process that keeps its counters in a journal file, and shrinks it now and then, is killed at random
 //! moments. The file loses a random part of what was being appended, or shrinking is undone. No counter comes twice, and nothing is
-//! lost that the process was told is on disk.
+//! lost that the process was told is on disk. `disk_states.rs` tries every state, one by one.
 #[allow(dead_code)]
 mod support;
 
@@ -14,7 +14,7 @@ use std::thread::sleep;
 use std::time::Duration;
 use store_reader::{Eui64, JournalError, JournalFile, SenderRecord, Senders};
 use support::command::tool;
-use support::journal_files::{beside, fresh, on_disk, state};
+use support::journal_files::{beside, fresh, on_disk, open_or_create, state};
 use support::model::journal::Journal;
 use support::random::Random;
 
@@ -41,13 +41,14 @@ fn old(path: &Path) -> PathBuf {
 ///
 ///   opened LENGTH VALUE..     the records on disk, and what was recovered: each sender's counter, then the key number
 ///   counter N LENGTH          a counter was handed out
+///   reserved LENGTH           the next ones may be
 ///   try PLACE VALUE           a value is about to be written
 ///   done PLACE VALUE LENGTH   it is on disk
 ///   shrinking LENGTH          the journal is about to be shrunk, and its file has another name besides
 ///   shrunk LENGTH             it is done, and so are the records that are left
 fn live(path: &Path, random: &mut Random, report: &mut dyn FnMut(String)) -> Result<(), JournalError> {
     let mut senders = Senders::new();
-    let mut journal = JournalFile::open(path, random.between(1, 5) as u32, &mut senders)?;
+    let mut journal = open_or_create(path, random.between(1, 5) as u32, &mut senders)?;
     let mut values: Vec<u32> = vec![0; SENDERS + 1];
     for (sender, counter) in senders.records().iter().filter_map(SenderRecord::noted) {
         values[u64::from(sender) as usize] = counter;
@@ -59,7 +60,7 @@ fn live(path: &Path, random: &mut Random, report: &mut dyn FnMut(String)) -> Res
         match random.below(11) {
             which if which == 10 || step == STEPS - 1 => {
                 let _ = fs::remove_file(old(path));
-                fs::hard_link(path, old(path))?;
+                fs::hard_link(path, old(path)).expect("another name");
                 report(format!("shrinking {}", journal.records().len()));
                 journal.shrink()?;
                 report(format!("shrunk {}", journal.records().len()));
@@ -68,7 +69,10 @@ fn live(path: &Path, random: &mut Random, report: &mut dyn FnMut(String)) -> Res
                 let counter = journal.next_counter()?;
                 report(format!("counter {counter} {}", journal.records().len()));
             }
-            6 => journal.reserve()?,
+            6 => {
+                journal.reserve()?;
+                report(format!("reserved {}", journal.records().len()));
+            }
             which => {
                 let place = if which == 7 { SENDERS } else { random.below(SENDERS) };
                 values[place] = (values[place] + 1) % 256;
@@ -112,6 +116,7 @@ fn a_gateway() {
 enum Report {
     Opened { length: u64, values: Vec<u32> },
     Counter { counter: u32, length: u64 },
+    Reserved { length: u64 },
     Try { place: usize, value: u32 },
     Done { place: usize, value: u32, length: u64 },
     Shrinking { length: u64 },
@@ -128,6 +133,7 @@ impl Report {
                 Self::Opened { length: *length, values: values.iter().map(|value| *value as u32).collect() }
             }
             ("counter", [counter, length]) => Self::Counter { counter: *counter as u32, length: *length },
+            ("reserved", [length]) => Self::Reserved { length: *length },
             ("try", [place, value]) => Self::Try { place: *place as usize, value: *value as u32 },
             ("done", [place, value, length]) => {
                 Self::Done { place: *place as usize, value: *value as u32, length: *length }
@@ -215,7 +221,9 @@ impl Known {
                 self.values.insert(*place, (*value, None));
                 self.length = *length;
             }
-            Report::Shrinking { length } | Report::Shrunk { length } => self.length = *length,
+            Report::Reserved { length } | Report::Shrinking { length } | Report::Shrunk { length } => {
+                self.length = *length;
+            }
         }
     }
 }
@@ -262,6 +270,24 @@ fn inode(path: &Path) -> u64 {
     fs::metadata(path).expect("a file").ino()
 }
 
+/// What a cut leaves of the append in flight behind so many bytes: before its kind byte is written any part of it, its length before its
+/// bytes too; then all of it, with that byte or without.
+fn cut_append(path: &Path, on_disk: usize, random: &mut Random) {
+    let bytes = fs::read(path).expect("the journal");
+    let (records, tail) = bytes.split_at(on_disk);
+    let mut tail = tail.to_vec();
+    match tail.first() {
+        Some(0) => {
+            tail.truncate(random.between(0, tail.len()));
+            let kept = random.between(0, tail.len());
+            tail[kept..].fill(0);
+        }
+        Some(_) if random.bit() => tail[0] = 0,
+        _ => {}
+    }
+    fs::write(path, [records, &tail].concat()).expect("the journal");
+}
+
 #[test]
 fn no_counter_comes_twice() {
     let mut random = Random::new(SEED);
@@ -270,28 +296,31 @@ fn no_counter_comes_twice() {
     let mut shrinkings = Shrinkings::default();
     for life in 0..CUTS as u64 {
         let reports = killed(&path, life, &mut random);
-        before_opening += usize::from(reports.is_empty());
         reports.iter().for_each(|report| known.note(report));
+        if reports.is_empty() {
+            // The old file, or the new one that opening puts in its place.
+            before_opening += 1;
+            continue;
+        }
         if is_shrinking(&reports) {
             shrinkings.cut(&path, known.length, &mut random);
             known.length = on_disk(&path).len() as u64;
         }
-        let Ok(bytes) = fs::read(&path) else { continue };
-        // The disk has what was acknowledged, and of what was being appended any part.
-        let written = bytes.len() as u64;
+        let written = on_disk(&path).len() as u64;
         assert!(written >= known.length, "life {life}: {written} bytes of {}", known.length);
-        let kept = random.between(known.length as usize, bytes.len());
-        let file = OpenOptions::new().write(true).open(&path).expect("the journal");
-        file.set_len(kept as u64).expect("a shorter journal");
-        let read = Journal::of(&bytes[..kept]);
-        assert!(!read.bad_kind && read.ceiling() >= known.highest, "life {life}: a ceiling of {}", read.ceiling());
-        match read.complete < kept {
-            true => inside += 1,
-            false => at_rest += 1,
+        cut_append(&path, known.length as usize, &mut random);
+        let bytes = on_disk(&path);
+        let read = Journal::of(&bytes);
+        let tail = &bytes[read.complete..];
+        assert!(!read.bad_kind || tail[0] == 0, "life {life}: {tail:02X?} behind the records");
+        assert!(read.ceiling() >= known.highest, "life {life}: a ceiling of {}", read.ceiling());
+        match tail.is_empty() {
+            false => inside += 1,
+            true => at_rest += 1,
         }
     }
     println!(
-        "{} counters over {CUTS} cuts: {inside} inside a record, {at_rest} at rest, {before_opening} before opening; {shrinkings:?}",
+        "{} counters over {CUTS} cuts: {inside} inside an append, {at_rest} at rest, {before_opening} before opening; {shrinkings:?}",
         known.counters
     );
     assert!(inside >= 20 && at_rest >= 20 && known.counters >= 2000, "{inside}, {at_rest}, {}", known.counters);
@@ -301,27 +330,25 @@ fn no_counter_comes_twice() {
 // ---- a disk that is full
 
 /// In a process whose files may have 1,024 bytes: the 79th sender record does not fit. Nothing more is handed out, though counters are
-/// reserved, until the file is opened anew.
+/// reserved, until the file is opened anew, which leaves a ceiling and a sender, and there is room again.
 fn over_a_full_disk(path: &Path) {
-    let mut journal = JournalFile::open(path, 1000, &mut Senders::new()).expect("a journal");
+    let mut journal = JournalFile::create(path, 1000, &mut Senders::new()).expect("a journal");
     assert_eq!(journal.next_counter().expect("a counter"), 1);
     let failed = (0..).map(|counter| journal.note_sender(Eui64::from(7), counter)).find(Result::is_err);
-    assert!(matches!(failed, Some(Err(JournalError::Io(_)))), "{failed:?}");
+    assert!(matches!(failed, Some(Err(JournalError::Io { .. }))), "{failed:?}");
     let (records, written) = (journal.records().len(), fs::metadata(path).expect("the file").len());
     assert_eq!((records, written, journal.reserved()), (5 + 78 * 13, 1024, 999));
-    assert!(matches!(journal.next_counter(), Err(JournalError::Stopped)));
-    assert!(matches!(journal.reserve(), Err(JournalError::Stopped)));
-    assert!(matches!(journal.note_sender(Eui64::from(7), 0), Err(JournalError::Stopped)));
-    assert!(matches!(journal.set_key_number(0), Err(JournalError::Stopped)));
-    assert!(matches!(journal.shrink(), Err(JournalError::Stopped)));
+    assert!(matches!(journal.next_counter(), Err(JournalError::Stopped(_))));
+    assert!(matches!(journal.reserve(), Err(JournalError::Stopped(_))));
+    assert!(matches!(journal.note_sender(Eui64::from(7), 0), Err(JournalError::Stopped(_))));
+    assert!(matches!(journal.set_key_number(0), Err(JournalError::Stopped(_))));
+    assert!(matches!(journal.shrink(), Err(JournalError::Stopped(_))));
     drop(journal);
     let mut senders = Senders::new();
     let mut journal = JournalFile::open(path, 1000, &mut senders).expect("a journal");
-    assert_eq!(fs::metadata(path).expect("the file").len(), records as u64);
+    assert_eq!(fs::metadata(path).expect("the file").len(), 5 + 13);
     assert_eq!(senders.records()[0], SenderRecord::new(Eui64::from(7), 77));
     assert_eq!(journal.next_counter().expect("room for a ceiling"), 1001);
-    // A ceiling and a sender are left, and there is room again.
-    assert_eq!(journal.shrink().expect("a shrunk journal"), 1024 - (5 + 13));
     journal.note_sender(Eui64::from(7), 78).expect("room for a sender");
     assert_eq!(journal.next_counter().expect("a counter"), 1002);
 }

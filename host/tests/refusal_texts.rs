@@ -2,9 +2,11 @@
 #[allow(dead_code)]
 mod support;
 
+use std::collections::BTreeSet;
 use std::fs;
 use store_reader::Refusal;
 use support::command::{root, run};
+use support::header_comments::refusals;
 
 /// The constants of the code, with the documents' words above each.
 const CODE: &str = "crates/octets/src/refusals.rt";
@@ -60,10 +62,7 @@ fn the_papers_have_the_same_list() {
     let printed = run(&["refusals"], b"").out;
     let lines: String = in_rust().iter().map(|(_, number, text)| format!("{number:>2}  {text}\n")).collect();
     assert_eq!(printed, lines);
-    let read = |path: &str| fs::read_to_string(root().join(path)).expect(path);
-    let table = read("docs/REFUSALS.md");
-    let command = read("docs/COMMAND.md");
-    assert!(command.contains(&lines), "docs/COMMAND.md does not show the list as it is printed");
+    let table = page();
     for (_, number, text) in in_rust() {
         let row = format!("| {number} | {text}");
         assert!(table.contains(&row), "docs/REFUSALS.md has no row {row:?}");
@@ -71,6 +70,82 @@ fn the_papers_have_the_same_list() {
     let rows =
         table.lines().filter(|line| line.starts_with("| ") && line[2..].starts_with(|c: char| c.is_ascii_digit()));
     assert_eq!(rows.count(), in_rust().len());
+}
+
+/// Each C function has a row, with its numbers in the order that its comment in `include/nwk.h` gives.
+#[test]
+fn each_function_has_its_numbers_in_order() {
+    let header = fs::read_to_string(root().join("include/nwk.h")).expect("include/nwk.h");
+    let page = page();
+    for line in header.lines().filter_map(|line| line.strip_prefix("uint64_t ")) {
+        let name = line.split('(').next().expect("a name");
+        let row = page.lines().find(|row| row.starts_with(&format!("| `{name}` |")));
+        let row = row.unwrap_or_else(|| panic!("docs/REFUSALS.md has no row for {name}"));
+        let cell = row.split('|').nth(2).expect("the numbers").trim();
+        assert_eq!(numbers(cell), refusals(name), "{name}");
+    }
+}
+
+/// The numbers of a cell, `1 to 8, 18`, without those that were there before.
+fn numbers(cell: &str) -> Vec<u8> {
+    let mut found: Vec<u8> = Vec::new();
+    let mut up_to = false;
+    for word in cell.split([' ', ',', ';']) {
+        if let Ok(number) = word.parse() {
+            let first = if up_to { found.last().expect("a number before") + 1 } else { number };
+            found.extend((first..=number).filter(|number| !found.contains(number)).collect::<Vec<u8>>());
+        }
+        up_to = word == "to";
+    }
+    found
+}
+
+/// Each must-fail edit is there and is named.
+#[test]
+fn each_edit_is_named() {
+    let page = page();
+    let operations = page.split_once("## The operations").expect("the operations").1;
+    let named: BTreeSet<String> = operations
+        .lines()
+        .filter(|line| line.starts_with("| "))
+        .filter_map(|row| row.split('|').nth(4))
+        .flat_map(|cell| cell.split('`').skip(1).step_by(2))
+        .map(str::to_string)
+        .collect();
+    let mut there = BTreeSet::new();
+    for entry in fs::read_dir(root().join("crates")).expect("crates") {
+        let folder = entry.expect("a crate").path();
+        let name = folder.file_name().expect("a name").to_string_lossy().to_string();
+        for edit in fs::read_dir(folder.join("must-fail")).into_iter().flatten() {
+            let edit = edit.expect("an edit").path();
+            there.insert(format!("{name}/{}", edit.file_stem().expect("a name").to_string_lossy()));
+        }
+    }
+    assert_eq!(named, there);
+}
+
+/// Each definition that a condition names stands in `specs/` of some crate, and each crate is there.
+#[test]
+fn each_definition_is_there() {
+    let mut definitions = String::new();
+    for entry in fs::read_dir(root().join("crates")).expect("crates") {
+        for file in fs::read_dir(entry.expect("a crate").path().join("specs")).into_iter().flatten() {
+            definitions += &fs::read_to_string(file.expect("a file").path()).expect("a definition");
+        }
+    }
+    let page = page();
+    let conditions = page.split_once("## The operations").expect("the operations").0;
+    for row in conditions.lines().filter(|line| line.starts_with("| ")) {
+        let cell = row.split('|').nth(3).expect("the definitions");
+        for name in cell.split('`').skip(1).step_by(2) {
+            let there = definitions.contains(&format!("pub {name} :")) || root().join("crates").join(name).is_dir();
+            assert!(there, "{name}: no such definition");
+        }
+    }
+}
+
+fn page() -> String {
+    fs::read_to_string(root().join("docs/REFUSALS.md")).expect("docs/REFUSALS.md")
 }
 
 #[test]

@@ -36,11 +36,22 @@ pub enum Task {
     Seal(Sealing),
     Command,
     Journal {
-        /// The file for a shrunk copy.
-        shrink: Option<String>,
+        /// The new journal to be written.
+        copy: Option<JournalCopy>,
     },
     Refusals,
 }
+
+/// A new journal of what is in one, and the file for it.
+#[derive(Debug, PartialEq)]
+pub enum JournalCopy {
+    Shrunk { out: String, without: Vec<Eui64> },
+    Repaired { out: String, margin: u32 },
+}
+
+/// How far a repaired ceiling is raised where nothing is said. A journal that `JournalFile` keeps has less than 4,096 bytes, so damage
+/// hides at most 820 ceilings: this covers gateways that reserve up to 20,000 counters at a time, and takes one 256th of all counters.
+const MARGIN: u32 = 1 << 24;
 
 /// A source to show, by its short or its long address.
 #[derive(Debug, Clone, Copy, PartialEq)]
@@ -75,7 +86,7 @@ pub enum Parsed {
 const COMMANDS: [&str; 6] = ["open", "read", "seal", "command", "journal", "refusals"];
 
 /// The options: the commands that have them, whether they take a value, and whether they may be given more than once.
-const OPTIONS: [(&str, &[&str], bool, bool); 16] = [
+const OPTIONS: [(&str, &[&str], bool, bool); 19] = [
     ("--key", &["open", "seal"], true, true),
     ("--key-file", &["open", "seal"], true, true),
     ("--full", &["open", "read", "command"], false, false),
@@ -90,6 +101,9 @@ const OPTIONS: [(&str, &[&str], bool, bool); 16] = [
     ("--counter", &["seal"], true, false),
     ("--key-sequence", &["open", "seal"], true, false),
     ("--shrink", &["journal"], true, false),
+    ("--forget", &["journal"], true, true),
+    ("--repair", &["journal"], true, false),
+    ("--margin", &["journal"], true, false),
     ("--help", &COMMANDS, false, true),
     ("--version", &COMMANDS, false, true),
 ];
@@ -185,7 +199,7 @@ fn arguments_of(name: &str, given: Given) -> Result<Arguments, String> {
         "seal" => Task::Seal(sealing(&given)?),
         "read" => Task::Read,
         "command" => Task::Command,
-        "journal" => Task::Journal { shrink: given.value("--shrink").map(new_file).transpose()? },
+        "journal" => Task::Journal { copy: journal_copy(&given)? },
         _ => Task::Refusals,
     };
     let filter = Filter {
@@ -265,10 +279,26 @@ fn sealing(given: &Given) -> Result<Sealing, String> {
     })
 }
 
+/// What `--shrink` or `--repair` is to write.
+fn journal_copy(given: &Given) -> Result<Option<JournalCopy>, String> {
+    let new_file = |option| given.value(option).map(|name| new_file(option, name)).transpose();
+    let without = given.values("--forget").map(|text| text.parse().map_err(|e| format!("--forget: {e}")));
+    let without = without.collect::<Result<Vec<Eui64>, _>>()?;
+    let margin = given.value("--margin").map(|text| number("--margin", text)).transpose()?;
+    match (new_file("--shrink")?, new_file("--repair")?) {
+        (Some(_), Some(_)) => Err("--shrink and --repair exclude each other".to_string()),
+        (_, None) if margin.is_some() => Err("--margin goes with --repair OUT".to_string()),
+        (None, _) if !without.is_empty() => Err("--forget goes with --shrink OUT".to_string()),
+        (Some(out), None) => Ok(Some(JournalCopy::Shrunk { out, without })),
+        (None, Some(out)) => Ok(Some(JournalCopy::Repaired { out, margin: margin.unwrap_or(MARGIN) })),
+        (None, None) => Ok(None),
+    }
+}
+
 /// The name of a file to be written. Standard output has what is printed.
-fn new_file(text: &str) -> Result<String, String> {
+fn new_file(option: &str, text: &str) -> Result<String, String> {
     match text {
-        "" | "-" => Err(format!("--shrink: {text:?} is no name of a file")),
+        "" | "-" => Err(format!("{option}: {text:?} is no name of a file")),
         name => Ok(name.to_string()),
     }
 }
@@ -280,7 +310,7 @@ fn ieee(text: &str) -> Result<Eui64, String> {
 /// An address as it is printed: two bytes, perhaps behind `0x`, or the eight of a long one.
 fn source(text: &str) -> Result<SourceAddress, String> {
     let short = text.strip_prefix("0x").unwrap_or(text);
-    if (1..=4).contains(&short.len()) {
+    if (1..=4).contains(&short.len()) && short.bytes().all(|digit| digit.is_ascii_hexdigit()) {
         if let Ok(address) = u16::from_str_radix(short, 16) {
             return Ok(SourceAddress::Short(Nwk(address)));
         }
@@ -288,11 +318,10 @@ fn source(text: &str) -> Result<SourceAddress, String> {
     text.parse().map(SourceAddress::Long).map_err(|e| format!("--source: {e}"))
 }
 
-/// A decimal number, or a hexadecimal one behind `0x`, that fits the type.
+/// A decimal number, or a hexadecimal one behind `0x`, that fits the type: digits alone, without a sign.
 fn number<T: TryFrom<u64>>(option: &str, text: &str) -> Result<T, String> {
-    let parsed = match text.strip_prefix("0x") {
-        Some(digits) => u64::from_str_radix(digits, 16),
-        None => text.parse(),
-    };
-    parsed.ok().and_then(|number| T::try_from(number).ok()).ok_or(format!("{option}: {text:?} is no number that fits"))
+    let (digits, radix) = text.strip_prefix("0x").map_or((text, 10), |digits| (digits, 16));
+    let unsigned = !digits.starts_with(['+', '-']);
+    let parsed = u64::from_str_radix(digits, radix).ok().filter(|_| unsigned);
+    parsed.and_then(|number| T::try_from(number).ok()).ok_or(format!("{option}: {text:?} is no number that fits"))
 }

@@ -1,9 +1,13 @@
 //! Frames in hexadecimal digits, one a line or in the lines of a dump.
+use super::bytes::LONGEST_RECORD;
 use std::io::{self, BufRead};
 use store_reader::hex;
 
-/// A line's number and text.
-type Line = (u64, String);
+/// The most bytes of a line. A frame takes some hundred; of a longer line nothing is kept.
+const LONGEST_LINE: usize = 65_535;
+
+/// A line's number and text, none if it is too long.
+type Line = (u64, Option<String>);
 
 /// The lines of an input.
 #[derive(Default)]
@@ -22,6 +26,9 @@ impl Lines {
     /// The next frame and the number of its line, none at the input's end.
     pub fn next(&mut self, input: &mut impl BufRead) -> io::Result<Option<(u64, Bytes)>> {
         while let Some((number, line)) = self.line(input)? {
+            let Some(line) = line else {
+                return Ok(Some((number, Err(format!("the line has more than {LONGEST_LINE} bytes")))));
+            };
             let text = content(&line);
             match (text, dump_line(text)) {
                 ("", _) => {}
@@ -41,14 +48,19 @@ impl Lines {
     /// The rest of a dump: the lines whose offset is the number of bytes so far. Some programs end with that offset alone.
     fn dump(&mut self, number: u64, mut bytes: Vec<u8>, input: &mut impl BufRead) -> io::Result<(u64, Bytes)> {
         self.first_offset.get_or_insert(number);
+        let mut length = bytes.len();
         while let Some((next, line)) = self.line(input)? {
-            if offset(content(&line)) == Some(bytes.len()) {
+            let text = line.as_deref().map_or("", content);
+            if offset(text) == Some(length) {
                 break;
             }
-            match dump_line(content(&line)) {
-                Some((offset, more)) if offset == bytes.len() && offset > 0 => bytes.extend(more),
+            match dump_line(text) {
+                Some((offset, more)) if offset == length && offset > 0 => {
+                    length += more.len();
+                    bytes.extend(more.iter().filter(|_| length <= LONGEST_RECORD));
+                }
                 Some((offset, _)) if offset > 0 => {
-                    let why = format!("offset {offset:04X} where {:04X} is expected", bytes.len());
+                    let why = format!("offset {offset:04X} where {length:04X} is expected");
                     return Ok((next, Err(why)));
                 }
                 _ => {
@@ -57,7 +69,10 @@ impl Lines {
                 }
             }
         }
-        Ok((number, Ok(bytes)))
+        match length > LONGEST_RECORD {
+            true => Ok((number, Err(format!("a dump of {length} bytes is no frame")))),
+            false => Ok((number, Ok(bytes))),
+        }
     }
 
     fn line(&mut self, input: &mut impl BufRead) -> io::Result<Option<Line>> {
@@ -65,12 +80,26 @@ impl Lines {
             return Ok(Some(line));
         }
         let mut bytes = Vec::new();
-        if input.read_until(b'\n', &mut bytes)? == 0 {
+        if part(input, &mut bytes)? == 0 {
             return Ok(None);
         }
         self.count += 1;
-        Ok(Some((self.count, String::from_utf8_lossy(&bytes).into_owned())))
+        if bytes.len() <= LONGEST_LINE || bytes.ends_with(b"\n") {
+            return Ok(Some((self.count, Some(String::from_utf8_lossy(&bytes).into_owned()))));
+        }
+        while !bytes.ends_with(b"\n") {
+            bytes.clear();
+            if part(input, &mut bytes)? == 0 {
+                break;
+            }
+        }
+        Ok(Some((self.count, None)))
     }
+}
+
+/// Reads up to a line's end, or one byte more than a line may have.
+fn part(input: &mut impl BufRead, bytes: &mut Vec<u8>) -> io::Result<usize> {
+    io::Read::take(input, LONGEST_LINE as u64 + 1).read_until(b'\n', bytes)
 }
 
 /// A line without its comment and the blanks around it.
@@ -99,6 +128,7 @@ fn dump_line(text: &str) -> Option<(usize, Vec<u8>)> {
     let mut bytes = Vec::new();
     for word in shown.unwrap_or("").split_whitespace() {
         match word.len() {
+            _ if word.starts_with('+') => return None,
             2 => bytes.push(u8::from_str_radix(word, 16).ok()?),
             4 if joined => bytes.extend(u16::from_str_radix(word, 16).ok()?.to_be_bytes()),
             _ => return None,
@@ -127,6 +157,32 @@ mod tests {
         assert_eq!(dump_line("0800 0000 3412 1E07"), None);
         assert_eq!(dump_line("08 00 00 00"), None);
         assert_eq!(dump_line("080000003412"), None);
+        assert_eq!(dump_line("0000  08 +0"), None);
+    }
+
+    /// Of a line without end nothing is kept, and the next one is read; one byte less is a line.
+    #[test]
+    fn a_line_has_an_end() {
+        for (blanks, expected) in [(65_533, Ok(vec![8])), (65_534, Err("the line has more than 65535 bytes".into()))] {
+            let text = format!("{}08\n09\n", " ".repeat(blanks));
+            let mut input = text.as_bytes();
+            let mut lines = Lines::default();
+            assert_eq!(lines.next(&mut input).unwrap(), Some((1, expected)));
+            assert_eq!(lines.next(&mut input).unwrap(), Some((2, Ok(vec![9]))));
+            assert_eq!(lines.next(&mut input).unwrap(), None);
+        }
+    }
+
+    /// A dump that goes on for ever is not kept either.
+    #[test]
+    fn a_dump_has_an_end() {
+        let bytes = "00 ".repeat(16);
+        let dump: String = (0..5000).map(|line| format!("{:08x}  {bytes}\n", line * 16)).collect();
+        let text = dump + "09\n";
+        let mut input = text.as_bytes();
+        let mut lines = Lines::default();
+        assert_eq!(lines.next(&mut input).unwrap(), Some((1, Err("a dump of 80000 bytes is no frame".to_string()))));
+        assert_eq!(lines.next(&mut input).unwrap(), Some((5001, Ok(vec![9]))));
     }
 
     #[test]

@@ -48,9 +48,9 @@ pub fn run(arguments: &Arguments, colour: bool, out: &mut impl Write) -> Result<
             let run = Run::new(arguments, Summary::new("command", "read", "read"), false);
             run.over(lines(arguments, "command")?, &mut printer, command)
         }
-        Task::Journal { shrink } => {
-            let answer = recovered(arguments.file.as_deref(), shrink.as_deref()).map_err(Failure::Input)?;
-            Ok(printer.journal(&answer).map(|()| 0)?)
+        Task::Journal { copy } => {
+            let answer = recovered(arguments.file.as_deref(), copy.as_ref()).map_err(Failure::Input)?;
+            Ok(printer.journal(&answer).map(|()| u8::from(answer.is_err()))?)
         }
         Task::Seal(sealing) => Ok(seal_each(lines(arguments, "seal")?, sealing, &mut printer)?),
     }

@@ -1,7 +1,7 @@
 //! What is printed of each input.
 use super::answer::{condition, Answer};
 use super::arguments::{Filter, Show, SourceAddress};
-use super::journal::Found;
+use super::journal::{Found, Refused};
 use super::mac::{MacAddress, MacHeader};
 use super::source::{Entry, Place};
 use super::value::{full, Fields, Value};
@@ -89,20 +89,16 @@ impl<W: Write> Printer<'_, W> {
     }
 
     /// What is in a journal, or why it is refused.
-    pub fn journal(&mut self, answer: &Result<Found, Refusal>) -> io::Result<()> {
+    pub fn journal(&mut self, answer: &Result<Found, Refused>) -> io::Result<()> {
         match (self.show, answer) {
             (Show::Json, Ok(found)) => {
                 let mut fields: Fields = vec![("refusal", 0u8.into())];
                 fields.extend(found.fields());
                 writeln!(self.out, "{}", Value::Object(fields).json())
             }
-            (Show::Json, Err(refusal)) => {
-                let fields =
-                    vec![("refusal", refusal.number().into()), ("condition", Value::text(refusal.condition()))];
-                writeln!(self.out, "{}", Value::Object(fields).json())
-            }
+            (Show::Json, Err(refused)) => writeln!(self.out, "{}", Value::Object(refused.fields()).json()),
             (_, Ok(found)) => write!(self.out, "{found}"),
-            (_, Err(refusal)) => writeln!(self.out, "{}", self.coloured(refusal.to_string())),
+            (_, Err(refused)) => writeln!(self.out, "{}", self.coloured(refused.to_string())),
         }
     }
 
