@@ -84,7 +84,8 @@ static bool write_auxiliary(void *input) {
 
 static bool split_mic(void *input) {
   struct message *m = input;
-  return nwk_split_mic(m->sealed, m->length + MIC_LENGTH, m->out) == m->length;
+  uint64_t front = 0;
+  return NWK_REFUSAL(nwk_split_mic(m->sealed, m->length + MIC_LENGTH, m->out, &front)) == 0 && front == m->length;
 }
 
 static bool payload_kind(void *input) {

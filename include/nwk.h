@@ -35,8 +35,11 @@ extern "C" {
 #define NWK_LENGTH(answer) NWK_CAST(uint32_t, (answer) & 0xFFFFFFFFu)
 #define NWK_REFUSAL(answer) NWK_CAST(uint8_t, (answer) >> 32 & 0xFFu)
 
-/* nwk_open: 1 if the frame was clear, 0 if it was sealed. */
+/* nwk_open: 1 if the frame was clear, 0 if it was sealed. nwk_payload_place: 1 if the payload is in the frame, 0 if in out. */
 #define NWK_CLEAR(answer) NWK_CAST(uint8_t, (answer) >> 40 & 1u)
+
+/* nwk_payload_place: the place of the payload's first byte. */
+#define NWK_FIRST(answer) NWK_CAST(uint8_t, (answer) >> 48 & 0xFFu)
 
 /* nwk_note_inbound_frame_counter: 1 if there is an earlier counter. nwk_recover_journal: 1 if there is a key number. */
 #define NWK_KNOWN(answer) NWK_CAST(uint8_t, (answer) >> 41 & 1u)
@@ -250,6 +253,12 @@ uint64_t nwk_open_burst(uint64_t key_first, uint64_t key_second, const uint8_t *
                         const uint16_t *lengths, size_t lengths_count, uint8_t (*answers)[NWK_OPENED_RECORD],
                         size_t answers_count, uint8_t *out, size_t out_len);
 
+/* Where the payload is that nwk_open, or nwk_open_burst, spoke of: by the mark in the opened record, the payload's length and the
+ * frame's. Length: the payload's bytes, 0 for NWK_MARK_NONE. NWK_CLEAR(answer) is 1 if they are in the frame, from
+ * NWK_FIRST(answer) on, and 0 if they are at the front of out. nwk_payload makes an address of it. Refusals: 1 a payload or a frame
+ * over 118; 13 a mark above 2. */
+uint64_t nwk_payload_place(uint8_t mark, uint64_t length, uint64_t frame_length);
+
 #define NWK_PAYLOAD_OPAQUE 0
 #define NWK_PAYLOAD_COMMAND 1
 
@@ -404,9 +413,9 @@ uint64_t nwk_decrypt_ccm(uint64_t key_first, uint64_t key_second, const uint8_t 
                          size_t auth_len, const uint8_t *ciphertext, size_t ciphertext_len, const uint8_t mic[4],
                          uint8_t *out, size_t out_len);
 
-/* Take the MIC, the last 4 bytes, off ciphertext with MIC. Length: that of the ciphertext in front of it. Refusals: 16 fewer than 4
- * bytes. */
-uint64_t nwk_split_mic(const uint8_t *bytes, size_t bytes_len, uint8_t mic[4]);
+/* Take the MIC, the last 4 bytes, off ciphertext with MIC: front is then the length of the ciphertext before it, whatever that is.
+ * Length: the MIC's. Refusals: 16 fewer than 4 bytes. */
+uint64_t nwk_split_mic(const uint8_t *bytes, size_t bytes_len, uint8_t mic[4], uint64_t *front);
 
 /* One block of AES-128 (FIPS 197). Length: 16. Nothing is refused. Not in place. */
 uint64_t nwk_encrypt_block(uint64_t key_first, uint64_t key_second, const uint8_t block[16], uint8_t out[16]);
@@ -470,7 +479,8 @@ static inline const uint8_t *nwk_payload(uint64_t answer, const uint8_t *bytes, 
   if (NWK_REFUSAL(answer) != NWK_ACCEPTED) {
     return NULL;
   }
-  return NWK_CLEAR(answer) ? bytes + (bytes_len - NWK_LENGTH(answer)) : out;
+  const uint64_t place = nwk_payload_place(NWK_CLEAR(answer) ? NWK_MARK_CLEAR : NWK_MARK_SEALED, NWK_LENGTH(answer), bytes_len);
+  return NWK_CLEAR(place) ? bytes + NWK_FIRST(place) : out;
 }
 
 /* The length of a journal without an append that a power cut left unfinished: a tail that begins with 0 and has at most

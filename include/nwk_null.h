@@ -101,8 +101,8 @@ static inline uint64_t nwk_decrypt_ccm_or_null(uint64_t first, uint64_t second, 
   return nwk_decrypt_ccm(first, second, nonce, nwk_given(auth, a), a, nwk_given(ciphertext, n), n, mic, nwk_lent(out, room), room);
 }
 
-static inline uint64_t nwk_split_mic_or_null(const uint8_t *bytes, size_t n, uint8_t mic[4]) {
-  return nwk_split_mic(nwk_given(bytes, n), n, mic);
+static inline uint64_t nwk_split_mic_or_null(const uint8_t *bytes, size_t n, uint8_t mic[4], uint64_t *front) {
+  return nwk_split_mic(nwk_given(bytes, n), n, mic, front);
 }
 
 #define nwk_read_header nwk_read_header_or_null

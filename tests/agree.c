@@ -57,7 +57,7 @@ static const struct shape shapes[OPERATIONS] = {
     {"nwk_seal", 1, 3, 1},            {"nwk_open", 1, 1, 2},          {"nwk_open_burst", 1, 2, 2},
     {"nwk_payload_kind", 0, 1, 0},    {"nwk_read_command", 0, 1, 1},  {"nwk_write_command", 0, 1, 1},
     {"nwk_timeout_seconds", 0, 1, 0}, {"nwk_encrypt_ccm", 1, 3, 2},   {"nwk_decrypt_ccm", 1, 4, 1},
-    {"nwk_split_mic", 0, 1, 1},       {"nwk_encrypt_block", 1, 1, 1},
+    {"nwk_split_mic", 0, 1, 2},       {"nwk_encrypt_block", 1, 1, 1},
 };
 
 struct buffer {
@@ -97,6 +97,16 @@ static uint64_t open_burst(struct call *c) {
                         c->out[1].n);
 }
 
+/* The length of the ciphertext goes through a number of its own to its buffer of eight bytes. */
+static uint64_t split_mic(struct call *c) {
+  uint64_t front = nwk_get64(c->out[1].bytes);
+  const uint64_t answer = nwk_split_mic(c->in[0].bytes, c->in[0].n, c->out[0].bytes, &front);
+  for (int i = 0; i < 8; i++) {
+    c->out[1].bytes[i] = (uint8_t)(front >> 8 * i);
+  }
+  return answer;
+}
+
 static uint64_t perform(struct call *c) {
   const uint64_t k1 = c->key_first, k2 = c->key_second;
   struct buffer *in = c->in, *out = c->out;
@@ -134,7 +144,7 @@ static uint64_t perform(struct call *c) {
   case DECRYPT_CCM:
     return nwk_decrypt_ccm(k1, k2, in[0].bytes, IN(1), IN(2), in[3].bytes, OUT(0));
   case SPLIT_MIC:
-    return nwk_split_mic(IN(0), out[0].bytes);
+    return split_mic(c);
   case ENCRYPT_BLOCK:
     return nwk_encrypt_block(k1, k2, in[0].bytes, out[0].bytes);
   case OPERATIONS:
@@ -211,7 +221,7 @@ static size_t array(const struct call *c, size_t output) {
   case ENCRYPT_CCM:
     return output == 1 ? 4 : 0;
   case SPLIT_MIC:
-    return 4;
+    return output == 0 ? 4 : 8;
   case ENCRYPT_BLOCK:
     return 16;
   default:

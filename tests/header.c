@@ -251,7 +251,8 @@ static void print_empty(void) {
   uint8_t mic[4] = {0};
   print_answer("encrypt_ccm", nwk_encrypt_ccm(0, 0, nonce, NULL, 0, NULL, 0, NULL, 0, mic));
   print_answer("decrypt_ccm", nwk_decrypt_ccm(0, 0, nonce, NULL, 0, NULL, 0, mic, NULL, 0));
-  print_answer("split_mic", nwk_split_mic(NULL, 0, mic));
+  uint64_t front = 0;
+  print_answer("split_mic", nwk_split_mic(NULL, 0, mic, &front));
 }
 
 int main(void) {

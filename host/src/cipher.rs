@@ -93,9 +93,11 @@ pub fn decrypt_ccm(
 /// Refusal 16.
 pub fn split_mic(bytes: &[u8]) -> Result<(&[u8], [u8; 4]), Refusal> {
     let mut mic = [0; 4];
-    // SAFETY: the pointer goes with the length of its slice, the MIC has four places, and they do not overlap.
-    let n = length(unsafe { sys::nwk_split_mic(bytes.as_ptr(), bytes.len(), &mut mic) })?;
-    Ok((bytes.get(..n).ok_or(Refusal::INTERNAL)?, mic))
+    let mut front = 0;
+    // SAFETY: the pointer goes with the length of its slice, the MIC has four places, and no two overlap.
+    length(unsafe { sys::nwk_split_mic(bytes.as_ptr(), bytes.len(), &mut mic, &mut front) })?;
+    let front = usize::try_from(front).map_err(|_| Refusal::INTERNAL)?;
+    Ok((bytes.get(..front).ok_or(Refusal::INTERNAL)?, mic))
 }
 
 /// One block of AES-128.

@@ -451,12 +451,17 @@ impl OpenedRecord {
     /// Whether the frame was sealed, or by which number it was refused. A refused frame bears no mark, an accepted one does.
     pub(crate) fn is_sealed(&self) -> Result<bool, Refusal> {
         let refusal = accepted(Taker::new(&self.0, 0).byte());
-        match (refusal, Taker::new(&self.0, OPENED_MARK_AT).byte()) {
+        match (refusal, self.mark()) {
             (Err(refusal), MARK_NONE) => Err(refusal),
             (Ok(()), MARK_CLEAR) => Ok(false),
             (Ok(()), MARK_SEALED) => Ok(true),
             _ => Err(Refusal::INTERNAL),
         }
+    }
+
+    /// The code of the mark.
+    pub(crate) fn mark(&self) -> u8 {
+        Taker::new(&self.0, OPENED_MARK_AT).byte()
     }
 
     /// The payload's length, wherever it stands.

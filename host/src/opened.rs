@@ -1,5 +1,6 @@
 //! What opening gives of a frame: a sealed one, or a clear one.
-use crate::{Eui64, NwkAuxHeader, NwkHeader, OpenedRecord, Refusal};
+use crate::refusal::{is_clear, length};
+use crate::{sys, Eui64, NwkAuxHeader, NwkHeader, OpenedRecord, Refusal};
 
 /// A frame as opened, with its mark: whether it was sealed. [`open`](crate::open) gives it, and
 /// [`open_burst`](crate::open_burst) one for each frame.
@@ -76,23 +77,28 @@ impl<'a> Opened<'a> {
         }
     }
 
-    /// The frame of a record that the codec filled in, or the record's refusal. The payload stands at the front of the output
-    /// if the frame was sealed, else at its own end.
+    /// The frame of a record that the codec filled in, or the record's refusal.
     pub(crate) fn from_record(record: &OpenedRecord, frame: &'a [u8], out: &'a [u8]) -> Result<Self, Refusal> {
         let is_sealed = record.is_sealed()?;
-        let n = record.length();
+        let payload = payload(record, frame, out)?;
         match (is_sealed, record.headers()?, record.nonce_ieee()) {
             (true, (header, Some(auxiliary)), Some(nonce_ieee)) => {
-                let payload = out.get(..n).ok_or(Refusal::INTERNAL)?;
                 Ok(Self::Sealed(OpenedFrame { header, auxiliary, nonce_ieee, payload }))
             }
-            (false, (header, None), None) => {
-                let start = frame.len().checked_sub(n).ok_or(Refusal::INTERNAL)?;
-                Ok(Self::Clear(ClearFrame { header, payload: &frame[start..] }))
-            }
+            (false, (header, None), None) => Ok(Self::Clear(ClearFrame { header, payload })),
             _ => Err(Refusal::INTERNAL),
         }
     }
+}
+
+/// The payload of a record, in the frame or the output as the codec says.
+fn payload<'a>(record: &OpenedRecord, frame: &'a [u8], out: &'a [u8]) -> Result<&'a [u8], Refusal> {
+    // SAFETY: numbers go in and one comes out.
+    let place = unsafe { sys::nwk_payload_place(record.mark(), record.length() as u64, frame.len() as u64) };
+    let n = length(place)?;
+    let first = usize::from(place.to_le_bytes()[6]);
+    let bytes = if is_clear(place) { frame } else { out };
+    bytes.get(first..first + n).ok_or(Refusal::INTERNAL)
 }
 
 #[cfg(test)]

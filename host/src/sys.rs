@@ -56,6 +56,7 @@ extern "C" {
         out: *mut u8,
         out_len: usize,
     ) -> u64;
+    pub fn nwk_payload_place(mark: u8, length: u64, frame_length: u64) -> u64;
     pub fn nwk_payload_kind(frame_type: u8) -> u64;
     pub fn nwk_inbound_network_key(
         key_first: u64,
@@ -121,6 +122,6 @@ extern "C" {
         out: *mut u8,
         out_len: usize,
     ) -> u64;
-    pub fn nwk_split_mic(bytes: *const u8, bytes_len: usize, mic: *mut [u8; 4]) -> u64;
+    pub fn nwk_split_mic(bytes: *const u8, bytes_len: usize, mic: *mut [u8; 4], front: *mut u64) -> u64;
     pub fn nwk_encrypt_block(key_first: u64, key_second: u64, block: *const [u8; 16], out: *mut [u8; 16]) -> u64;
 }

@@ -394,3 +394,13 @@ fn ccm_and_blocks() {
         }
     }
 }
+
+/// Document 01: `split_mic` has no upper limit. Pages that nobody touches cost no memory.
+#[test]
+fn a_ciphertext_of_more_than_32_bits_is_split_too() {
+    let n = (1 << 32) + 4;
+    let mut bytes = vec![0; n];
+    bytes[n - 4..].copy_from_slice(&[1, 2, 3, 4]);
+    let (ciphertext, mic) = split_mic(&bytes).unwrap();
+    assert_eq!((ciphertext.len(), mic), (1 << 32, [1, 2, 3, 4]));
+}

@@ -1,26 +1,25 @@
 -- The answers of the operations at each return of the code, over plain lists and numbers: a refusal by its number, and what
 -- is given past the refusals.
 -- Assumes nothing.
-use mathlib.Core.Path.{_≡_, refl, sym, ap, _∙_, fun-ext}
+use mathlib.Core.Path.{_≡_, refl, sym, ap, _∙_}
 use mathlib.Core.Bool.{Bool, true, false}
 use mathlib.Core.List.{List, [], _∷_}
-use Prim.Native.Nat.{ℕ, _+_, _-_, _≤_, _<_}
+use Prim.Native.Nat.{ℕ, _+_, _-_, _≤_}
 use native.Mathlib.Omega.{arith}
 use native.Mathlib.Nat.{add-zero}
-use borrow.Author.Tests.{lt-ltb, le-ltb, ltb-false}
+use borrow.Author.Tests.{ltb-false}
 use lib.ListN.{length, getD, take, drop, length-drop}
 use lib.Seq.{take-all, getD-drop}
 use Rattle.octets.specs.Strings.{tab, over}
-use Rattle.octets.specs.Refusals.{firstOf}
 use Rattle.octets.proofs.Strings.{tab-ext, tab-getD, take-over}
 use Rattle.octets.proofs.Conditions.{none}
-use Rattle.aes.specs.Cipher.{cipher, aes128}
+use Rattle.aes.specs.Cipher.{cipher}
 use Rattle.ccm.specs.Counters.{counterMode}
 use Rattle.ccm.specs.Generation.{encryptedTag, generationEncryption}
 use Rattle.ccm.specs.Verification.{Verified, tagValid, decryptionVerification}
 use Rattle.ccm.proofs.Opening.{length-counterMode}
 use Rattle.ccm.proofs.RoundKeys.{cipher-is}
-use Rattle.ccm.specs.Operations.{micLength, sealedBy, openedBy, openedUnder, expanded, sealRefusal, givenIf}
+use Rattle.ccm.specs.Operations.{micLength, sealedBy, openedUnder, expanded, sealRefusal, givenIf}
 
 -- ---- the refusals in their order
 

@@ -96,10 +96,13 @@ module _ (isLast : Bool) (t : ℕ) (h : NwkHeader) (a : OptionAuxHeader) (n room
   pub seal-accepts : Sealable isLast t h a n room → firstOf (sealRefusals isLast t h a n room) ≡ 0
   unfolding sealRefusals lengthRefusals
   seal-accepts s =
-      none-refuse _
-      (headers-accepted h a (s .headers),
-      (s .counter,
-      (rw (le-ltb 108 n (s .payload)) (le-ltb 118 (sealedLength t h (orBlank a) n) (s .whole)), (le-ltb room (sealedLength t h (orBlank a) n) (s .fits), tt))))
+      none-refuse _ (
+        headers-accepted h a (s .headers),
+        (
+          s .counter,
+          (rw (le-ltb 108 n (s .payload)) (le-ltb 118 (sealedLength t h (orBlank a) n) (s .whole)), (le-ltb room (sealedLength t h (orBlank a) n) (s .fits), tt)),
+        ),
+      )
 
 -- what sealing leaves, by its number
 module _ (n : ℕ) (bs o : List ℕ) where
@@ -196,10 +199,13 @@ module _ (t number : ℕ) (h : NwkHeader) (a : OptionAuxHeader) (part room : ℕ
   keyless-accepts : Keyless t number h a part room → firstOf (openRefusals t number h a part room) ≡ 0
   unfolding openRefusals
   keyless-accepts k =
-      none-refuse _
-      (k .reads,
-      (off-if (isSealed h) _ (k .ieee),
-      (off-if (isSealed h) _ (λ s. le-ltb part t (k .tagged s)), (off-if (isSealed h) _ (λ s. le-ltb room (part - t) (k .fits s)), tt))))
+      none-refuse _ (
+        k .reads,
+        (
+          off-if (isSealed h) _ (k .ieee),
+          (off-if (isSealed h) _ (λ s. le-ltb part t (k .tagged s)), (off-if (isSealed h) _ (λ s. le-ltb room (part - t) (k .fits s)), tt)),
+        ),
+      )
 
 module _ (l : NwkSecurityLevel) (t : ℕ) (ciph : List ℕ → List ℕ) (f : List ℕ) (r : FrameRead) where
   pub open-number : (o : List ℕ) → openBy l t ciph f r o .answer .refusal ≡ openRefusal l t ciph f r (length o)

@@ -12,7 +12,7 @@ use lib.Seq.{take-add, getD-drop, length-take-le}
 use Rattle.octets.proofs.Strings.{drop-below}
 use Rattle.octets.specs.Strings.{Below}
 use Rattle.octets.proofs.Conditions.{accepted}
-use Rattle.header.specs.declared.{auxiliary.NwkSecurityLevel.NwkSecurityLevel, auxiliary.NwkAuxHeader.NwkAuxHeader, auxiliary.AuxRead.AuxRead, nwk.HeaderRead.HeaderRead}
+use Rattle.header.specs.declared.{auxiliary.NwkSecurityLevel.NwkSecurityLevel, auxiliary.NwkAuxHeader.NwkAuxHeader}
 use Rattle.header.specs.Reading.{readHeader}
 use Rattle.header.specs.Auxiliary.{auxBytes}
 use Rattle.header.specs.AuxiliaryControl.{withLevel}

@@ -186,7 +186,11 @@ fn length_refusal(before: u8, front: usize, n: usize, room: usize) -> u8
     ensures { λ r. ⌜ r ≡ firstOf (by before ∷ lengthRefusals n (front + n) room) ⌝ }
 {
     let whole = octets::exceeds(MAX_MAC_PAYLOAD_SIZE, front, n);
-    let r = octets::refuse(before, refusals::LENGTH, octets::either(MAX_NSDU_SIZE < n, whole));
+    let r = octets::refuse(
+        before,
+        refusals::LENGTH,
+        octets::either(MAX_NSDU_SIZE < n, whole),
+    );
     octets::refuse(r, refusals::NO_ROOM, octets::exceeds(room, front, n))
 }
 

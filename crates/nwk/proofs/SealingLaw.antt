@@ -2,14 +2,14 @@
 -- its operation between the records' inverse laws, so the frame's law carries over.
 -- Assumes nothing.
 use mathlib.Core.Path.{_≡_, refl, sym, ap, _∙_}
-use mathlib.Core.Bool.{Bool, true, false, true≢false, cond, not}
+use mathlib.Core.Bool.{Bool, true, false, true≢false, cond}
 use mathlib.Core.List.{List, _++_, append-assoc}
 use Prim.Native.Nat.{ℕ, zero, suc, _+_, _-_, _*_, _/_, _%_, _^_, _≤_, _<_}
 use native.Mathlib.Decide.{decLt}
 use native.Mathlib.Omega.{arith}
 use borrow.Author.Tests.{ltb-false, le-ltb}
 use lib.Dec.{eqb, ltb}
-use lib.ListN.{length, take, drop, length-drop}
+use lib.ListN.{length, getD, take, drop, length-drop}
 use lib.Seq.{take-at, take-all}
 use Rattle.octets.specs.Strings.{over, Below}
 use Rattle.octets.specs.Numbers.{leAt}
@@ -34,28 +34,28 @@ use Rattle.frame.specs.declared.{OptionAuxHeader.OptionAuxHeader, Mark.Mark, Fr
 use Rattle.frame.specs.Reading.{secured, auxIf, auxBehind, frameRefusal, frameNumber, readFrame}
 use Rattle.frame.specs.Security.{networkLevel, sentLevel, orBlank}
 use Rattle.frame.specs.Writing.{lengthRefusals}
-use Rattle.frame.specs.Sealing.{sealedLength, sealedBytes, headersRefusal, sealRefusals, sealRefusal, counterOf, sealFrame}
+use Rattle.frame.specs.Sealing.{sealedBytes, headersRefusal, sealRefusals, sealRefusal, counterOf, sealFrame}
 use Rattle.frame.specs.Opening as opening
-use Rattle.frame.specs.Opening.{openRefusals, openRefused, openWith, openFrame, lastOf, payloadBy}
-use Rattle.frame.specs.Marks.{handedBack}
+use Rattle.frame.specs.Opening.{behind, openRefusals, openRefused, openWith, openFrame, lastOf, payloadBy}
 use Rattle.frame.specs.SealingLaw as frames
-use Rattle.frame.proofs.Accepted.{Sealable, frame-refusal, bytes-sealed}
+use Rattle.frame.proofs.Accepted.{Sealable, frame-refusal, bytes-sealed, run-either}
+use Rattle.frame.proofs.SecondHalf.{payload-length}
 use Rattle.frame.proofs.Levels.{level-fits}
 use Rattle.frame.proofs.FirstHalf as first-half-proofs
 use Rattle.frame.proofs.SealingLaw as frame-law
-use Rattle.frame.proofs.Marks.{marked-if-accepted, payload-length-said}
+use Rattle.frame.proofs.Marks.{marked-if-accepted}
 use Rattle.frame.proofs.Opened.{open-long}
 use Rattle.records.specs.HeaderRecord.{headerRecord, relaysFrom, headerOf, badHeaderRecord}
-use Rattle.records.specs.AuxiliaryRecord.{auxRecord, auxOf, badAuxRecord}
+use Rattle.records.specs.AuxiliaryRecord.{auxPresent, auxOf, badAuxRecord}
 use Rattle.records.specs.Optional.{ieeeIn, multicastIn, routeIn}
-use Rattle.records.specs.OpenedRecord.{optionRecord, optionOf, markCode, markOf, openedFront, openedRecord}
+use Rattle.records.specs.OpenedRecord.{optionRecord, optionOf, markCode, openedFront, openedRecord}
 use Rattle.records.proofs.Sizes.{length-front, length-header, length-option}
 use Rattle.records.proofs.Accepted.{header-taken, aux-taken}
 use Rattle.records.proofs.RoundTrip.{header-back, aux-back}
-use Rattle.records.proofs.OpenedBack.{option-back, header-part, aux-part, mark-back, AnswerFits, answer-fits}
-use Rattle.nwk.specs.Answer.{answer, clearBit, openedAnswer, answerBy, refusalIn, lengthIn, clearIn}
+use Rattle.records.proofs.OpenedBack.{option-back, header-part, aux-part, mark-back, answer-fits}
+use Rattle.nwk.specs.Answer.{answer, clearBit, openedAnswer, refusalIn, lengthIn, clearIn, firstIn}
 use Rattle.nwk.specs.Frames.{sealRecordsRefusal, sealedRecords, sealAnswer, sealOutput, openNumber, openRecordRefusal, openAnswer, openRecord, openOutput, payloadPlaceRefusal, placeOf, payloadPlace}
-use Rattle.nwk.specs.SealingLaw.{headerIn, auxiliaryIn, bytesSealed, FirstHalf, Reopened, Resealed, SecondHalf, bytesAt, PayloadPlaced}
+use Rattle.nwk.specs.SealingLaw.{headerIn, auxiliaryIn, bytesSealed, FirstHalf, Resealed, SecondHalf, bytesAt, PayloadPlaced}
 use Rattle.nwk.proofs.Calls.{answer-length, opened-length, opened-refusal}
 use Rattle.nwk.proofs.Refusals.{single}
 use Rattle.nwk.proofs.FrameRefusals.{open-number, opened-number}
@@ -118,10 +118,10 @@ header-of-fits r u =
       source = leAt-lt 2 r 12 u;
       radius = u 14;
       sequence = u 15;
-      destinationIeee = ieee-fits (eqb _ 1) (leAt 8 r 17) (leAt-lt 8 r 17 u);
-      sourceIeee = ieee-fits (eqb _ 1) (leAt 8 r 26) (leAt-lt 8 r 26 u);
-      multicast = multicast-fits (eqb _ 1) _ (u 35);
-      route = route-fits (eqb _ 1) _ _ (u 37) (u 38);
+      destinationIeee = ieee-fits (eqb (getD r 16 0) 1) (leAt 8 r 17) (leAt-lt 8 r 17 u);
+      sourceIeee = ieee-fits (eqb (getD r 25 0) 1) (leAt 8 r 26) (leAt-lt 8 r 26 u);
+      multicast = multicast-fits (eqb (getD r 34 0) 1) _ (u 35);
+      route = route-fits (eqb (getD r 36 0) 1) _ _ (u 37) (u 38);
       relays = relays-fit _ 54 (λ i. leAt-lt 2 r (39 + 2 * i) u);
     }
 
@@ -131,7 +131,9 @@ if-fits false a f = tt
 
 option-of-fits : (r : List ℕ) → Below 256 r → frames.AuxOptionFits (optionOf r)
 unfolding optionOf auxOf ieeeIn
-option-of-fits r u = if-fits _ _ (record { counter = leAt-lt 4 r 5 u; ieee = ieee-fits (eqb _ 1) (leAt 8 r 10) (leAt-lt 8 r 10 u); keySequence = u 18 })
+option-of-fits r u =
+    if-fits (auxPresent r) (auxOf r)
+    (record { counter = leAt-lt 4 r 5 u; ieee = ieee-fits (eqb (getD r 9 0) 1) (leAt 8 r 10) (leAt-lt 8 r 10 u); keySequence = u 18 })
 
 relay-or-none : (b : Bool) (x : Nwk) → x .0 < 2 ^ 16 → cond b x noNwk .0 < 2 ^ 16
 relay-or-none true x h = h
@@ -172,23 +174,29 @@ counter-in (OptionAuxHeader.Present x) f = ap (λ (y : NwkAuxHeader). y .«frame
 -- ---- the two records in an opened record
 
 module _ (w : List ℕ) (a : FrameOpened) where
+  front : List ℕ
+  front = openedFront (a .refusal) (markCode (a .mark)) (a .length) (a .«nonce_ieee»)
+
+  front-size : length front ≡ 16
+  unfolding front
+  front-size = length-front (a .refusal) (markCode (a .mark)) (a .length) (a .«nonce_ieee»)
+
   rest : List ℕ
   rest = drop (length (openedRecord a)) w
 
-  in-parts-of : over w 0 (openedRecord a)
-      ≡ openedFront (a .refusal) (markCode (a .mark)) (a .length) (a .«nonce_ieee») ++ (headerRecord (a .header) ++ (optionRecord (a .aux) ++ rest))
-  unfolding openedRecord rest
-  in-parts-of =
-      let front = openedFront (a .refusal) (markCode (a .mark)) (a .length) (a .«nonce_ieee») in
-      over-front w (openedRecord a) ∙ append-assoc front (headerRecord (a .header) ++ optionRecord (a .aux)) _
-      ∙ ap (λ (l : List ℕ). front ++ l) (append-assoc (headerRecord (a .header)) (optionRecord (a .aux)) _)
+  by-parts : over w 0 (openedRecord a) ≡ front ++ (headerRecord (a .header) ++ (optionRecord (a .aux) ++ rest))
+  unfolding openedRecord front rest
+  by-parts =
+      over-front w (openedRecord a) ∙ append-assoc front (headerRecord (a .header) ++ optionRecord (a .aux)) rest
+      ∙ ap (λ (l : List ℕ). front ++ l) (append-assoc (headerRecord (a .header)) (optionRecord (a .aux)) rest)
 
   header-in : headerIn (over w 0 (openedRecord a)) ≡ headerRecord (a .header)
-  header-in = ap headerIn in-parts-of ∙ header-part _ (headerRecord (a .header)) _ (length-front _ _ _ _) (length-header (a .header))
+  header-in = ap headerIn by-parts ∙ header-part front (headerRecord (a .header)) (optionRecord (a .aux) ++ rest) front-size (length-header (a .header))
 
   auxiliary-in : auxiliaryIn (over w 0 (openedRecord a)) ≡ optionRecord (a .aux)
   auxiliary-in =
-      ap auxiliaryIn in-parts-of ∙ ap (take 19) (aux-part _ (headerRecord (a .header)) _ (length-front _ _ _ _) (length-header (a .header)))
+      ap auxiliaryIn by-parts
+      ∙ ap (take 19) (aux-part front (headerRecord (a .header)) (optionRecord (a .aux) ++ rest) front-size (length-header (a .header)))
       ∙ take-at (optionRecord (a .aux)) rest 19 (length-option (a .aux))
 
 -- ---- nwk_open by opening
@@ -259,11 +267,16 @@ sealed-then-opened key h OptionAuxHeader.Absent p isLast room out fits agree s w
 sealed-then-opened key h (OptionAuxHeader.Present x) p isLast room out fits agree s within =
     let run =
     first-half-proofs.reopened networkLevel micLength key h x p (fits .header) (fits .auxiliary) (s .headers .good) (agree .security) (agree .header) (agree .auxiliary)
-    (s .whole) out (s .headers .ieee) within in
-    (ap (λ (r : opening.Run). r .answer .refusal) run,
-    (ap (λ (r : opening.Run). r .answer .mark) run,
-    (ap (λ (r : opening.Run). r .answer .length) run,
-    (ap (λ (r : opening.Run). r .answer .header) run, (ap (λ (r : opening.Run). r .answer .aux) run, ap (λ (r : opening.Run). r .out) run)))))
+    (s .whole) out (s .headers .ieee) within in (
+      ap (λ (r : opening.Run). r .answer .refusal) run,
+      (
+        ap (λ (r : opening.Run). r .answer .mark) run,
+        (
+          ap (λ (r : opening.Run). r .answer .length) run,
+          (ap (λ (r : opening.Run). r .answer .header) run, (ap (λ (r : opening.Run). r .answer .aux) run, ap (λ (r : opening.Run). r .out) run)),
+        ),
+      ),
+    )
 
 pub first-half : FirstHalf
 unfolding sealRecordsRefusal sealedRecords
@@ -345,14 +358,25 @@ second-half first second f w o out bytes ok clear control other size =
 
 -- ---- the payload's place
 
+-- the parts of the number of a payload in the frame
+module _ (n d : ℕ) (h : n ≤ 118) (k : d ≤ 118) where
+  length-back : lengthIn (n + 2 ^ 40 + d * 2 ^ 48) ≡ n
+  length-back = omega arith
+
+  clear-back : clearIn (n + 2 ^ 40 + d * 2 ^ 48) ≡ 1
+  clear-back = omega arith
+
+  first-back : firstIn (n + 2 ^ 40 + d * 2 ^ 48) ≡ d
+  first-back = omega arith
+
 -- the bytes at the place of a mark, for a payload and a frame that fit 118 bytes
 at-place : (m : Mark) (n : ℕ) (f o : List ℕ) → n ≤ 118 → length f ≤ 118 → bytesAt (placeOf m n (length f)) f o ≡ payloadBy m n f o
 at-place Mark.Unmarked n f o h k = refl
 at-place Mark.Clear n f o h k =
-    let size : lengthIn (placeOf Mark.Clear n (length f)) ≡ n = omega arith in
-    let which : clearIn (placeOf Mark.Clear n (length f)) ≡ 1 = omega arith in
-    let first : placeOf Mark.Clear n (length f) / 2 ^ 48 % 2 ^ 8 ≡ length f - n = omega arith in
-    (λ i. take (size i) (drop (first i) (cond (eqb (which i) 1) f o))) ∙ take-all n (lastOf n f) (rw length-drop (omega arith))
+    let d = length f - n in
+    let small : d ≤ 118 = omega arith in
+    (λ i. take (length-back n d h small i) (drop (first-back n d h small i) (cond (eqb (clear-back n d h small i) 1) f o)))
+    ∙ take-all n (lastOf n f) (rw length-drop (omega arith))
 at-place Mark.Sealed n f o h k =
     let size : lengthIn n ≡ n = omega arith in
     let which : clearIn n ≡ 0 = omega arith in
@@ -362,3 +386,27 @@ at-place Mark.Sealed n f o h k =
 -- a frame that is opened has at most 118 bytes
 frame-short : (key f o : List ℕ) → openFrame key f o .answer .refusal ≡ 0 → length f ≤ 118
 frame-short key f o e = elim (decLt 118 (length f)) [ yes l ↦ absurd (omega (arith, open-long (ciphOf key) f o l, e)) | no l ↦ omega arith ]
+
+-- nor has what it gives
+answer-short : (ciph : List ℕ → List ℕ) (f o : List ℕ) → length f ≤ 118 → openWith ciph f o .answer .length ≤ 118
+unfolding openWith openRefused behind
+answer-short ciph f o h =
+    let cut = length-drop (readFrame f .length) f in
+    run-either networkLevel micLength ciph f (readFrame f) o (λ (r : opening.Run). r .answer .length ≤ 118)
+    (λ w. omega (arith, payload-length networkLevel micLength ciph f (readFrame f), cut)) (λ e off. omega (arith, cut)) (omega arith)
+
+mark-known : (m : Mark) → ltb 2 (markCode m) ≡ false
+mark-known Mark.Unmarked = refl
+mark-known Mark.Clear = refl
+mark-known Mark.Sealed = refl
+
+pub payload-placed : PayloadPlaced
+unfolding payloadPlaceRefusal payloadPlace
+payload-placed key f o u e =
+    let a = openFrame key f o .answer in
+    let long = frame-short key f o e in
+    let short = answer-short (ciphOf key) f o long in
+    let number : payloadPlaceRefusal (markCode (a .mark)) (a .length) (length f) ≡ 0 =
+    none-refuse _ (rw (le-ltb 118 (a .length) short) (le-ltb 118 (length f) long), (mark-known (a .mark), tt)) in
+    ap (λ (x : ℕ). bytesAt x f (openFrame key f o .out)) (accepted _ _ _ number ∙ ap (λ (m : Mark). placeOf m (a .length) (length f)) (mark-back (a .mark)))
+    ∙ at-place (a .mark) (a .length) f (openFrame key f o .out) short long

@@ -10,7 +10,6 @@ use Rattle.octets.specs.Strings.{tab, over, xored}
 use Rattle.octets.specs.Numbers.{le, leAt}
 use Rattle.octets.specs.Fields.{fields, packed}
 use Rattle.octets.specs.Refusals.{unless, firstOf}
-use Rattle.octets.specs.Writing.{written}
 use Rattle.aes.specs.Cipher.{aes128}
 use Rattle.ccm.specs.Formatting.{twoBytes, headed, flags, firstBlock, encodedData, blocksOf, blockAt, lastBlock, formatted}
 use Rattle.ccm.specs.Counters.{counterBlock, keyBlock, keyStream, streamFor, counterMode}
@@ -25,8 +24,9 @@ use Rattle.header.specs.AuxiliaryControl.{securityByte, securityOf, withLevel}
 use Rattle.header.specs.Auxiliary.{keySequenceAt, auxRefusal, auxBy, blankAux, readAux, auxBytes}
 use Rattle.frame.specs.Reading.{frameRefusal, frameRefused, frameNumber, frameBy, readFrame}
 use Rattle.frame.specs.Security.{networkLevel, sentLevel, atLevel, orBlank, nonce, authenticated}
-use Rattle.frame.specs.Sealing.{generated, sealedBytes, sealedLength, lengthRefusals, sealRefusal, sealFrame}
-use Rattle.frame.specs.Opening.{behind, ciphertextOf, micOf, verified, openRefusals, openRefusal, openRefused, sealedGiven, openNothing, openBy, openFrame}
+use Rattle.frame.specs.Writing.{lengthRefusals}
+use Rattle.frame.specs.Sealing.{generated, sealedBytes, sealedLength, headersRefusal, sealRefusals, sealRefusal, sealRefused, sealBy, sealFrame}
+use Rattle.frame.specs.Opening.{behind, ciphertextOf, micOf, verified, openRefusals, openRefusal, openRefused, sealedGiven, openNothing, openBy, openWith}
 use Rattle.boundary.specs.Rows.{All}
 use Rattle.boundary.specs.Starred.{fromProbe}
 use Rattle.worked_frames.specs.Bytes.{hex}
@@ -91,20 +91,21 @@ opened =
 -- ---- the rows
 
 seals-before : Holds (seals (counted probeIeee 0xFFFFFFFE) (0xAA ∷ []) sealedBefore)
-unfolding over unless firstOf written tab le packed controlWord relayBytes fixedBytes optionalBytes headerBytes badControl badHeader fieldRefusal
-    securityByte withLevel auxBytes atLevel sealedBytes sealedLength lengthRefusals sealRefusal sealFrame fromProbe probe counted probeIeee hex sealedBefore
+unfolding over unless firstOf tab le packed controlWord relayBytes fixedBytes optionalBytes headerBytes badControl badHeader fieldRefusal
+    securityByte withLevel auxBytes atLevel sealedBytes sealedLength headersRefusal lengthRefusals sealRefusals sealRefusal sealBy sealFrame fromProbe probe counted probeIeee hex sealedBefore
 seals-before =
-    ap (λ (g : Generated). written 0 ((headerBytes probe ++ auxBytes (atLevel sentLevel (orBlank (counted probeIeee 0xFFFFFFFE)))) ++ (g .ciphertext ++ g .tag)) lent) sealed
+    ap (λ (g : Generated). sealBy 0 ((headerBytes probe ++ auxBytes (atLevel sentLevel (orBlank (counted probeIeee 0xFFFFFFFE)))) ++ (g .ciphertext ++ g .tag)) lent) sealed
 
 opens-last : Holds (opens sealedLast (counted probeIeee 0xFFFFFFFF) probeIeee (0xAA ∷ []))
 unfolding tab over le leAt fields packed unless firstOf controlOf sourceAt multicastAt routeAt relaysAnnounced headerEnd optionalRefusals
     headerRefusal relaysOf headerBy blankHeader readHeader securityOf withLevel keySequenceAt auxRefusal auxBy readAux
     frameRefusal frameRefused frameNumber frameBy readFrame
-    behind ciphertextOf micOf verified openRefusals openRefusal openRefused openBy openFrame fromProbe probe counted probeIeee hex sealedLast
+    behind ciphertextOf micOf verified openRefusals openRefusal openRefused openBy openWith fromProbe probe counted probeIeee hex sealedLast
 opens-last =
     ap (λ (v : Verified). unless (cond (not (v .valid)) 19 0) (sealedGiven (readFrame sealedLast) v lent) (openNothing (cond (not (v .valid)) 19 0) lent)) opened
 
 pub cases-hold : All Holds cases
-unfolding unless firstOf written tab le packed controlWord relayBytes fixedBytes optionalBytes headerBytes badControl badHeader fieldRefusal
-    securityByte withLevel auxBytes blankAux sealedLength lengthRefusals sealRefusal sealFrame fromProbe probe counted probeIeee cases
+unfolding unless firstOf tab le packed controlWord relayBytes fixedBytes optionalBytes headerBytes badControl badHeader fieldRefusal
+    securityByte withLevel auxBytes blankAux sealedLength headersRefusal lengthRefusals sealRefusals sealRefusal sealRefused sealBy sealFrame
+    fromProbe probe counted probeIeee cases
 cases-hold = (seals-before, (refl, (refl, (refl, (refl, (refl, (opens-last, tt)))))))

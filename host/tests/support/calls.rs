@@ -253,7 +253,13 @@ fn through_c(call: &Call, inputs: &[Guarded], outputs: &mut [Guarded]) -> u64 {
             DecryptCcm => {
                 sys::nwk_decrypt_ccm(first, second, p(0).cast(), p(1), n(1), p(2), n(2), p(3).cast(), out[0], room(0))
             }
-            SplitMic => sys::nwk_split_mic(p(0), n(0), out[0].cast()),
+            SplitMic => {
+                // A number has a place of its own; its bytes are compared as those of the other outputs are.
+                let mut front = out[1].cast::<u64>().read_unaligned();
+                let answer = sys::nwk_split_mic(p(0), n(0), out[0].cast(), &mut front);
+                out[1].cast::<u64>().write_unaligned(front);
+                answer
+            }
             EncryptBlock => sys::nwk_encrypt_block(first, second, p(0).cast(), out[0].cast()),
         }
     }

@@ -21,6 +21,8 @@ pub const MAX_BURST: usize = 16;
 pub const PART: usize = 108;
 pub const MIC: usize = 4;
 pub const BLOCK: usize = 16;
+/// A number of eight bytes that a call leaves.
+pub const NUMBER: usize = 8;
 
 #[derive(Clone, Copy, PartialEq, Eq, Debug)]
 pub enum Operation {
@@ -184,6 +186,6 @@ static SHAPES: [Shape; 17] = [
         &[Length],
         &[1, 18, 19],
     ),
-    shape("nwk_split_mic", false, &[("bytes", true)], &[Array(MIC)], &[16]),
+    shape("nwk_split_mic", false, &[("bytes", true)], &[Array(MIC), Array(NUMBER)], &[16]),
     shape("nwk_encrypt_block", true, &[("block", false)], &[Array(BLOCK)], &[]),
 ];

@@ -1,5 +1,4 @@
 -- `refuse` meets its contract: two entries of a list. Assumes nothing.
-use borrow.Author.Needs.{needs}
 use mathlib.Core.Path.{sym, _∙_}
 use Rattle.octets.proofs.refuse.Statement.{statement}
 use Rattle.octets.proofs.refuse.Tie as tie

@@ -186,11 +186,11 @@ fn decrypt_ccm(key: &[u8; 16], nonce: &[u8], auth: &[u8], ciphertext: &[u8], mic
     given(ccm::decrypt(key, nonce, auth, ciphertext, mic).ok_or(19)?)
 }
 
-/// `split_mic` has no upper limit.
+/// `split_mic` has no upper limit, so the length of the ciphertext is a number of its own.
 fn split_mic(bytes: &[u8]) -> Answer {
     refuse(&[(16, bytes.len() < MIC)])?;
     let (ciphertext, mic) = bytes.split_at(bytes.len() - MIC);
-    Ok(Done::new(ciphertext.len(), vec![mic.to_vec()]))
+    Ok(Done::new(MIC, vec![mic.to_vec(), (ciphertext.len() as u64).to_le_bytes().to_vec()]))
 }
 
 fn encrypt_block(key: &[u8; 16], block: &[u8]) -> Answer {

@@ -1,8 +1,6 @@
 -- `nwk_payload_place` meets its contract: refused by its number, or the place that the mark says. Assumes nothing.
 use borrow.Author.Needs.{needs}
 use mathlib.Core.Path.{_≡_, refl, sym, ap, _∙_}
-use mathlib.Core.Bool.{_||_}
-use Prim.Native.Nat.{ℕ}
 use borrow.Author.Tests.{ltb-false}
 use lib.Dec.{ltb}
 use Rattle.octets.proofs.Conditions.{in-order, none, or-false, accepted-by}

@@ -1,5 +1,4 @@
 -- `mark_of` meets its contract: 1 and 2 are marks. Assumes nothing.
-use borrow.Author.Needs.{needs}
 use mathlib.Core.Path.{refl}
 use borrow.Author.Tests.{eq-eqb, ne-eqb}
 use Rattle.records.specs.OpenedRecord.{markOf}
