@@ -692,6 +692,15 @@ fn a_line_without_end_takes_little_memory() {
     assert!(out.starts_with("   2  data "), "{out}");
 }
 
+/// Nor does a file of keys without end.
+#[test]
+fn a_key_file_without_end_is_refused() {
+    let ran = run(&["open", "--key-file", "/dev/zero", "samples/store.pcap"], b"");
+    let message =
+        "store-reader: /dev/zero: more than 1048576 bytes are no file of keys\nstore-reader --help says more\n";
+    assert_eq!((ran.out.as_str(), ran.err.as_str(), ran.status), ("", message, 2));
+}
+
 /// A number is digits, or digits behind `0x`: a sign is none.
 #[test]
 fn a_sign_is_no_digit() {

@@ -19,6 +19,7 @@ use store_reader::{Eui64, JournalError, JournalFile, SenderRecord, Senders};
 use support::command::scratch;
 use support::journal_files::bytes;
 use support::model::journal::Entry;
+use support::random::Random;
 use system_calls::{fail, watched, Call, BROKEN};
 
 const SECTOR: usize = 512;
@@ -408,16 +409,43 @@ impl Gateway {
         noted
     }
 
-    fn forget(&mut self, sender: u64) {
+    fn forget(&mut self, sender: u64) -> bool {
         self.know(|known| known.senders.entry(sender).or_default().1.push(None));
         let forgotten = self.run(|gateway| gateway.journal.as_mut().map(|file| file.forget(Eui64::from(sender))));
-        if let Some(Ok(true)) = forgotten {
+        let done = matches!(forgotten, Some(Ok(_)));
+        if done {
             self.know(|known| drop(known.senders.insert(sender, (None, Vec::new()))));
         }
+        done
     }
 
     fn shrink(&mut self) -> bool {
         self.run(|gateway| gateway.journal.as_mut().is_some_and(|file| file.shrink().is_ok()))
+    }
+
+    /// Does something, with the journal open, or opened anew where it has stopped.
+    fn any(&mut self, random: &mut Random) {
+        let next = |gateway: &Self, sender: u64| {
+            let known = &gateway.life.borrow().known;
+            let tried = known.senders.get(&sender).map_or(&[][..], |(_, tried)| tried);
+            let told = known.senders.get(&sender).and_then(|(told, _)| *told);
+            tried.iter().flatten().copied().chain(told).max().unwrap_or(0) + 1
+        };
+        let sender = 7 + random.below(4) as u64;
+        let done = match random.below(10) {
+            0..=2 => self.counter(),
+            3..=5 => self.note(&[(sender, next(self, sender))]),
+            6 => {
+                let first = next(self, sender);
+                self.note(&(0..random.between(2, 16) as u32).map(|at| (sender, first + at)).collect::<Vec<_>>())
+            }
+            7 => self.shrink(),
+            8 => self.open(),
+            _ => self.forget(sender),
+        };
+        if !done {
+            let _ = self.open() || self.open();
+        }
     }
 
     /// Goes on, over the file opened anew where the journal has stopped: a counter and two senders are told to be on disk.
@@ -550,6 +578,42 @@ fn live_at_rest(what: &str, length: usize, operation: impl Fn(&mut Gateway)) -> 
     live(what, &[(NAME, journal)], known, |gateway| up_to(gateway, length), operation)
 }
 
+// ---- one cut behind the other
+
+/// A gateway that does this and that, opens its journal anew where it has stopped, and whose power is cut at a random moment, in a random
+/// state of its disk, from which the next one starts.
+#[test]
+fn one_cut_behind_the_other() {
+    let mut random = Random::new(0xD15C);
+    let folder = memory().join(format!("disk-lives-{}", std::process::id()));
+    let (journal, mut known) = at_rest();
+    let mut files = BTreeMap::from([(NAME.to_string(), journal)]);
+    let (mut failed, mut inside) = (0, 0);
+    for _ in 0..LIVES {
+        let failing = random.bit().then(|| random.below(80));
+        let given: Vec<(&str, Content)> =
+            files.iter().map(|(name, content)| (name.as_str(), content.clone())).collect();
+        let life = Life::new(&folder, &given, known.clone(), failing);
+        life.borrow_mut().is_ready = true;
+        let mut gateway = Gateway { life: life.clone(), journal: None };
+        for _ in 0..8 {
+            gateway.any(&mut random);
+        }
+        drop(gateway);
+        let life = Rc::into_inner(life).expect("nobody else has it").into_inner();
+        failed += usize::from(life.failed.is_some());
+        let Some((disk, then)) = life.moments.get(random.below(life.moments.len().max(1))) else { continue };
+        let states: Vec<_> = disk.states().into_iter().collect();
+        (files, known) = (states[random.below(states.len())].clone(), then.clone());
+        inside += usize::from(states.len() > 1);
+    }
+    fs::remove_dir_all(&folder).expect("the folder");
+    println!("{LIVES} lives: in {failed} a call failed, {inside} ended in one of several states");
+    assert!(failed > LIVES / 8 && inside > LIVES / 4, "{failed}, {inside}");
+}
+
+const LIVES: usize = 1000;
+
 // ---- the operations
 
 #[test]
@@ -574,19 +638,13 @@ fn opening_with_a_tail() {
     let (journal, known) = at_rest();
     let unfinished = [&[0][..], &Entry::Sender(7, 51).bytes()[1..]].concat();
     let part = [&journal[..], &[2, 7, 0, 0]].concat();
-    for tailed in
-        torn(&journal, journal.len(), &unfinished).into_iter().collect::<BTreeSet<_>>().into_iter().chain([part])
-    {
+    let tails: BTreeSet<Content> = torn(&journal, journal.len(), &unfinished).into_iter().collect();
+    let open = |gateway: &mut Gateway| {
+        gateway.open();
+    };
+    for tailed in tails.into_iter().step_by(2).chain([part]) {
         let files = [(NAME, tailed), ("journal.shrunk", vec![1, 200, 0, 0])];
-        let states = live(
-            "opening",
-            &files,
-            known.clone(),
-            |_| {},
-            |gateway| {
-                gateway.open();
-            },
-        );
+        let states = live("opening", &files, known.clone(), |_| {}, open);
         assert!(states > 400, "{states} states");
     }
 }
@@ -633,6 +691,8 @@ fn shrinking_by_itself() {
 
 #[test]
 fn forgetting() {
-    let states = live_at_rest("forgetting", 0, |gateway| gateway.forget(7));
+    let states = live_at_rest("forgetting", 0, |gateway| {
+        gateway.forget(7);
+    });
     assert!(states > 400, "{states} states");
 }

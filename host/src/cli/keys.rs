@@ -1,4 +1,6 @@
 //! The network keys that frames are tried with.
+use std::fs::File;
+use std::io::Read;
 use store_reader::{open, read, Eui64, Key, NwkAuxHeader, NwkHeader, Opened, OpenedFrame, Refusal, MAX_PAYLOAD};
 
 /// A key, and the key sequence number that it goes with if one was given.
@@ -26,9 +28,17 @@ impl NumberedKey {
     }
 }
 
+/// The most bytes of a file of keys, far more than any has: a file without end is not read whole.
+const LONGEST_FILE: u64 = 1 << 20;
+
 /// The keys of a file: one a line, comments behind `#`.
 pub fn of_file(path: &str) -> Result<Vec<NumberedKey>, String> {
-    let text = std::fs::read_to_string(path).map_err(|e| format!("{path}: {e}"))?;
+    let mut text = String::new();
+    let read = File::open(path).and_then(|file| file.take(LONGEST_FILE + 1).read_to_string(&mut text));
+    match read.map_err(|e| format!("{path}: {e}"))? as u64 {
+        0..=LONGEST_FILE => {}
+        _ => return Err(format!("{path}: more than {LONGEST_FILE} bytes are no file of keys")),
+    }
     let mut keys = Vec::new();
     for (number, line) in (1..).zip(text.lines()) {
         let line = line.split('#').next().unwrap_or("").trim();

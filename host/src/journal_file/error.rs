@@ -23,7 +23,7 @@ pub enum JournalError {
     Missing(PathBuf),
     /// There is a file of this name, and no journal is begun over it.
     Exists(PathBuf),
-    /// Another process has the journal open, or this one has it open already.
+    /// Another process has the journal open, this one has it open already, or a fork of one that had is still there.
     Locked(PathBuf),
     /// The name leads to another file or to none, or the file has another length than this process gave it: somebody has moved,
     /// removed, replaced or changed it. Nothing more is written or handed out, because no start would find it.
