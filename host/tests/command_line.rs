@@ -38,6 +38,7 @@ const SUMMARY: &str = "14 frames: 9 opened, 1 clear, 4 refused
      1 refused by 3: the frame type is 2
      1 refused by 10: an auxiliary header with extended nonce has 6 to 12 bytes
      2 refused by 19: the MIC is not the one computed
+         2 with a right frame check sequence: under another key, or altered
      1 with a wrong frame check sequence
 6 records without a NWK frame to open
      1 6LoWPAN frame
@@ -108,7 +109,7 @@ fn filters_choose_what_is_printed_and_not_what_is_counted() {
     assert_eq!(open(&["--source=d105", "--source=0000"]), numbered(OPENED, &[2, 5, 6, 7]) + SUMMARY);
     assert_eq!(open(&["--source", "0x7A10", "--refused"]), numbered(OPENED, &[8, 12]) + SUMMARY);
     let json = open(&["--summary-only", "--json"]);
-    assert!(json.starts_with(r#"{"summary":{"frames":14,"#) && json.lines().count() == 1, "{json}");
+    assert!(json.starts_with(r#"{"summary":{"json_version":1,"frames":14,"#) && json.lines().count() == 1, "{json}");
 }
 
 #[test]
@@ -156,7 +157,7 @@ fn keys_that_look_wrong_are_said_at_the_end() {
     // A table is left as it is, and the line comes on standard error.
     let ran = run(&["open", "--key", other, "--csv", "--by-sender", "samples/store.pcap"], b"");
     assert_eq!(ran.err, "store-reader: no key opened any of 11 sealed frames: the keys look wrong\n");
-    assert!(!ran.out.contains("wrong") && ran.status == 0, "{}", ran.out);
+    assert!(!ran.out.contains("look wrong") && ran.status == 0, "{}", ran.out);
     // A capture without any sealed frame says nothing of the keys, and clear frames beside sealed ones speak for no key.
     let clear = "0800000034121E07AA\n";
     let ran = run(&["open", "--key", other], clear.as_bytes());
@@ -305,8 +306,8 @@ fn json_is_one_object_a_line() {
         "\n",
         r#"{"line":3,"refusal":2,"condition":"a header has fewer than 8 bytes","bytes":"08"}"#,
         "\n",
-        r#"{"summary":{"frames":2,"accepted":1,"refused":1,"refusals":[{"refusal":2,"count":1,"#,
-        r#""condition":"a header has fewer than 8 bytes"}],"skipped":[],"wrong_fcs":0,"broken":1}}"#,
+        r#"{"summary":{"json_version":1,"frames":2,"accepted":1,"refused":1,"refusals":[{"refusal":2,"count":1,"#,
+        r#""condition":"a header has fewer than 8 bytes"}],"skipped":[],"wrong_fcs":0,"broken":1,"bytes_not_read":0}}"#,
         "\n"
     );
     assert_eq!((ran.out.as_str(), ran.status), (expected, 1));
@@ -349,6 +350,7 @@ clear,,1,
 refused,3,1,the frame type is 2
 refused,10,1,an auxiliary header with extended nonce has 6 to 12 bytes
 refused,19,2,the MIC is not the one computed
+of these,19,2,\"with a right frame check sequence: under another key, or altered\"
 not a NWK frame,,1,6LoWPAN frame
 not a NWK frame,,1,Green Power frame
 not a NWK frame,,1,MAC acknowledgement
@@ -357,6 +359,7 @@ not a NWK frame,,1,MAC data frame without a payload
 not a NWK frame,,1,inter-PAN frame
 wrong frame check sequence,,1,
 not read,,0,
+bytes not read,,0,
 ";
     assert_eq!((ran.out.as_str(), ran.err.as_str(), ran.status), (expected, "", 0));
     let quoted = run(&["refusals", "--csv"], b"").out;
@@ -448,13 +451,13 @@ fn marks_as_json() {
         "\n",
         r#"{"line":3,"refusal":2,"condition":"a header has fewer than 8 bytes","bytes":"08"}"#,
         "\n",
-        r#"{"summary":{"frames":3,"opened":1,"clear":1,"refused":1,"refusals":[{"refusal":2,"count":1,"#,
-        r#""condition":"a header has fewer than 8 bytes"}],"skipped":[],"wrong_fcs":0,"broken":0}}"#,
+        r#"{"summary":{"json_version":1,"frames":3,"opened":1,"clear":1,"refused":1,"refusals":[{"refusal":2,"count":1,"#,
+        r#""condition":"a header has fewer than 8 bytes"}],"skipped":[],"wrong_fcs":0,"broken":0,"bytes_not_read":0}}"#,
         "\n"
     );
     assert_eq!(open(&input), expected);
     let none = open(SEALED);
-    assert!(none.contains(r#"{"summary":{"frames":1,"opened":1,"clear":0,"refused":0,"#), "{none}");
+    assert!(none.contains(r#"{"summary":{"json_version":1,"frames":1,"opened":1,"clear":0,"refused":0,"#), "{none}");
 }
 
 /// Without a clear frame the line is as it was, and the table has its row with 0. Reading marks nothing.
@@ -583,8 +586,23 @@ fn wrong_arguments_are_named() {
             "open has --key-sequence only beside --replay: else no key sequence number is active",
         ),
         (&["open", "--key", KEY, "--replay", "--key-sequence=256"], "--key-sequence: \"256\" is no number that fits"),
-        (&["read", "a", "b"], "read takes one file here: \"b\""),
-        (&["read", "--", "--json", "b"], "read takes one file here: \"b\""),
+        (&["command", "a", "b"], "command takes one file here: \"b\""),
+        (&["command", "--", "--json", "b"], "command takes one file here: \"b\""),
+        (&["read", "-", "-"], "- is given twice"),
+        (&["open", "--by-sendr"], "open has no option --by-sendr; did you mean --by-sender?"),
+        (&["open", "--jmup=3"], "open has no option --jmup; did you mean --jump?"),
+        (&["opne"], "\"opne\" is no command; did you mean open?"),
+        (&["help", "raed"], "\"raed\" is no command; did you mean read?"),
+        (&["read", "--by", "week"], "--by: \"week\" is neither day nor hour"),
+        (&["read", "--by-sender", "--jump", "0"], "--jump: a counter rises by 1 at least"),
+        (&["read", "--jump", "7"], "read has --jump only beside --by-sender or --by"),
+        (&["read", "--frames"], "--frames is given only beside --csv"),
+        (&["read", "--json", "--frames"], "--frames is given only beside --csv"),
+        (&["read", "--csv", "--frames", "--summary-only"], "--frames and --summary-only exclude each other"),
+        (
+            &["read", "--csv", "--frames", "--by=day"],
+            "--frames has a row for each frame, and no rows by sender or time",
+        ),
         (&["read", "--source", "0x12345"], "--source: an odd number of hexadecimal digits, 5"),
         (&["journal", "--full"], "journal has no option --full"),
         (&["journal", "--csv"], "journal has no option --csv"),
@@ -631,7 +649,7 @@ fn the_version_is_that_of_the_crate() {
 
 #[test]
 fn help_shows_an_example_of_each_command() {
-    for arguments in [&["--help"][..], &["open", "--help"], &["help"], &["seal", "-h"]] {
+    for arguments in [&["--help"][..], &["help"], &["-h"]] {
         let ran = run(arguments, b"");
         assert_eq!((ran.err.as_str(), ran.status), ("", 0));
         let examples = ran.out.split("Examples").nth(1).expect("examples");
@@ -650,7 +668,7 @@ fn the_examples_of_the_help_run() {
     let path =
         format!("{}:{}", folder.parent().expect("a folder").display(), std::env::var("PATH").unwrap_or_default());
     let lines: Vec<&str> = examples.lines().filter(|line| !line.trim().is_empty()).collect();
-    assert_eq!(lines.len(), 9);
+    assert_eq!(lines.len(), 12);
     for line in lines {
         let ran =
             Command::new("sh").args(["-c", line]).env("PATH", &path).current_dir(root()).output().expect("a shell");

@@ -29,6 +29,8 @@ impl NumberedKey {
 /// The keys of a file: one a line, comments behind `#`.
 pub fn of_file(path: &str) -> Result<Vec<NumberedKey>, String> {
     let text = std::fs::read_to_string(path).map_err(|e| format!("{path}: {e}"))?;
+    // Some programs put a byte order mark in front of a text.
+    let text = text.strip_prefix('\u{FEFF}').unwrap_or(&text);
     let mut keys = Vec::new();
     for (number, line) in (1..).zip(text.lines()) {
         let line = line.split('#').next().unwrap_or("").trim();

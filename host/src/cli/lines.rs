@@ -13,7 +13,14 @@ pub struct Lines {
     next: Option<Line>,
     /// The first line with an offset in front.
     pub first_offset: Option<u64>,
+    /// The last frame came in a dump.
+    pub in_dump: bool,
+    /// The next dump is of something else than a frame.
+    no_frame: bool,
 }
+
+/// What some programs put in front of a text in UTF-8.
+const BYTE_ORDER_MARK: &[u8] = b"\xEF\xBB\xBF";
 
 /// The bytes of a line, or why they cannot be read.
 pub type Bytes = Result<Vec<u8>, String>;
@@ -23,10 +30,18 @@ impl Lines {
     pub fn next(&mut self, input: &mut impl BufRead) -> io::Result<Option<(u64, Bytes)>> {
         while let Some((number, line)) = self.line(input)? {
             let text = content(&line);
+            self.in_dump = false;
             match (text, dump_line(text)) {
                 ("", _) => {}
                 ("-", _) => return Ok(Some((number, Ok(Vec::new())))),
-                (_, Some((0, bytes))) => return self.dump(number, bytes, input).map(Some),
+                (_, Some((0, bytes))) => {
+                    let dump = self.dump(number, bytes, input)?;
+                    self.in_dump = true;
+                    if !std::mem::take(&mut self.no_frame) {
+                        return Ok(Some(dump));
+                    }
+                }
+                _ if is_title(text) => self.no_frame = !text.starts_with("Frame ("),
                 _ => return Ok(Some((number, digits(&line)))),
             }
         }
@@ -69,8 +84,16 @@ impl Lines {
             return Ok(None);
         }
         self.count += 1;
+        if self.count == 1 && bytes.starts_with(BYTE_ORDER_MARK) {
+            bytes.drain(..BYTE_ORDER_MARK.len());
+        }
         Ok(Some((self.count, String::from_utf8_lossy(&bytes).into_owned())))
     }
+}
+
+/// What tshark puts above the dumps of a frame and of what it made of it, where there are several: `Frame (53 bytes):`.
+fn is_title(text: &str) -> bool {
+    text.ends_with(" bytes):") || text.ends_with(" byte):")
 }
 
 /// A line without its comment and the blanks around it.
@@ -142,5 +165,18 @@ mod tests {
         let expected = [(1, Ok(vec![8, 0])), (2, Ok(vec![1, 2, 3, 4])), (6, wrong), (7, Ok(vec![9, 10]))];
         assert_eq!(found, expected);
         assert_eq!(lines.first_offset, Some(2));
+    }
+
+    /// tshark, given the key, has a dump of the frame and one of its payload; a byte order mark is no digit.
+    #[test]
+    fn titles_and_byte_order_marks() {
+        let text = "\u{FEFF}08\nFrame (2 bytes):\n0000  01 02\nDecrypted ZigBee Payload (1 byte):\n0000  03\n\n\
+                    Frame (1 bytes):\n0000  04\n";
+        let (mut input, mut lines) = (text.as_bytes(), Lines::default());
+        let mut found = Vec::new();
+        while let Some((_, bytes)) = lines.next(&mut input).unwrap() {
+            found.push((bytes.unwrap(), lines.in_dump));
+        }
+        assert_eq!(found, [(vec![8], false), (vec![1, 2], true), (vec![4], true)]);
     }
 }
