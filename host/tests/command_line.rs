@@ -188,6 +188,99 @@ fn key_files_are_read_line_by_line() {
     }
 }
 
+/// Notepad puts a byte order mark in front of a text.
+#[test]
+fn a_key_file_may_begin_with_a_byte_order_mark() {
+    let path = scratch("marked.keys");
+    fs::write(&path, format!("\u{FEFF}{KEY}\r\n")).expect("a key file");
+    let ran = run(&["open", "--key-file", path.to_str().expect("UTF-8"), "samples/store.pcap"], b"");
+    assert_eq!((ran.out, ran.err.as_str(), ran.status), (format!("{OPENED}{SUMMARY}"), "", 0));
+}
+
+/// Several files are one run: each behind its name, with records from 1, and one summary.
+#[test]
+fn several_files_in_one_run() {
+    let files = ["samples/store.pcap", "samples/store.pcapng"];
+    let alone = files.map(|file| run(&["open", "--key", KEY, file], b"").out);
+    let lines =
+        |text: &str| text.split_inclusive('\n').take_while(|line| !line.contains(" frames: ")).collect::<String>();
+    let ran = run(&[&["open", "--key", KEY][..], &files].concat(), b"");
+    let expected = format!(
+        "{}:\n{}{}:\n{}18 frames: 13 opened, 1 clear, 4 refused\n",
+        files[0],
+        lines(&alone[0]),
+        files[1],
+        lines(&alone[1])
+    );
+    assert!(ran.out.starts_with(&expected), "{}", ran.out);
+    assert_eq!((ran.err.as_str(), ran.status), ("", 0));
+    let json = run(&[&["open", "--key", KEY, "--json"][..], &files].concat(), b"").out;
+    assert!(json.contains("{\"file\":\"samples/store.pcapng\",\"record\":1,"), "{json}");
+    // A name that is wrong is told before anything is read, and standard input may be one of the files.
+    let ran = run(&["open", "--key", KEY, files[0], "no-such-file"], b"");
+    let message = "store-reader: no-such-file: No such file or directory (os error 2)\n";
+    assert_eq!((ran.out.as_str(), ran.err.as_str(), ran.status), ("", message, 2));
+    let ran = run(&["open", "--key", KEY, "--summary-only", files[0], "-"], &sample());
+    assert!(ran.out.starts_with("28 frames: 18 opened, 2 clear, 8 refused\n"), "{}", ran.out);
+    // What is wrong in one of them is told with its name, and the others are read.
+    let broken = scratch("broken.txt");
+    fs::write(&broken, "08 0\n").expect("a file");
+    let name = broken.to_str().expect("UTF-8");
+    let ran = run(&["open", "--key", KEY, "--summary-only", files[0], name, files[1]], b"");
+    assert_eq!(
+        (ran.err, ran.status),
+        (format!("store-reader: {name}: line 1: an odd number of hexadecimal digits, 3\n"), 1)
+    );
+    assert!(ran.out.starts_with("18 frames: 13 opened,"), "{}", ran.out);
+}
+
+/// One row a frame: as many as the sample has records, those of the frames that it was made of, and what the filters let through.
+#[test]
+fn one_row_a_frame() {
+    let open = |options: &[&str]| {
+        let arguments = [&["open", "--key", KEY, "--csv", "--frames"], options, &["samples/store.pcap"]].concat();
+        let ran = run(&arguments, b"");
+        assert_eq!((ran.err.as_str(), ran.status), ("", 0));
+        ran.out
+    };
+    let all = open(&[]);
+    let rows: Vec<&str> = all.lines().collect();
+    assert_eq!(rows.len(), 1 + 20);
+    let heads = rows[0].split(',').count();
+    let file = "samples/store.pcap";
+    for (record, row) in [
+        (
+            3,
+            "2026-11-18T11:06:42.000000Z,0x1A62,0x7A10,0x0000,right,opened,,,data,0x7A10,0x0000,7,,00:12:4B:00:1C:A1:B2:C3,0,74565,,,\
+             000102040401010118010A0000296608",
+        ),
+        (
+            8,
+            "2026-11-18T11:06:47.000000Z,0x1A62,0x7A10,0x0000,right,refused,19,the MIC is not the one computed,data,0x7A10,0x0000,8,,\
+             00:12:4B:00:1C:A1:B2:C3,0,74566,,,",
+        ),
+        (
+            11,
+            "2026-11-18T11:06:50.000000Z,0x1A62,0x7A10,0x0000,right,opened,,,command,0x7A10,0x0000,9,,00:12:4B:00:1C:A1:B2:C3,0,74567,,\
+             end device timeout request,0B0E00",
+        ),
+        (18, "2026-11-18T11:06:57.000000Z,0xFFFF,,0xFFFF,right,not a NWK frame,,Green Power frame,,,,,,,,,,,"),
+    ] {
+        assert_eq!(rows[record], format!("{file},{record},{row}"));
+        assert_eq!(rows[record].split(',').count(), heads);
+    }
+    assert_eq!(open(&["--refused"]).lines().count(), 1 + 4);
+    assert_eq!(open(&["--source", "0xD105"]).lines().count(), 1 + 2);
+    let lines = run(&["read", "--csv", "--frames"], b"08 00 00 00 34 12 1E 07 AA\n08 0\n");
+    let expected = "standard input,1,,,,,,read,,,data,0x1234,0x0000,7,,,,,,,AA\n\
+                    standard input,2,,,,,,not read,,\"an odd number of hexadecimal digits, 3\",,,,,,,,,,,\n";
+    assert_eq!(lines.out.split_once('\n').expect("heads").1, expected);
+    assert_eq!(
+        (lines.err.as_str(), lines.status),
+        ("store-reader: line 2: an odd number of hexadecimal digits, 3\n", 1)
+    );
+}
+
 #[test]
 fn a_damaged_frame_is_counted_and_the_rest_is_opened() {
     let mut capture = sample();

@@ -5,7 +5,7 @@ mod support;
 use std::collections::BTreeMap;
 use std::fs;
 use support::air::{Air, Device, Fate};
-use support::command::{run, scratch, KEY};
+use support::command::{run, scratch, tool, KEY};
 use support::random::Random;
 
 /// 2026-11-18, 20:00 UTC.
@@ -366,6 +366,42 @@ fn routers_and_the_probes_behind_them() {
             assert_eq!((row["received"].as_str(), row["key_numbers"].as_str()), ("", ""));
         }
     }
+}
+
+/// Local time by a zone with daylight saving time: the hour that the clock shows twice is two, and the day is one.
+#[test]
+fn local_days_and_hours() {
+    // 2026-10-24T21:30 in UTC; the clock goes back at 01:00 of the next day.
+    let mut air = Air::new(110, 1_792_877_400);
+    let mut device = Device::new(1, 0, 1_000);
+    for _ in 0..6 {
+        air.send(&mut device, Fate::Heard);
+        air.now += 3_600;
+    }
+    let path = scratch("clock.pcap");
+    fs::write(&path, air.capture()).expect("a capture");
+    let command = env!("CARGO_BIN_EXE_store-reader");
+    let told = |options: &[&str]| -> Vec<String> {
+        let name = path.to_str().expect("UTF-8");
+        let open = ["TZ=CET-1CEST,M3.5.0,M10.5.0/3", command, "open", "--key", KEY, "--csv", name];
+        let ran = tool("env", &[&open, options].concat()).expect("env");
+        let out = String::from_utf8(ran.stdout).expect("UTF-8");
+        out.lines().skip(1).map(|row| row.split(',').take(2).collect::<Vec<_>>().join(" ")).collect()
+    };
+    assert_eq!(told(&["--by=day"]), ["2026-10-24 3", "2026-10-25 3"]);
+    assert_eq!(told(&["--by=day", "--local"]), ["2026-10-24 1", "2026-10-25 5"]);
+    let hours =
+        ["24T23:00+02:00", "25T00:00+02:00", "25T01:00+02:00", "25T02:00+02:00", "25T02:00+01:00", "25T03:00+01:00"];
+    assert_eq!(told(&["--by=hour", "--local"]), hours.map(|hour| format!("2026-10-{hour} 1")));
+    assert_eq!(
+        told(&["--by=hour"])[3..],
+        ["25T00:00Z", "25T01:00Z", "25T02:00Z"].map(|hour| format!("2026-10-{hour} 1"))
+    );
+    let frames = told(&["--frames", "--local"]);
+    assert_eq!(frames.len(), 6);
+    let line = tool("env", &["TZ=IST-5:30", command, "open", "--key", KEY, "--local", path.to_str().expect("UTF-8")]);
+    let line = String::from_utf8(line.expect("env").stdout).expect("UTF-8");
+    assert!(line.starts_with("   1  2026-10-25T03:00:00.000000+05:30  "), "{line}");
 }
 
 /// A capture in several files is told as one: a sender's counters go on from file to file.

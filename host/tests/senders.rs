@@ -146,3 +146,31 @@ fn senders_of_read_frames() {
     let json = run(&["read", "--by-sender", "--summary-only", "--json", "samples/store.pcap"], b"").out;
     assert!(json.lines().all(|line| line.contains(r#","accepted":"#) && !line.contains("clear")), "{json}");
 }
+
+/// Clear frames of more senders than have a row: what comes beyond is counted in one, so that the columns add up.
+#[test]
+fn more_senders_than_rows() {
+    let (rows, beyond) = (100_000u32, 23);
+    let mut capture = [0xA1B2_C3D4u32, 0x0004_0002, 0, 0, 65_535, 230].map(u32::to_le_bytes).concat();
+    for n in 0..rows + beyond {
+        let (pan, source) = ((n >> 16) as u16, n as u16);
+        let mac = [&[0x41, 0x88, 1][..], &pan.to_le_bytes(), &[0, 0], &source.to_le_bytes()].concat();
+        let frame = [&mac[..], &[8, 0, 0, 0], &source.to_le_bytes(), &[30, 7, 0xAA]].concat();
+        capture.extend([n / 100, 0, frame.len() as u32, frame.len() as u32].map(u32::to_le_bytes).concat());
+        capture.extend(frame);
+    }
+    for options in [&["--by-sender"][..], &["--by-sender", "--by", "hour"]] {
+        let ran = run(&[&["open", "--key", KEY, "--csv"], options].concat(), &capture);
+        let told = "store-reader: more than 100000 rows or 10000 devices: the rest is told as further senders\n";
+        assert_eq!((ran.err.as_str(), ran.status), (told, 0));
+        let heads = ran.out.lines().next().expect("heads");
+        let at = heads.split(',').position(|head| head == "clear").expect("a column");
+        let clear = |row: &str| row.split(',').nth(at).and_then(|cell| cell.parse::<u32>().ok());
+        let counts: Vec<u32> = ran.out.lines().skip(1).filter_map(clear).collect();
+        assert_eq!((counts.len() as u32, counts.iter().sum::<u32>()), (rows + 1, rows + beyond));
+        let further = ran.out.lines().find(|row| row.contains("further senders")).expect("a row of the rest");
+        assert_eq!(clear(further), Some(beyond), "{further}");
+    }
+    let json = run(&["open", "--key", KEY, "--json", "--summary-only", "--by-sender"], &capture).out;
+    assert!(json.contains(r#"{"sender":{"further_senders":true,"short":["#), "no row of the rest");
+}

@@ -1,4 +1,5 @@
 //! Frames in hexadecimal digits, one a line or in the lines of a dump.
+use super::interrupt::is_interrupted;
 use std::io::{self, BufRead};
 use store_reader::hex;
 
@@ -81,6 +82,9 @@ impl Lines {
         }
         let mut bytes = Vec::new();
         if input.read_until(b'\n', &mut bytes)? == 0 {
+            return Ok(None);
+        }
+        if is_interrupted() && !bytes.ends_with(b"\n") {
             return Ok(None);
         }
         self.count += 1;

@@ -145,14 +145,15 @@ impl Run {
     ) -> Result<u8, Failure> {
         look_at(arguments)?;
         interrupt::watch();
-        let standard_input = [None];
-        let files = arguments.files.iter().map(|file| Some(file.as_str()));
-        let inputs: Vec<Option<&str>> =
-            if arguments.files.is_empty() { standard_input.to_vec() } else { files.collect() };
+        let inputs: Vec<Option<&str>> = match arguments.files.as_slice() {
+            [] => vec![None],
+            files => files.iter().map(|file| Some(file.as_str())).collect(),
+        };
         printer.done = self.layout.names.done;
         for (at, file) in inputs.into_iter().enumerate() {
             let source = match Source::open(file, arguments.reading) {
                 Ok(source) => source,
+                Err(_) if interrupt::is_interrupted() => break,
                 Err(why) if at == 0 => return Err(Failure::Input(why)),
                 Err(why) => {
                     complain(&why);
