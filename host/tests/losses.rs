@@ -313,6 +313,43 @@ fn replays_change_no_figure() {
     }
 }
 
+/// Restarts, resets, replays, frames twice, damage and bursts together: whatever is told, it is on the right side of the truth.
+#[test]
+fn bounds_hold_whatever_happens() {
+    let (mut exact, mut bounded) = (0, 0);
+    for seed in 200..230 {
+        let mut air = Air::new(seed, EVENING);
+        let mut random = Random::new(seed);
+        let mut device = Device::new(1, random.below(2_000) as u32, random.between(20, 2_000) as u32);
+        let mut channel = Channel::new(seed, 300, 3);
+        air.send(&mut device, Fate::Heard);
+        for _ in 0..random.between(100, 1_500) {
+            air.now += 60;
+            let mut fate = channel.fate();
+            match random.below(1_000) {
+                0 | 1 => device.restart(&mut random),
+                // Of a reset the first frame is heard: one of which nothing is heard below cannot be told.
+                2 => {
+                    device.reset(&mut random);
+                    fate = Fate::Heard;
+                }
+                3..=9 => air.replay(),
+                10..=40 => air.repeat(),
+                _ => {}
+            }
+            air.send(&mut device, fate);
+        }
+        let rows = rows(&["--by-sender"], &air.capture());
+        let (low, high) = lost(row(&rows, &device));
+        let truth = device.lost();
+        assert!(low <= truth + device.hidden(), "seed {seed}: {low}, {high:?}, {truth}");
+        assert!(high.is_none_or(|high| truth <= high), "seed {seed}: {low}, {high:?}, {truth}");
+        exact += usize::from(high == Some(low));
+        bounded += usize::from(high.is_some());
+    }
+    assert!(bounded > exact && exact > 0 && bounded < 30, "{exact} exact, {bounded} bounded");
+}
+
 /// One replay of an old frame: the counter goes on afterwards, so nothing is in doubt.
 #[test]
 fn one_old_replay() {

@@ -4,8 +4,9 @@ use std::sync::atomic::{AtomicBool, Ordering};
 
 const SIGINT: c_int = 2;
 
-/// The handler that ends the process, as it is without one.
+/// The handlers that end the process, as it is without one, and that ignore the signal, as shells have it for what runs behind them.
 const SIG_DFL: usize = 0;
+const SIG_IGN: usize = 1;
 
 /// The exit status of a run that was ended so: 128 and the signal's number.
 pub const STATUS: u8 = 130;
@@ -24,12 +25,14 @@ extern "C" fn note(_: c_int) {
     unsafe { signal(SIGINT, SIG_DFL) };
 }
 
-/// Has Ctrl-C end the reading of an input instead of the process. A read that waits is ended too.
+/// Has Ctrl-C end the reading of an input instead of the process, unless it is ignored. A read that waits is ended too.
 pub fn watch() {
     let handler: extern "C" fn(c_int) = note;
     // SAFETY: the handler stores a flag and calls nothing that a handler may not.
     unsafe {
-        signal(SIGINT, handler as usize);
+        if signal(SIGINT, handler as usize) == SIG_IGN {
+            signal(SIGINT, SIG_IGN);
+        }
         siginterrupt(SIGINT, 1);
     }
 }

@@ -16,6 +16,9 @@ const MOST_CLAIMS: usize = 256;
 /// A fall by so little is the same frame heard again, or one that came late, unless its sequence number says otherwise.
 const SMALL_FALL: u32 = 16;
 
+/// So many frames that start anew may be replays. More of them are rather what a device sends after a reset.
+const FEW_REPLAYS: u32 = 16;
+
 /// What is told of a device under a key number, within a period.
 #[derive(Debug, Default, Clone, Copy, PartialEq, Eq)]
 pub struct Losses {
@@ -146,8 +149,8 @@ pub struct Counters {
     own: Option<Own>,
     /// The last counter of a run that started anew.
     run: Option<u32>,
-    /// A start anew that no frame has settled yet.
-    fallen: bool,
+    /// How many frames started anew, or went on from there, since a frame settled what they were.
+    fallen: u32,
     periods: BTreeMap<Period, Losses>,
 }
 
@@ -163,7 +166,7 @@ impl Counters {
             claims: BTreeSet::new(),
             own: heard.sequence.map(|sequence| Own { counter, sequence, passed_on: 0 }),
             run: None,
-            fallen: false,
+            fallen: 0,
             periods: BTreeMap::new(),
         };
         counters.receive(heard);
@@ -258,8 +261,10 @@ impl Counters {
             Verdict::Restarted => self.restarted(),
             Verdict::Unknown => self.leave_open(),
         }
-        if std::mem::take(&mut self.fallen) {
-            self.periods.values_mut().for_each(|losses| losses.settle(verdict == Verdict::WentOn));
+        let fallen = std::mem::take(&mut self.fallen);
+        if fallen > 0 {
+            let went_on = verdict == Verdict::WentOn && fallen <= FEW_REPLAYS;
+            self.periods.values_mut().for_each(|losses| losses.settle(went_on));
         }
         self.own = Some(Own { counter, sequence, passed_on: 0 });
     }
@@ -310,7 +315,7 @@ impl Counters {
         losses.starts_anew += u64::from(!goes_on);
         losses.unsettled = true;
         self.run = Some(counter);
-        self.fallen = true;
+        self.fallen = self.fallen.saturating_add(1);
     }
 
     /// Whether a frame at or below the highest counter is one of the last frames: its sequence number is the one that it had
@@ -366,5 +371,97 @@ impl Own {
             _ if between < 255 && u64::from(rise) > missing + 1 => Verdict::Restarted,
             _ => Verdict::Unknown,
         }
+    }
+}
+
+#[cfg(test)]
+mod tests {
+    use super::*;
+
+    /// What is told after frames of these counters; a sequence number stands beside a frame that the device made itself.
+    fn told(frames: &[(u32, Option<u8>)]) -> Losses {
+        let heard = |(counter, sequence): (u32, Option<u8>)| Heard { counter, sequence, period: None };
+        let mut counters = Counters::new(heard(frames[0]), JUMP);
+        frames[1..].iter().for_each(|frame| counters.note(heard(*frame)));
+        counters.periods()[&None]
+    }
+
+    fn lost(frames: &[(u32, Option<u8>)]) -> (u64, Option<u64>) {
+        let losses = told(frames);
+        (losses.at_least(), losses.at_most())
+    }
+
+    #[test]
+    fn sequence_numbers_confirm_a_gap_or_speak_against_it() {
+        assert_eq!(lost(&[(5, Some(254)), (9, Some(2))]), (3, Some(3)));
+        // 5 of its own cannot have been made under 4 counters.
+        let restarted = told(&[(5, Some(1)), (9, Some(6))]);
+        assert_eq!((restarted.jumps, restarted.passed_over, restarted.gaps()), (1, 3, 0));
+        assert_eq!((restarted.at_least(), restarted.at_most()), (0, Some(3)));
+        // Fewer of its own than counters: frames that it passed on were lost, or it restarted.
+        assert_eq!(lost(&[(5, Some(1)), (9, Some(3))]), (0, Some(3)));
+        assert_eq!(lost(&[(5, None), (9, None)]), (0, Some(3)));
+    }
+
+    #[test]
+    fn frames_that_are_passed_on_stand_between() {
+        assert_eq!(lost(&[(5, Some(1)), (6, None), (8, None), (10, Some(4))]), (2, Some(2)));
+        assert_eq!(lost(&[(5, Some(1)), (6, None), (8, None), (10, Some(3))]), (0, Some(2)));
+        assert_eq!(told(&[(5, Some(1)), (6, None), (8, None), (10, Some(5))]).jumps, 1);
+    }
+
+    #[test]
+    fn a_rise_above_the_limit_is_a_jump() {
+        let at_limit = told(&[(1, Some(0)), (1 + JUMP, Some(255))]);
+        assert_eq!((at_limit.gaps(), at_limit.jumps), (254, 0));
+        let above = told(&[(1, Some(0)), (2 + JUMP, Some(0))]);
+        assert_eq!((above.gaps(), above.jumps, above.passed_over), (0, 1, 255));
+        let widest = told(&[(0, None), (u32::MAX, None)]);
+        assert_eq!((widest.passed_over, widest.range), (u64::from(u32::MAX) - 1, Some((0, u32::MAX))));
+    }
+
+    #[test]
+    fn frames_again_and_late_ones() {
+        let again = told(&[(5, Some(1)), (6, Some(2)), (6, Some(2)), (5, Some(1)), (7, Some(3))]);
+        assert_eq!((again.at_or_below, again.starts_anew, again.received), (2, 0, 3));
+        assert_eq!((again.at_least(), again.at_most()), (0, Some(0)));
+        let late = told(&[(5, Some(1)), (8, Some(4)), (7, Some(3))]);
+        assert_eq!((late.received, late.gaps(), late.at_least(), late.at_most()), (3, 1, 1, Some(1)));
+        let both = told(&[(5, None), (8, None), (6, None), (7, None), (7, None)]);
+        assert_eq!((both.received, both.gaps(), both.at_or_below, both.starts_anew), (4, 0, 3, 0));
+    }
+
+    #[test]
+    fn a_reset_and_an_old_replay() {
+        let reset = told(&[(90_000, Some(7)), (90_003, Some(10)), (1, Some(200)), (2, Some(201)), (9, Some(208))]);
+        assert_eq!((reset.starts_anew, reset.at_or_below, reset.gaps()), (1, 3, 2));
+        assert_eq!((reset.range, reset.at_least(), reset.at_most()), (Some((90_000, 90_003)), 2, None));
+        // The device goes on where it was.
+        let replay = told(&[(5_000, Some(7)), (11, Some(90)), (5_002, Some(9))]);
+        assert_eq!((replay.starts_anew, replay.at_least(), replay.at_most()), (1, 1, Some(1)));
+        // It does not: what came in between may have been a reset, also if later frames go on.
+        let open = told(&[
+            (5_000, Some(7)),
+            (11, Some(90)),
+            (5_001, Some(99)),
+            (5_002, Some(100)),
+            (12, Some(91)),
+            (5_003, Some(101)),
+        ]);
+        assert_eq!((open.starts_anew, open.at_most()), (2, None));
+        // A counter that falls by little, with a sequence number that does not belong to it.
+        assert_eq!(told(&[(20, Some(7)), (21, Some(8)), (19, Some(80))]).starts_anew, 1);
+    }
+
+    #[test]
+    fn counters_that_refused_frames_claim() {
+        let heard = |counter, sequence| Heard { counter, sequence: Some(sequence), period: None };
+        let mut counters = Counters::new(heard(5, 1), JUMP);
+        // 6 arrived later after all, 300 is too far, and 4 was past.
+        [6, 7, 7, 300, 4].into_iter().for_each(|counter| counters.claim(counter));
+        counters.note(heard(6, 2));
+        counters.note(heard(10, 6));
+        let losses = counters.periods()[&None];
+        assert_eq!((losses.gaps(), losses.refused, losses.at_least()), (3, 1, 3));
     }
 }

@@ -56,3 +56,32 @@ impl Sequences {
 fn ahead(last: u8, next: u8) -> bool {
     (1..HALF).contains(&next.wrapping_sub(last))
 }
+
+#[cfg(test)]
+mod tests {
+    use super::*;
+
+    fn never_heard(numbers: &[u8], claimed: &[u8]) -> u64 {
+        let mut sequences = Sequences::default();
+        sequences.note(numbers[0], None);
+        claimed.iter().for_each(|number| sequences.claim(*number));
+        numbers[1..].iter().for_each(|number| sequences.note(*number, None));
+        sequences.never_heard().values().sum()
+    }
+
+    #[test]
+    fn numbers_passed_over() {
+        assert_eq!(never_heard(&[254, 255, 0, 1], &[]), 0);
+        assert_eq!(never_heard(&[254, 3], &[0, 3, 9]), 3);
+        // The same frame on its next hop, and an earlier one.
+        assert_eq!(never_heard(&[7, 7, 9, 9, 8, 10], &[]), 1);
+        assert_eq!(never_heard(&[0, 127], &[]), 126);
+    }
+
+    /// A number that lies behind is an old frame; a second one ahead of it is a restart.
+    #[test]
+    fn a_restart() {
+        assert_eq!(never_heard(&[10, 200, 202, 203], &[]), 1);
+        assert_eq!(never_heard(&[10, 200, 11], &[]), 0);
+    }
+}
