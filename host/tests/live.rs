@@ -7,6 +7,7 @@ use std::io::{BufRead, BufReader, Read, Write};
 use std::process::{Child, ChildStdin, Command, Stdio};
 use std::sync::mpsc::{channel, Receiver};
 use std::time::Duration;
+use support::air::{Air, Device, Fate};
 use support::command::{root, run, tool, KEY};
 
 /// How long a line may take that is to come at once.
@@ -136,6 +137,41 @@ fn an_interrupt_before_the_first_record() {
             (vec!["0 frames: 0 opened, 0 refused".to_string()], "", Some(130))
         );
     }
+}
+
+/// The most memory that a process has had, in KiB.
+fn peak(process: &Child) -> u64 {
+    let status = fs::read_to_string(format!("/proc/{}/status", process.id())).expect("its status");
+    let peak = status.lines().find_map(|line| line.strip_prefix("VmHWM:")).expect("its peak");
+    peak.trim().trim_end_matches(" kB").parse().expect("a number")
+}
+
+/// Ten times the frames take no more memory. A frame of one byte, the only one that is refused, tells that all before it were read.
+#[test]
+fn memory_does_not_grow_with_the_capture() {
+    let mut air = Air::new(1, 1_795_000_000);
+    let mut devices: Vec<Device> = (1..=20).map(|number| Device::new(number, 0, 1_000)).collect();
+    for at in 0..110_000 {
+        let fate = if air.random.percent(10) { Fate::Lost } else { Fate::Heard };
+        air.send(&mut devices[at % 20], fate);
+        air.now += 1;
+    }
+    let records = air.records();
+    let mac = [0x41, 0x88, 1, 0x62, 0x1A, 0, 0, 1, 0, 0x08, 0, 0];
+    let marker = [&[0; 8][..], &[mac.len() as u8, 0, 0, 0, mac.len() as u8, 0, 0, 0], &mac].concat();
+    let [first, rest] = [(0, records / 11), (records / 11, records)].map(|(from, to)| air.part(from, to));
+    let mut live = Live::new(&["--flush", "--refused", "--by-sender", "--by", "day", "-"]);
+    live.write(&[&first[..], &marker].concat());
+    assert!(live.line().contains("refused by 2: "));
+    let before = peak(&live.child);
+    live.write(&[&rest[24..], &marker].concat());
+    assert!(live.line().contains("refused by 2: "));
+    let after = peak(&live.child);
+    assert!(after <= before + 256, "{before} KiB, then {after} KiB");
+    let Live { mut child, input, lines } = live;
+    drop(input);
+    assert!(lines.iter().any(|line| line.contains(&format!("{} frames: ", records + 2))));
+    assert!(child.wait().expect("the command ends").success());
 }
 
 /// What tshark writes into a pipe is read from it, as the help shows.

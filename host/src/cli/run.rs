@@ -201,8 +201,12 @@ impl Run {
             if matches!(entry.content, Content::Broken(_)) || notes != noted {
                 progress.clear();
             }
-            notes.0.filter(|_| noted.0.is_none()).into_iter().for_each(note_offset);
-            notes.1.filter(|_| noted.1.is_none() && self.of_frames).into_iter().for_each(note_mac);
+            if let (Some(line), None) = (notes.0, noted.0) {
+                note_offset(&printer.of_several(), line);
+            }
+            if let (Some(line), None, true) = (notes.1, noted.1, self.of_frames) {
+                note_mac(&printer.of_several(), line);
+            }
             noted = notes;
             // One that is broken has been told.
             used |= matches!(entry.content, Content::Frame(_) | Content::Broken(_)) || entry.mac.is_some();

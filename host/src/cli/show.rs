@@ -245,12 +245,15 @@ pub fn complain(why: &str) {
     let _ = writeln!(io::stderr(), "store-reader: {why}");
 }
 
-/// A note on a line of the input.
-pub fn note_offset(line: u64) {
-    complain(&format!("{}: the offset in front is passed over, here and in what follows", Place::Line(line)));
+/// A note on a line of the input, behind the input's name where there are several.
+pub fn note_offset(front: &str, line: u64) {
+    complain(&format!("{front}{}: the offset in front is passed over, here and in what follows", Place::Line(line)));
 }
 
 /// A note on a line that is read as it stands, though it looks like a MAC frame.
-pub fn note_mac(line: u64) {
-    complain(&format!("{}: this looks like a MAC frame, and is read as a NWK frame; see --mac", Place::Line(line)));
+pub fn note_mac(front: &str, line: u64) {
+    complain(&format!(
+        "{front}{}: this looks like a MAC frame, and is read as a NWK frame; see --mac",
+        Place::Line(line)
+    ));
 }
