@@ -116,6 +116,40 @@ fn losses_at_random_and_in_bursts_are_exact() {
     }
 }
 
+/// Two sniffers' captures merged: most frames come twice, and some in another order. What is received is exact, and what is lost too
+/// unless a late frame takes away what would confirm a gap.
+#[test]
+fn merged_captures() {
+    let mut exact = 0;
+    for seed in 300..310 {
+        let mut air = Air::new(seed, EVENING);
+        let mut device = Device::new(1, 700, 1_000);
+        let mut channel = Channel::new(seed, 30, 0);
+        for at in 0..1_000 {
+            air.now += 60;
+            let fate = if at % 999 == 0 { Fate::Heard } else { channel.fate() };
+            air.send(&mut device, fate);
+            if fate == Fate::Heard && air.random.percent(80) {
+                air.repeat();
+            }
+            if at > 10 && air.random.percent(5) {
+                air.exchange();
+            }
+        }
+        let rows = rows(&["--by-sender"], &air.capture());
+        let row = row(&rows, &device);
+        let (low, high) = lost(row);
+        assert_eq!(
+            (number(row, "received"), number(row, "starts_anew")),
+            (device.count(Fate::Heard), 0),
+            "seed {seed}"
+        );
+        assert!(low <= device.lost() && high == Some(device.lost()), "seed {seed}: {low}, {high:?}, {}", device.lost());
+        exact += u64::from(low == device.lost());
+    }
+    assert!(exact > 0, "{exact} exact");
+}
+
 /// A gap across midnight is told once, on the day of the frame behind it: the days add up to the whole.
 #[test]
 fn days_are_exact_and_add_up() {
@@ -335,6 +369,7 @@ fn bounds_hold_whatever_happens() {
                 }
                 3..=9 => air.replay(),
                 10..=40 => air.repeat(),
+                41..=60 => air.exchange(),
                 _ => {}
             }
             air.send(&mut device, fate);
@@ -348,6 +383,43 @@ fn bounds_hold_whatever_happens() {
         bounded += usize::from(high.is_some());
     }
     assert!(bounded > exact && exact > 0 && bounded < 30, "{exact} exact, {bounded} bounded");
+}
+
+/// The same of a router, most of whose frames are those of a probe behind it.
+#[test]
+fn bounds_hold_for_routers() {
+    for seed in 400..420 {
+        let mut air = Air::new(seed, EVENING);
+        let mut random = Random::new(seed);
+        let mut router = Device::new(9, random.below(2_000) as u32, random.between(20, 2_000) as u32);
+        let mut deep = Device::new(11, 1, 1_000);
+        let mut channel = Channel::new(seed, 200, 3);
+        air.send(&mut router, Fate::Heard);
+        for _ in 0..random.between(100, 1_500) {
+            air.now += 15;
+            let mut fate = channel.fate();
+            match random.below(1_000) {
+                0 | 1 => router.restart(&mut random),
+                2 => {
+                    router.reset(&mut random);
+                    fate = Fate::Heard;
+                }
+                3..=9 => air.replay(),
+                10..=40 => air.repeat(),
+                41..=60 => air.exchange(),
+                _ => {}
+            }
+            match random.percent(30) {
+                true => air.send(&mut router, fate),
+                false => air.send_through(&mut router, &mut deep, fate),
+            }
+        }
+        let rows = rows(&["--by-sender"], &air.capture());
+        let (low, high) = lost(row(&rows, &router));
+        let truth = router.lost();
+        assert!(low <= truth + router.hidden(), "seed {seed}: {low}, {high:?}, {truth}");
+        assert!(high.is_none_or(|high| truth <= high), "seed {seed}: {low}, {high:?}, {truth}");
+    }
 }
 
 /// One replay of an old frame: the counter goes on afterwards, so nothing is in doubt.

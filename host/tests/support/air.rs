@@ -188,6 +188,15 @@ impl Air {
         self.records.push((self.now, last));
     }
 
+    /// The last two records change places, as two sniffers' clocks have it, if they came within a minute.
+    pub fn exchange(&mut self) {
+        if let [.., one, other] = &mut self.records[..] {
+            if other.0 <= one.0 + 60 {
+                std::mem::swap(&mut one.1, &mut other.1);
+            }
+        }
+    }
+
     /// Somebody sends again one of the records so far.
     pub fn replay(&mut self) {
         let at = self.random.below(self.records.len());
