@@ -4,6 +4,7 @@ mod cli {
     pub mod arguments;
     pub mod bytes;
     pub mod csv;
+    pub mod csv_table;
     pub mod describe;
     pub mod frames;
     pub mod help;
@@ -31,6 +32,7 @@ mod cli {
     pub mod show;
     pub mod source;
     pub mod summary;
+    pub mod text_table;
     pub mod time;
     pub mod value;
     pub mod zone;
