@@ -269,7 +269,7 @@ fn reserved_counters_are_passed_over() {
     let cells: Vec<&str> = told.split("  ").map(str::trim).filter(|cell| !cell.is_empty()).collect();
     let jumps = "2 restarts or more, 1994 counters passed over";
     let expected =
-        ["00:12:4B:00:00:00:00:01", "0", "1 to 2003", "9", "0", "0", jumps, "0", "0", "0 to 1994", "0.0 to 99.6 %"];
+        ["00:12:4B:00:00:00:00:01", "0", "1 to 2003", "9", "0", "0", jumps, "0", "0", "at most 1994", "at most 99.6 %"];
     assert_eq!(cells, expected);
     // The limit is the user's: above it a rise is a jump, at it a gap.
     for (limit, jumps) in [("997", 2), ("998", 0)] {

@@ -19,12 +19,12 @@ sender                   short   opened  clear  refused                         
 00:12:4B:00:1C:A1:B2:C9  0xD105       2      0        0                                  2026-11-18T11:06:44.000000Z  2026-11-18T11:06:45.000000Z                             0
 00:12:4B:00:AA:AA:00:44  0x9C44       1      1        0                                  2026-11-18T11:06:48.000000Z  2026-11-18T11:06:49.000000Z                             0
 header not read                       0      0        1  1 by 3                          2026-11-18T11:06:54.000000Z  2026-11-18T11:06:54.000000Z
-counters of              key  first to highest  received  in gaps  of these refused  jumps  starts anew  not above  lost    loss rate
-00:12:4B:00:1C:A1:00:01    0  90210 to 90211           2        0                 0  0                0          0  0       0.0 %
-00:12:4B:00:1C:A1:00:02    0  6998 to 7002             4        1                 0  0                0          0  0 to 1  0.0 to 20.0 %
-00:12:4B:00:1C:A1:B2:C3    0  74565 to 74571           3        4                 1  0                0          0  4       57.1 %
-00:12:4B:00:AA:AA:00:44    0  3 to 3                   1        0                 0  0                0          0  0       0.0 %
-all                                                   10        5                 1  0                0          0  4 to 5  28.6 to 33.3 %
+counters of              key  first to highest  received  in gaps  of these refused  jumps  starts anew  not above  lost       loss rate
+00:12:4B:00:1C:A1:00:01    0  90210 to 90211           2        0                 0  0                0          0  0          0.0 %
+00:12:4B:00:1C:A1:00:02    0  6998 to 7002             4        1                 0  0                0          0  at most 1  at most 20.0 %
+00:12:4B:00:1C:A1:B2:C3    0  74565 to 74571           3        4                 1  0                0          0  4          57.1 %
+00:12:4B:00:AA:AA:00:44    0  3 to 3                   1        0                 0  0                0          0  0          0.0 %
+all                                                   10        5                 1  0                0          0  4 to 5     28.6 to 33.3 %
 14 frames: 10 opened, 1 clear, 3 refused
 ";
     assert!(ran.out.starts_with(expected), "{}", ran.out);
@@ -109,7 +109,11 @@ fn senders_of_lines() {
     assert_eq!(row(1), [address, "0x1234", "6", "0", "0"], "{out}");
     // 12 to 19 are missing, and the sequence number falls from 8 to 7: a restart, since it cannot have risen by 255 under 9 counters.
     let jump = "1 restart or more, 8 counters passed over";
-    assert_eq!(row(3), [address, "0", "10 to 21", "4", "0", "0", jump, "0", "0", "0 to 8", "0.0 to 66.7 %"], "{out}");
+    assert_eq!(
+        row(3),
+        [address, "0", "10 to 21", "4", "0", "0", jump, "0", "0", "at most 8", "at most 66.7 %"],
+        "{out}"
+    );
     assert_eq!(row(4), [address, "1", "1 to 2", "2", "0", "0", "0", "0", "0", "0", "0.0 %"], "{out}");
     assert!(!out.contains("clear"), "{out}");
     // A table for a program has the same columns whatever was heard.

@@ -273,9 +273,10 @@ impl Senders {
     fn add_sequences(&self, rows: &mut BTreeMap<(Period, Sender), Row>) {
         for (short, sequences) in &self.sequences {
             for (period, never_heard) in sequences.never_heard() {
-                if let Some(row) = rows.get_mut(&(*period, self.sender_of(*short))) {
-                    row.sequences += never_heard;
-                }
+                let sender = self.sender_of(*short);
+                let row = rows.entry((*period, sender)).or_insert_with(|| row(*period, sender, Counts::default()));
+                row.has_short(short.1);
+                row.sequences += never_heard;
             }
         }
     }
@@ -303,4 +304,36 @@ fn row(period: Period, sender: Sender, counts: Counts) -> Row {
     (row.accepted, row.clear, row.refused) = (counts.accepted, counts.clear, counts.refused);
     (row.first, row.last) = (counts.first, counts.last);
     row
+}
+
+#[cfg(test)]
+mod tests {
+    use super::*;
+
+    #[test]
+    fn a_short_address_with_two_long_ones_has_none() {
+        let mut senders = Senders::new(Telling { by: None, by_sender: true, jump: 255 });
+        let short = (None, Nwk(1));
+        senders.is_of(short, Eui64::from(1));
+        senders.is_of(short, Eui64::from(1));
+        assert_eq!(senders.sender_of(short), Sender::Long(Eui64::from(1)));
+        senders.is_of(short, Eui64::from(2));
+        senders.is_of(short, Eui64::from(1));
+        assert_eq!(senders.sender_of(short), Sender::Short(short));
+    }
+
+    /// Only a MAC header, or the long address in the frame's own header, tells who made a frame.
+    #[test]
+    fn who_made_a_frame() {
+        let device = Eui64::from(7);
+        let mut header = NwkHeader::new(store_reader::NwkFrameType::Data, Nwk(0x7A10), Nwk(0));
+        let from = |address| MacHeader { source: Some(MacAddress::Short(Nwk(address))), ..MacHeader::default() };
+        assert_eq!(made_by(&header, device, Some(&from(0x7A10))), Some(true));
+        assert_eq!(made_by(&header, device, Some(&from(0x3F21))), Some(false));
+        assert_eq!(made_by(&header, device, Some(&MacHeader::default())), Some(false));
+        assert_eq!(made_by(&header, device, None), None);
+        header.source_ieee = Some(device);
+        assert_eq!(made_by(&header, device, Some(&from(0x3F21))), Some(true));
+        assert_eq!(made_by(&header, Eui64::from(8), None), Some(false));
+    }
 }

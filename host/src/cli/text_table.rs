@@ -109,21 +109,23 @@ fn range(key: Option<u8>, losses: &Losses) -> String {
 
 /// How many were lost: a number where it is known, else its bounds.
 fn lost(losses: &Losses) -> String {
-    bounds(losses.at_least(), losses.at_most())
+    bounds(losses.at_least().to_string(), losses.at_most().map(|lost| lost.to_string()), "0")
 }
 
-fn bounds<T: ToString + PartialEq>(low: T, high: Option<T>) -> String {
+/// A number, or its bounds; of the two that are the same the one, and where the lower one is nothing the upper one.
+fn bounds(low: String, high: Option<String>, nothing: &str) -> String {
     match high {
-        None => format!("at least {}", low.to_string()),
-        Some(high) if high == low => low.to_string(),
-        Some(high) => format!("{} to {}", low.to_string(), high.to_string()),
+        None => format!("at least {low}"),
+        Some(high) if high == low => low,
+        Some(high) if low == nothing => format!("at most {high}"),
+        Some(high) => format!("{low} to {high}"),
     }
 }
 
 fn percent(losses: &Losses) -> String {
     let (low, high) = rates(losses);
     let shown = |rate: f64| format!("{:.1}", 100.0 * rate);
-    bounds(shown(low), high.map(shown)) + " %"
+    bounds(shown(low), high.map(shown), "0.0") + " %"
 }
 
 fn jumps(losses: &Losses) -> String {
