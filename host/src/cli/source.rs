@@ -83,8 +83,9 @@ pub struct Source {
     /// The zone that times are shown in, where it is not UTC.
     zone: Option<Zone>,
     mac: bool,
-    /// A MAC frame in a dump had a right FCS, so the others have one too.
-    has_fcs: bool,
+    /// The MAC frames of lines and dumps, and those whose last two bytes are a right FCS.
+    mac_frames: u64,
+    right_fcs: u64,
     /// The first line that looks like a MAC frame and is read as a NWK frame.
     pub first_mac: Option<u64>,
 }
@@ -148,7 +149,8 @@ impl Source {
             Format::Lines(Lines::default())
         };
         let (zone, first_mac) = (None, None);
-        Ok(Self { input, format, records: 0, ended: false, unread: 0, zone, mac: false, has_fcs: false, first_mac })
+        let (records, mac_frames, right_fcs, unread) = (0, 0, 0, 0);
+        Ok(Self { input, format, records, ended: false, unread, zone, mac: false, mac_frames, right_fcs, first_mac })
     }
 
     pub fn is_capture(&self) -> bool {
@@ -202,15 +204,18 @@ impl Source {
         entry
     }
 
-    /// Takes off what stands around a NWK frame in a dump. Whether a FCS is there is told by the first one that is right.
+    /// Takes off what stands around a NWK frame in a dump. A FCS that is right is taken off; one that is wrong is taken for one if
+    /// most frames so far had a right one: any two bytes are right by chance once in 65,536.
     fn take_off(&mut self, entry: &mut Entry, bytes: &[u8]) {
         let behind_header = match bytes {
             [0, 0, 0, 0, START_OF_FRAME, ..] => Link::of(WITH_PHY_HEADER).mac_frame(bytes),
             [0, 0, ..] => Link::of(TAP).mac_frame(bytes),
             _ => {
                 let is_right = matches!(without_fcs(bytes, Fcs::Two), Ok((_, Check::Right)));
-                self.has_fcs |= is_right;
-                Ok((bytes, if self.has_fcs { Fcs::Two } else { Fcs::None }))
+                self.mac_frames += 1;
+                self.right_fcs += u64::from(is_right);
+                let has_fcs = is_right || 2 * self.right_fcs >= self.mac_frames;
+                Ok((bytes, if has_fcs { Fcs::Two } else { Fcs::None }))
             }
         };
         fill(entry, behind_header);
