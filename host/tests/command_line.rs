@@ -761,7 +761,7 @@ fn the_examples_of_the_help_run() {
     let path =
         format!("{}:{}", folder.parent().expect("a folder").display(), std::env::var("PATH").unwrap_or_default());
     let lines: Vec<&str> = examples.lines().filter(|line| !line.trim().is_empty()).collect();
-    assert_eq!(lines.len(), 12);
+    assert_eq!(lines.len(), 13);
     for line in lines {
         let ran =
             Command::new("sh").args(["-c", line]).env("PATH", &path).current_dir(root()).output().expect("a shell");

@@ -534,4 +534,11 @@ fn counters_go_on_from_file_to_file() {
     let ran = run(&arguments, b"");
     assert_eq!((ran.out, ran.err.as_str(), ran.status), (whole, "", 0));
     assert!(devices.iter().all(|device| device.lost() > 0));
+    // In another order the counters fall, and that is said; without figures the order does not matter.
+    let order = [&files[1], &files[0]].map(String::as_str);
+    let ran = run(&[&["open", "--key", KEY, "--by", "day", "--csv"][..], &order].concat(), b"");
+    let told = "begins before what was read has ended; counters are followed in the order given";
+    assert_eq!((ran.err, ran.status), (format!("store-reader: {}: {told}\n", files[0]), 0));
+    let ran = run(&[&["open", "--key", KEY, "--csv"][..], &order].concat(), b"");
+    assert_eq!((ran.err.as_str(), ran.status), ("", 0));
 }

@@ -18,13 +18,14 @@ const JOURNAL: &str = include_str!("help/journal.txt");
 const REFUSALS: &str = include_str!("help/refusals.txt");
 
 /// Examples, each of the command that its first word behind `store-reader` names.
-const EXAMPLES: [(&str, &str); 12] = [
+const EXAMPLES: [(&str, &str); 13] = [
     ("open", "store-reader open --key-file samples/store.key samples/store.pcap"),
     ("open", "store-reader open --key-file samples/store.keys --by-sender --summary-only samples/store.pcap"),
-    ("open", "store-reader open --key-file samples/store.keys --by day --by-sender --csv samples/store.pcap samples/store.pcapng"),
+    ("open", "store-reader open --key-file samples/store.keys --by day --by-sender --csv samples/store.pcap"),
     ("open", "store-reader open --key-file samples/store.key --replay --refused samples/store.pcap"),
     ("open", "store-reader open --key C0C1C2C3C4C5C6C7C8C9CACBCCCDCECF --json samples/store.pcapng"),
     ("open", "store-reader open --key-file samples/store.key --csv --frames samples/store.pcap"),
+    ("open", "store-reader open --key-file samples/store.key --summary-only samples/store.pcap samples/store.pcapng"),
     ("open", "cat samples/store.pcap | store-reader open --key-file samples/store.key --flush -"),
     ("read", "echo 08 00 00 00 34 12 1E 07 AA | store-reader read --full"),
     (

@@ -16,6 +16,7 @@ use super::show::{complain, note_mac, note_offset, Printer};
 use super::source::{name, Content, Entry, Source};
 use super::summary::Summary;
 use super::text_table::table;
+use super::time::Time;
 use super::value::Value;
 use std::fs;
 use std::io::{self, Write};
@@ -113,6 +114,8 @@ struct Run {
     lines_come: bool,
     layout: Layout,
     flush: bool,
+    /// The latest time of the inputs so far.
+    latest: Option<Time>,
     /// An input had nothing that could be used.
     unusable: bool,
     /// An input behind the first, a pipe, could not be opened.
@@ -129,6 +132,7 @@ impl Run {
                 local: arguments.reading.local,
             },
             flush: arguments.flush,
+            latest: None,
             unusable: false,
             not_opened: false,
             summary,
@@ -198,7 +202,11 @@ impl Run {
         let mut progress = Progress::new(source.extent(), self.lines_come);
         let mut noted = (None, None);
         let mut used = false;
+        let mut before = self.latest;
         while let Some(entry) = source.next() {
+            if let Some(time) = entry.time {
+                self.in_order(before.take(), time, &printer.file);
+            }
             let notes = (source.first_offset(), source.first_mac);
             if matches!(entry.content, Content::Broken(_)) || notes != noted {
                 progress.clear();
@@ -225,6 +233,16 @@ impl Run {
             self.unusable = true;
         }
         Ok(())
+    }
+
+    /// Notes a time. Where figures are told, the first of an input is compared with the latest of those before it.
+    fn in_order(&mut self, before: Option<Time>, time: Time, file: &str) {
+        if self.senders.is_some() && before.is_some_and(|before| time < before) {
+            complain(&format!(
+                "{file}: begins before what was read has ended; counters are followed in the order given"
+            ));
+        }
+        self.latest = self.latest.max(Some(time));
     }
 
     fn entry<W: Write>(
