@@ -1,9 +1,9 @@
 /* nwk.h: the Zigbee NWK frame codec in C.
  *
  * A slice is a pointer and a length, a list a pointer and the number of its entries, an array of fixed size a pointer alone. The
- * caller sees to two things. A slice or list of a length above 0, and an array, has that many bytes or entries; an empty one may
- * be NULL. And what a call writes overlaps nothing else that it is lent: no function works in place, and nwk_encrypt_ccm with out at
- * payload gives a wrong MIC. A key is two numbers, its first eight bytes in the first, the first byte lowest (nwk_key_of).
+ * caller sees to two things: each has that many bytes or entries (an empty slice or list may be NULL), and what a call writes overlaps
+ * nothing else that it is lent. No function works in place: nwk_encrypt_ccm with out at payload gives a wrong MIC. A key is two
+ * numbers, its first eight bytes in the first, the first byte lowest (nwk_key_of).
  *
  * A function answers one number: the length in bits 0 to 31, the refusal in bits 32 to 39 (0: accepted), marks above them, each
  * read by a macro below. A refusal has length 0 and leaves every lent byte as it was. Else each result stands at the front of its
@@ -11,7 +11,7 @@
  *
  * The README has a short program, examples/ has longer ones. Build: cc -Iinclude FILE.c target/staticlib/libnwk.a
  *
- * The archive is compiled for x86-64 (System V calls, as on Linux).
+ * The archive is compiled for x86-64 Linux.
  */
 #ifndef NWK_H
 #define NWK_H
@@ -41,10 +41,9 @@ extern "C" {
 /* nwk_payload_place: the place of the payload's first byte. */
 #define NWK_FIRST(answer) NWK_CAST(uint8_t, (answer) >> 48 & 0xFFu)
 
-/* nwk_note_inbound_frame_counter: 1 if there is an earlier counter. nwk_recover_journal: 1 if there is a key number. */
+/* nwk_note_inbound_frame_counter: 1 if there is an earlier counter. nwk_recover_journal: 1 if there is a key number, then the key
+ * number, which may be 0. */
 #define NWK_KNOWN(answer) NWK_CAST(uint8_t, (answer) >> 41 & 1u)
-
-/* nwk_recover_journal: the key number, where NWK_KNOWN is 1. It may be 0. */
 #define NWK_KEY_NUMBER(answer) NWK_CAST(uint8_t, (answer) >> 48 & 0xFFu)
 
 /* The longest frame; the longest payload or command; the most frames of a burst; the most senders whose counters are kept. */
@@ -277,12 +276,9 @@ uint64_t nwk_payload_kind(uint8_t frame_type);
 
 /* A sender record, 16 bytes: 3 bytes of padding at its end, ignored. */
 struct nwk_sender {
-  /* The sender's IEEE as a number, its first byte on the wire lowest (nwk_get64). 0 is an address like others. */
-  uint64_t address;
-  /* The counter that was noted last. */
-  uint32_t counter;
-  /* 0: the place is free and names nobody, whatever is left in it. Any other value: it is used. */
-  uint8_t used;
+  uint64_t address; /* the sender's IEEE, its first byte on the wire lowest (nwk_get64); 0 is an address like others */
+  uint32_t counter; /* the counter that was noted last */
+  uint8_t used;     /* 0: the place is free and names nobody, whatever is left in it. Any other value: it is used */
 };
 
 /* Does not compile where a record has another layout than the functions were compiled for. */
@@ -401,14 +397,14 @@ uint64_t nwk_timeout_seconds(uint8_t code);
 
 /* ---- CCM and AES alone */
 
-/* Seal a payload with CCM (SP 800-38C, AES-128): out is then the ciphertext, as long as the payload, and mic the MIC. Length: the
- * payload's. Refusals: 1 auth or payload over 127; 18 out shorter than the payload. Not in place: the MIC would be wrong. */
+/* Seal a payload with CCM (SP 800-38C, AES-128): out is then the ciphertext and mic the MIC. out may not overlap payload: the MIC would
+ * be wrong. Length: the payload's. Refusals: 1 auth or payload over 127; 18 out shorter than the payload. */
 uint64_t nwk_encrypt_ccm(uint64_t key_first, uint64_t key_second, const uint8_t nonce[13], const uint8_t *auth,
                          size_t auth_len, const uint8_t *payload, size_t payload_len, uint8_t *out, size_t out_len,
                          uint8_t mic[4]);
 
-/* Open a ciphertext with its MIC: out is then the payload. Length: the payload's. Refusals: 1 auth or ciphertext over 127; 18 out
- * shorter than the ciphertext; 19 the MIC is not the one computed. Not in place. */
+/* Open a ciphertext with its MIC: out, which may not overlap ciphertext, is then the payload. Length: the payload's. Refusals: 1 auth or
+ * ciphertext over 127; 18 out shorter than the ciphertext; 19 the MIC is not the one computed. */
 uint64_t nwk_decrypt_ccm(uint64_t key_first, uint64_t key_second, const uint8_t nonce[13], const uint8_t *auth,
                          size_t auth_len, const uint8_t *ciphertext, size_t ciphertext_len, const uint8_t mic[4],
                          uint8_t *out, size_t out_len);
@@ -417,7 +413,7 @@ uint64_t nwk_decrypt_ccm(uint64_t key_first, uint64_t key_second, const uint8_t 
  * Length: the MIC's. Refusals: 16 fewer than 4 bytes. */
 uint64_t nwk_split_mic(const uint8_t *bytes, size_t bytes_len, uint8_t mic[4], uint64_t *front);
 
-/* One block of AES-128 (FIPS 197). Length: 16. Nothing is refused. Not in place. */
+/* One block of AES-128 (FIPS 197); out may not overlap block. Length: 16. Nothing is refused. */
 uint64_t nwk_encrypt_block(uint64_t key_first, uint64_t key_second, const uint8_t block[16], uint8_t out[16]);
 
 /* ---- helpers */
