@@ -25,7 +25,7 @@ use Rattle.ccm.specs.Operations.{micLength, sealedBy, splitMic, givenIf}
 use Rattle.frame.specs.declared.{FrameRead.FrameRead, Mark.Mark}
 use Rattle.frame.specs.Security.{networkLevel, sentLevel, atLevel, orBlank, ieeeOf, nonce, authenticated}
 use Rattle.frame.specs.Sealing.{generated, sealedBytes}
-use Rattle.frame.specs.Opening.{isSealed, behind, ciphertextOf, micOf, verified, openRefusals, openRefusal, Run, sealedGiven, clearGiven, openNothing, openBy, openWith}
+use Rattle.frame.specs.Opening.{isSealed, behind, ciphertextOf, micOf, verified, openRefusals, openRefusal, Run, openedGiven, sealedGiven, clearGiven, openNothing, openBy, openWith}
 use Rattle.frame.proofs.Accepted.{counts, ieee-there, keyless, openable, sealed-run, clear-run}
 use Rattle.frame.proofs.Levels.{level-length}
 use Rattle.frame.proofs.SecondHalf.{secured-facts, payload-length}
@@ -180,18 +180,13 @@ module _ (ciph : List ℕ → List ℕ) (f part o o′ : List ℕ) (r : FrameRea
   same = verified-is ciph f part r x present rest
 
   pub opened-valid : (ieee : ℕ) → ieee ≡ ieeeOf (x .«extended_source») (r .header .«source_ieee») → b ≡ true
-      → _≡_ {A = Run}
-      (record { answer = record { refusal = 0; mark = Mark.Sealed; length = length part - 4; «nonce_ieee» = OptionEui64.Present ieee; header = r .header; aux = r .aux }; out = o′ })
-      (openWith ciph f o)
+      → _≡_ {A = Run} (record { answer = openedGiven r Mark.Sealed (length part - 4) (OptionEui64.Present ieee); out = o′ }) (openWith ciph f o)
   unfolding givenIf
   opened-valid ieee address t =
       let own = address ∙ ap (λ (y : NwkAuxHeader). ieeeOf (y .«extended_source») (r .header .«source_ieee»)) present in
       let there = keyless _ _ _ _ _ _ (sym number ∙ passed) .ieee sealed in
       let named = ap OptionEui64.Present own ∙ sym (ieee-there (orBlank (r .aux) .«extended_source») (r .header .«source_ieee») there) in
-      (λ i. record {
-        answer = record { refusal = 0; mark = Mark.Sealed; length = payload-size ciph f part r rest i; «nonce_ieee» = named i; header = r .header; aux = r .aux };
-        out = (rw (t, same) at given) i;
-      })
+      (λ i. record { answer = openedGiven r Mark.Sealed (payload-size ciph f part r rest i) (named i); out = (rw (t, same) at given) i })
       ∙ open-valid ciph f part o r n read rest number passed sealed (sym (valid ∙ ap (λ (y : Verified). y .valid) same) ∙ t)
 
   pub opened-invalid : b ≡ false → openNothing 19 o′ ≡ openWith ciph f o
@@ -203,13 +198,7 @@ module _ (ciph : List ℕ → List ℕ) (f part o o′ : List ℕ) (r : FrameRea
 -- the answer of a clear frame, its length that of the part behind the headers
 pub opened-clear : (ciph : List ℕ → List ℕ) (f part o : List ℕ) (r : FrameRead) (n : ℕ) → r ≡ readFrame f → part ≡ drop (r .length) f
     → n ≡ firstOf (openRefusals micLength (r .refusal) (r .header) (r .aux) (length part) (length o)) → n ≡ 0 → isSealed (r .header) ≡ false
-    → _≡_ {A = Run}
-    (record { answer = record { refusal = 0; mark = Mark.Clear; length = length part; «nonce_ieee» = OptionEui64.Absent; header = r .header; aux = r .aux }; out = o })
-    (openWith ciph f o)
+    → _≡_ {A = Run} (record { answer = openedGiven r Mark.Clear (length part) OptionEui64.Absent; out = o }) (openWith ciph f o)
 unfolding behind
 opened-clear ciph f part o r n read rest number passed off =
-    (λ i. record {
-      answer = record { refusal = 0; mark = Mark.Clear; length = length (rest i); «nonce_ieee» = OptionEui64.Absent; header = r .header; aux = r .aux };
-      out = o;
-    })
-    ∙ open-clear ciph f part o r n read rest number passed off
+    (λ i. record { answer = openedGiven r Mark.Clear (length (rest i)) OptionEui64.Absent; out = o }) ∙ open-clear ciph f part o r n read rest number passed off

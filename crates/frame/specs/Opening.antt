@@ -69,28 +69,21 @@ pub record Run : Type 0 where
   pub answer : FrameOpened
   pub out : List ℕ
 
--- sealed: the two headers as read, the long address that the nonce used, and the payload at the front of the output
+-- the answer of a frame that was read: its headers, with the mark, the payload's length and the long address that the nonce used
+abbrev pub openedGiven : FrameRead → Mark → ℕ → OptionEui64 → FrameOpened
+openedGiven r mark n ieee = record { refusal = 0; mark = mark; length = n; «nonce_ieee» = ieee; header = r .header; aux = r .aux }
+
+-- sealed: the payload at the front of the output
 abbrev pub sealedGiven : FrameRead → Verified → List ℕ → Run
 sealedGiven r v o =
     record {
-      answer = record {
-        refusal = 0;
-        mark = Mark.Sealed;
-        length = length (v .payload);
-        «nonce_ieee» = nonceIeee (orBlank (r .aux) .«extended_source») (r .header .«source_ieee»);
-        header = r .header;
-        aux = r .aux;
-      };
+      answer = openedGiven r Mark.Sealed (length (v .payload)) (nonceIeee (orBlank (r .aux) .«extended_source») (r .header .«source_ieee»));
       out = over o 0 (v .payload);
     }
 
--- clear: the two headers as read, the length of the payload, which stays in the frame, no address, and the output as it was
+-- clear: the payload stays in the frame, there is no address, and the output is as it was
 abbrev pub clearGiven : List ℕ → FrameRead → List ℕ → Run
-clearGiven f r o =
-    record {
-      answer = record { refusal = 0; mark = Mark.Clear; length = length (behind f r); «nonce_ieee» = OptionEui64.Absent; header = r .header; aux = r .aux };
-      out = o;
-    }
+clearGiven f r o = record { answer = openedGiven r Mark.Clear (length (behind f r)) OptionEui64.Absent; out = o }
 
 abbrev pub openGiven : List ℕ → FrameRead → Verified → List ℕ → Run
 openGiven f r v o = cond (isSealed (r .header)) (sealedGiven r v o) (clearGiven f r o)

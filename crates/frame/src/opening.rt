@@ -1,5 +1,6 @@
 // Opening a frame (Zigbee Specification 4.3.1.2).
 use crate::FrameOpened;
+use crate::FrameRead;
 use crate::Mark;
 use crate::OptionAuxHeader;
 use crate::behind;
@@ -20,7 +21,7 @@ ghost use Rattle.header.specs.Auxiliary.{auxBytes};
 ghost use Rattle.header.specs.Writing.{badHeader, headerBytes};
 ghost use Rattle.ccm.specs.Operations.{micLength, openedUnder, givenIf};
 ghost use Rattle.frame.specs.Security.{networkLevel, nonce, authenticated};
-ghost use Rattle.frame.specs.Opening.{ciphertextOf, micOf, lastOf, openRefusals, openRefused, openFrame, openUnder, payloadIn};
+ghost use Rattle.frame.specs.Opening.{ciphertextOf, micOf, lastOf, openRefusals, openRefused, openedGiven, openFrame, openUnder, payloadIn};
 
 impl FrameOpened {
     // The answer of a refusal: its number alone.
@@ -34,6 +35,22 @@ impl FrameOpened {
             nonce_ieee: OptionEui64::Absent,
             header: NwkHeader::blank(),
             aux: OptionAuxHeader::Absent,
+        }
+    }
+
+    // The answer of a frame that was read.
+    fn given(read: FrameRead, mark: Mark, length: usize, nonce_ieee: OptionEui64) -> FrameOpened
+        ensures { λ r. ⌜ r ≡ openedGiven read mark length «nonce_ieee» ⌝ }
+    {
+        let header = read.header;
+        let aux = read.aux;
+        FrameOpened {
+            refusal: 0,
+            mark,
+            length,
+            nonce_ieee,
+            header,
+            aux,
         }
     }
 }
@@ -110,27 +127,14 @@ pub fn open_under(keys: &[[[u8; 4]; 4]; 11], frame: &[u8], out: &mut [u8]) -> Fr
         return FrameOpened::refused(refusal);
     }
     if !header.frame_control.security {
-        return FrameOpened {
-            refusal: 0,
-            mark: Mark::Clear,
-            length: part.len(),
-            nonce_ieee: OptionEui64::Absent,
-            header,
-            aux,
-        };
+        return FrameOpened::given(read, Mark::Clear, part.len(), OptionEui64::Absent);
     }
     let present = aux.or_blank();
     if open_frame(keys, header, present, part, out) {
         let extended_source = present.extended_source;
         let source_ieee = header.source_ieee;
-        return FrameOpened {
-            refusal: 0,
-            mark: Mark::Sealed,
-            length: part.len() - ccm::MIC_LENGTH,
-            nonce_ieee: OptionEui64::Present(security::source_ieee(extended_source, source_ieee)),
-            header,
-            aux,
-        };
+        let ieee = OptionEui64::Present(security::source_ieee(extended_source, source_ieee));
+        return FrameOpened::given(read, Mark::Sealed, part.len() - ccm::MIC_LENGTH, ieee);
     }
     FrameOpened::refused(refusals::WRONG_MIC)
 }

@@ -24,12 +24,12 @@ returns c =
 
 returns-2 : tie.Need-returns-2
 returns-2 c =
-    let passed = c .before .before in
+    let passed = c .before .before .before in
     let rest = passed .before .before in
     let run =
     opened-clear _ _ _ _ _ _ (rest .before .before .read-frame .ensures) (rest .behind .ensures) (passed .before .open-refusal .ensures) (passed .if1 .left)
-    (not-true _ (c .if2 .taken)) in
-    (ap (λ (r : opening.Run). r .answer) run, ap (λ (r : opening.Run). r .out) run)
+    (not-true _ (c .before .if2 .taken)) in
+    (c .given .ensures ∙ ap (λ (r : opening.Run). r .answer) run, ap (λ (r : opening.Run). r .out) run)
 
 open-frame-requires : tie.Need-open-frame-requires
 open-frame-requires c κs =
@@ -43,23 +43,23 @@ open-frame-requires c κs =
     let e = ap (λ (x : NwkAuxHeader). length (headerBytes (read .read-frame .result .header)) + length (auxBytes x)) (c .before .or-blank .ensures) in
     (r .0, omega (arith, e, r .1), omega (arith, ap length (rest .behind .ensures), r .2), s .tagged bit, s .fits bit)
 
-sub-t23 : tie.Need-sub-t23
-sub-t23 c =
-    let sealed = c .before .before .before .before .before .before in
+sub-given : tie.Need-sub-given
+sub-given c =
+    let sealed = c .before .before .before .before .before .before .before in
     let passed = sealed .before .before in
     omega (arith, keyless _ _ _ _ _ _ (sym (passed .before .open-refusal .ensures) ∙ passed .if1 .left) .tagged (not-false _ (sealed .if2 .left)))
 
 returns-3 : tie.Need-returns-3
 returns-3 c =
-    let opened = c .before .before .before .before in
+    let opened = c .before .before .before .before .before in
     let sealed = opened .before .before .before in
     let passed = sealed .before .before in
     let rest = passed .before .before in
     let o = opened .open-frame .ensures in
     let run =
     opened-valid _ _ _ _ _ _ _ _ _ (rest .before .before .read-frame .ensures) (rest .behind .ensures) (opened .before .before .or-blank .ensures)
-    (passed .before .open-refusal .ensures) (passed .if1 .left) (not-false _ (sealed .if2 .left)) (o .0) (o .1) _ (c .source-ieee .ensures) (c .before .if3 .taken) in
-    (ap (λ (r : opening.Run). r .answer) run, ap (λ (r : opening.Run). r .out) run)
+    (passed .before .open-refusal .ensures) (passed .if1 .left) (not-false _ (sealed .if2 .left)) (o .0) (o .1) _ (c .before .source-ieee .ensures) (c .before .before .if3 .taken) in
+    (c .given2 .ensures ∙ ap (λ (r : opening.Run). r .answer) run, ap (λ (r : opening.Run). r .out) run)
 
 returns-4 : tie.Need-returns-4
 returns-4 c =
@@ -76,6 +76,6 @@ returns-4 c =
 pub open-under-spec : {M : Type 1} → statement M
 open-under-spec =
     tie.close
-    (tie.spec (λ c κs. search needs) (λ c κs. search needs) (λ c κs. search needs) (λ c κs. search needs) returns returns-2
-    (λ c κs. search needs) open-frame-requires sub-t23 (λ c κs. search needs) (λ c. search needs) returns-3 (λ c κs. search needs)
-    (λ c. search needs) returns-4)
+    (tie.spec (λ c κs. search needs) (λ c κs. search needs) (λ c κs. search needs) (λ c κs. search needs) returns (λ c κs. search needs)
+    returns-2 (λ c κs. search needs) open-frame-requires (λ c κs. search needs) sub-given (λ c κs. search needs) (λ c. search needs) returns-3
+    (λ c κs. search needs) (λ c. search needs) returns-4)
