@@ -4,7 +4,8 @@
 # make test             the gate: every proof and must-fail edit, then the tests of the host and of the C programs
 # make host-test        the tests of the host and of the C programs alone
 # make bench            times beside nettle, mbedtls and wolfSSL, of a journal in a file, stack and memory
-# make install          the command, its man page and completion, headers, archive and pkg-config file, below PREFIX
+# make install          the command, its man page and completion, and what install-codec installs, below PREFIX
+# make install-codec    headers, archive and pkg-config file, without Rust; the archive goes to LIBDIR, PREFIX/lib if not given
 # make clean            removes what the above made
 # make help             this list
 
@@ -20,6 +21,7 @@ export PATH := $(PATH):$(shell echo ~)/.cargo/bin
 TOOLCHAIN := rattle-kit-5b-plain logic 097e4c862dff5811
 
 PREFIX ?= /usr/local
+LIBDIR ?= $(PREFIX)/lib
 DESTDIR ?=
 
 ARCHIVE := target/staticlib/libnwk.a
@@ -34,8 +36,10 @@ needs_rt = $(call needs,rt,put the Rattle toolchain on the path)
 # Says where the toolchain is another; the proofs then decide.
 compares_rt = [[ $$(rt version) == "$(TOOLCHAIN)" ]] || echo "rt is another than $(TOOLCHAIN), which this was proved with" >&2
 needs_cargo = $(call needs,cargo,put Rust on the path (https://rustup.rs))
+# Prints each crate that is proved, and how many there are.
+count_crates = { n=0; while read -r line; do [[ $$line != "rt: "*" proved"* ]] || echo "$${line\#rt: }, $$((++n)) of $$crates"; done; }
 
-.PHONY: sample archive command test host-test install clean help
+.PHONY: sample archive command test host-test install install-codec clean help
 
 sample: $(COMMAND)
 	@$(COMMAND) open --key-file samples/store.key samples/store.pcap
@@ -51,11 +55,13 @@ help:
 $(ARCHIVE): $(RATTLE)
 	@$(needs_rt)
 	$(compares_rt)
-	$(if $(filter archive bench,$(MAKECMDGOALS)),,$(needs_cargo))
+	$(if $(filter archive bench install-codec,$(MAKECMDGOALS)),,$(needs_cargo))
 	echo "proving and compiling the codec, ten minutes or so the first time"
 	log=$$(mktemp)
 	trap 'rm -f "$$log"' EXIT
-	rt staticlib nwk 2>&1 | tee "$$log" | sed -un '/^rt: .* proved/p' || { cat "$$log"; exit 1; }
+	crates=$$(sed '/^nwk:/q' crates.txt | grep -c '^[a-z]')
+	rt staticlib nwk 2>&1 | tee "$$log" | $(count_crates) || { cat "$$log"; exit 1; }
+	echo "nwk proved and compiled, $$crates of $$crates"
 	touch $@
 
 $(COMMAND): $(ARCHIVE) $(HOST)
@@ -81,16 +87,19 @@ host-test: $(COMMAND)
 	@cd host
 	cargo test --release --offline
 
-install: $(COMMAND)
+install: $(COMMAND) install-codec
 	@to=$(DESTDIR)$(PREFIX)
 	install -D -m 755 $(COMMAND) $$to/bin/store-reader
 	install -D -m 644 host/man/store-reader.1 $$to/share/man/man1/store-reader.1
 	install -D -m 644 host/completions/store-reader.bash $$to/share/bash-completion/completions/store-reader
-	install -D -m 644 include/nwk.h $$to/include/nwk.h
-	install -D -m 644 include/nwk_null.h $$to/include/nwk_null.h
-	install -D -m 644 $(ARCHIVE) $$to/lib/libnwk.a
-	install -d $$to/lib/pkgconfig
-	sed 's|@PREFIX@|$(PREFIX)|; s|@VERSION@|$(VERSION)|' include/nwk.pc.in > $$to/lib/pkgconfig/nwk.pc
+
+install-codec: $(ARCHIVE)
+	@install -D -m 644 include/nwk.h $(DESTDIR)$(PREFIX)/include/nwk.h
+	install -D -m 644 include/nwk_null.h $(DESTDIR)$(PREFIX)/include/nwk_null.h
+	install -D -m 644 $(ARCHIVE) $(DESTDIR)$(LIBDIR)/libnwk.a
+	install -d $(DESTDIR)$(LIBDIR)/pkgconfig
+	sed 's|@PREFIX@|$(PREFIX)|; s|@LIBDIR@|$(patsubst $(PREFIX)/%,$${prefix}/%,$(LIBDIR))|; s|@VERSION@|$(VERSION)|' include/nwk.pc.in \
+	  > $(DESTDIR)$(LIBDIR)/pkgconfig/nwk.pc
 
 clean:
 	rm -rf target host/target

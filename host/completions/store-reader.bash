@@ -13,13 +13,18 @@ _store_reader() {
     mapfile -t COMPREPLY < <(compgen -f -- "$word")
     return
     ;;
-  --key | --source | --ieee | --counter | --key-sequence | --forget | --margin) return ;;
+  --by)
+    mapfile -t COMPREPLY < <(compgen -W "day hour" -- "$word")
+    return
+    ;;
+  --key | --source | --ieee | --counter | --key-sequence | --jump | --forget | --margin) return ;;
   esac
+  local of_frames="--full --json --csv --frames --by-sender --by --jump --local --summary-only --refused --source --flush --mac"
   case $command in
-  open) options="--key --key-file --full --json --csv --by-sender --summary-only --refused --source --replay --key-sequence" ;;
-  read) options="--full --json --csv --by-sender --summary-only --refused --source" ;;
+  open) options="--key --key-file --replay --key-sequence $of_frames" ;;
+  read) options=$of_frames ;;
   seal) options="--key --key-file --counter --ieee --key-sequence --json" ;;
-  command) options="--full --json --csv --summary-only --refused" ;;
+  command) options="--full --json --csv --summary-only --refused --flush" ;;
   journal) options="--shrink --forget --repair --margin --json" ;;
   refusals) options="--json --csv" ;;
   *) return ;;

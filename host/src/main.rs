@@ -4,42 +4,51 @@ mod cli {
     pub mod arguments;
     pub mod bytes;
     pub mod csv;
+    pub mod csv_table;
     pub mod describe;
+    pub mod frames;
+    pub mod help;
+    pub mod input;
+    pub mod interrupt;
     pub mod journal;
     pub mod keys;
     pub mod lines;
     pub mod link;
+    pub mod losses;
     pub mod mac;
+    pub mod nearest;
     pub mod pcap;
     pub mod pcapng;
+    pub mod period;
     pub mod progress;
     pub mod protocol;
+    pub mod refusals;
     pub mod replay;
+    pub mod rows;
     pub mod run;
     pub mod seal;
     pub mod senders;
+    pub mod sequences;
     pub mod show;
     pub mod source;
     pub mod summary;
+    pub mod text_table;
     pub mod time;
     pub mod value;
+    pub mod zone;
 }
 
 use cli::arguments::{parse, Arguments, Parsed};
-use cli::run::Failure;
+use cli::help::help;
+use cli::run::{Failure, USAGE};
 use cli::show::complain;
 use std::io::{self, BufWriter, ErrorKind, IsTerminal, Write};
 use std::process::ExitCode;
 
-const HELP: &str = include_str!("cli/help.txt");
-
-/// Wrong arguments, a file that cannot be opened or written, standard output included, or a capture of another link type.
-const USAGE: u8 = 2;
-
 fn main() -> ExitCode {
     let ended = match arguments().and_then(|given| parse(given.into_iter())) {
         Ok(Parsed::Run(arguments)) => run(&arguments),
-        Ok(Parsed::Help) => print(HELP),
+        Ok(Parsed::Help(command)) => print(&help(command)),
         Ok(Parsed::Version) => print(concat!("store-reader ", env!("CARGO_PKG_VERSION"), "\n")),
         Err(why) => Err(Failure::Input(format!("{why}\nstore-reader --help says more"))),
     };

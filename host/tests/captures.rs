@@ -201,7 +201,11 @@ fn damaged_pcapng_says_where() {
         (odd_length, "a block claims 53 bytes; the rest of the capture is not read"),
     ] {
         let ran = run(&["read"], &capture);
-        assert!(ran.out.ends_with("1 frame: 1 read, 0 refused\n1 input could not be read\n"), "{}", ran.out);
+        let rest = capture.len() - start;
+        let told = format!(
+            "1 frame: 1 read, 0 refused\n1 input could not be read\n{rest} bytes at the end of a capture not read\n"
+        );
+        assert!(ran.out.ends_with(&told), "{}", ran.out);
         assert_eq!((ran.err, ran.status), (format!("store-reader: record 2: {message}\n"), 1));
     }
     for n in [4, 11] {
@@ -229,11 +233,60 @@ fn captures_and_lines_out_of_a_slow_pipe() {
 fn a_capture_that_is_cut_says_where() {
     let whole = fs::read(root().join("samples/store.pcap")).expect("the sample capture");
     let ran = run(&["open", "--key", KEY], &whole[..whole.len() - 1]);
-    assert!(ran.out.ends_with("1 input could not be read\n"), "{}", ran.out);
+    // The last record has 16 bytes of header and a MAC frame of 11, of which one is gone.
+    assert!(ran.out.ends_with("1 input could not be read\n26 bytes at the end of a capture not read\n"), "{}", ran.out);
     assert_eq!((ran.err.as_str(), ran.status), ("store-reader: record 20: the capture ends inside this record\n", 1));
     let ran = run(&["read"], &whole[..30]);
     let message = "store-reader: record 1: the capture ends inside this record's header\n";
     assert_eq!((ran.err.as_str(), ran.status), (message, 1));
+}
+
+/// A capture that is damaged in its middle: how much was not read is told in text, as a table and as JSON, of a file and of a pipe.
+#[test]
+fn the_rest_of_a_damaged_capture_is_counted() {
+    let mut capture = pcap_header(230, false);
+    let record = &pcap(230, &MAC)[24..];
+    (0..100).for_each(|_| capture.extend(record));
+    let damaged_at = capture.len();
+    capture.extend([0xFF; 16]);
+    (0..9_085).for_each(|_| capture.extend(record));
+    let rest = capture.len() - damaged_at;
+    let path = scratch("damaged.pcap");
+    fs::write(&path, &capture).expect("a capture");
+    let name = path.to_str().expect("UTF-8");
+    for (arguments, told) in [
+        (&["read", "--summary-only"][..], format!("\n{rest} bytes at the end of a capture not read\n")),
+        (&["read", "--csv"], format!("\nnot read,,1,\nbytes not read,,{rest},\n")),
+        (&["read", "--summary-only", "--json"], format!("\"broken\":1,\"bytes_not_read\":{rest}}}}}\n")),
+    ] {
+        for ran in [run(arguments, &capture), run(&[arguments, &[name]].concat(), b"")] {
+            assert!(ran.out.ends_with(&told) && ran.status == 1, "{arguments:?}: {}", ran.out);
+        }
+    }
+    let text = run(&["read", "--summary-only", name], b"");
+    assert!(text.out.starts_with("100 frames: 100 read, 0 refused\n1 input could not be read\n"), "{}", text.out);
+    let message = "record 101: the record claims 4294967295 bytes; the rest of the capture is not read";
+    assert_eq!(text.err, format!("store-reader: {message}\n"));
+}
+
+/// Nothing that can be used: no bytes, no record, no record of IEEE 802.15.4, no frame in lines.
+#[test]
+fn inputs_without_anything_to_use() {
+    let ethernet = [section(), interface(1, &[]), packet(0, 0, &MAC)].concat();
+    for (bytes, message) in [
+        (Vec::new(), "no bytes"),
+        (pcap_header(195, false), "no record that can be used"),
+        ([section(), interface(195, &[])].concat(), "no record that can be used"),
+        (ethernet, "no record that can be used"),
+        (b"# nothing\n\n".to_vec(), "no frame"),
+    ] {
+        let ran = run(&["open", "--key", KEY], &bytes);
+        assert_eq!((ran.err, ran.status), (format!("store-reader: standard input: {message}\n"), 1));
+    }
+    // A beacon is none either that could be opened, but it was heard.
+    let beacon = [0x00, 0x80, 1, 0x62, 0x1A, 0, 0, 0xFF, 0xCF, 0, 0];
+    let ran = run(&["open", "--key", KEY], &pcap(230, &beacon));
+    assert_eq!((ran.err.as_str(), ran.status), ("", 0));
 }
 
 #[test]
@@ -298,12 +351,53 @@ fn what_tshark_writes() {
     assert!(written.status.success(), "{}", String::from_utf8_lossy(&written.stderr));
     let expected = run(&["open", "--key", KEY, "samples/store.pcap"], b"").out;
     assert_eq!(run(&["open", "--key", KEY, name], b"").out, expected);
-    let dump = tool("tshark", &["-r", "samples/store.pcap", "-x", "-Y", "frame.number == 10"]).expect("tshark").stdout;
-    // The MAC header is taken for a NWK header, which the command cannot know; the dump is read whole all the same.
-    let ran = run(&["read", "--json"], &dump);
-    assert!(ran.out.starts_with("{\"line\":1,"), "{}", ran.out);
-    assert!(ran.out.contains("010218020A000029C607"), "{}", ran.out);
-    assert!(ran.err.starts_with("store-reader: line 1: the offset in front is passed over"), "{}", ran.err);
+    // A dump has the MAC frames, whose headers are taken off. It has no times, and what is no NWK frame is none in it either.
+    for key in ["", KEY] {
+        let key = format!("uat:zigbee_pc_keys:\"{key}\",\"Normal\",\"\"");
+        let options: &[&str] = if key.contains(KEY) { &["-o", &key] } else { &[] };
+        let dump = tool("tshark", &[&["-r", "samples/store.pcap", "-x"], options].concat()).expect("tshark").stdout;
+        let ran = run(&["open", "--key", KEY], &dump);
+        let without_front = |text: &str| -> Vec<String> {
+            text.lines()
+                .map(|line| line.split_once("Z  ").map_or(line, |(_, behind)| behind).trim_start().to_string())
+                .collect()
+        };
+        let lines: Vec<String> = without_front(&expected);
+        let dumped: Vec<String> = without_front(&ran.out)
+            .into_iter()
+            .map(|line| {
+                line.split_once("  ")
+                    .filter(|(n, _)| n.parse::<u64>().is_ok())
+                    .map_or(line.clone(), |(_, line)| line.to_string())
+            })
+            .collect();
+        assert_eq!(dumped, lines);
+        assert!(ran.err.starts_with("store-reader: line ") && ran.err.lines().count() == 1, "{}", ran.err);
+    }
+}
+
+/// The same MAC frame as a dump, as a line with `--mac`, with its FCS, without one, and with a wrong one behind a right one.
+#[test]
+fn mac_frames_in_lines() {
+    let digits = |bytes: &[u8]| bytes.iter().map(|byte| format!("{byte:02X} ")).collect::<String>();
+    let shown = |fcs: &[u8]| run(&["read", "--mac"], digits(&[&MAC[..], fcs].concat()).as_bytes());
+    for fcs in [&FCS[..], &[]] {
+        assert_eq!(shown(fcs).out, format!("   1  {SHOWN}\n1 frame: 1 read, 0 refused\n"));
+    }
+    let tap = [&[0, 0, 12, 0, 0, 0, 1, 0, 1, 0, 0, 0][..], &MAC, &FCS].concat();
+    let phy = [&[0, 0, 0, 0, 0xA7, 20][..], &MAC, &FCS].concat();
+    for bytes in [&tap, &phy] {
+        let dump: String =
+            bytes.chunks(16).enumerate().map(|(at, line)| format!("{:04x}  {}\n", 16 * at, digits(line))).collect();
+        assert!(run(&["read"], dump.as_bytes()).out.starts_with(&format!("   1  {SHOWN}\n")), "{dump}");
+    }
+    let two = format!("{}\n{}\n", digits(&[&MAC[..], &FCS].concat()), digits(&[&MAC[..], &[0, 0]].concat()));
+    let ran = run(&["read", "--mac"], two.as_bytes());
+    assert!(ran.out.contains(&format!("   2  {SHOWN}  (wrong frame check sequence)\n")), "{}", ran.out);
+    // A line is a NWK frame unless it is said to be none; one that looks like a MAC frame is told once.
+    let ran = run(&["read"], two.as_bytes());
+    let told = "store-reader: line 1: this looks like a MAC frame, and is read as a NWK frame; see --mac\n";
+    assert_eq!((ran.err.as_str(), ran.status), (told, 0));
 }
 
 /// text2pcap makes a capture of a dump, and mergecap one of two captures with interfaces of two link types.

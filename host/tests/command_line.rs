@@ -38,6 +38,7 @@ const SUMMARY: &str = "14 frames: 9 opened, 1 clear, 4 refused
      1 refused by 3: the frame type is 2
      1 refused by 10: an auxiliary header with extended nonce has 6 to 12 bytes
      2 refused by 19: the MIC is not the one computed
+         2 with a right frame check sequence: under another key, or altered
      1 with a wrong frame check sequence
 6 records without a NWK frame to open
      1 6LoWPAN frame
@@ -108,7 +109,7 @@ fn filters_choose_what_is_printed_and_not_what_is_counted() {
     assert_eq!(open(&["--source=d105", "--source=0000"]), numbered(OPENED, &[2, 5, 6, 7]) + SUMMARY);
     assert_eq!(open(&["--source", "0x7A10", "--refused"]), numbered(OPENED, &[8, 12]) + SUMMARY);
     let json = open(&["--summary-only", "--json"]);
-    assert!(json.starts_with(r#"{"summary":{"frames":14,"#) && json.lines().count() == 1, "{json}");
+    assert!(json.starts_with(r#"{"summary":{"json_version":1,"frames":14,"#) && json.lines().count() == 1, "{json}");
 }
 
 #[test]
@@ -156,7 +157,7 @@ fn keys_that_look_wrong_are_said_at_the_end() {
     // A table is left as it is, and the line comes on standard error.
     let ran = run(&["open", "--key", other, "--csv", "--by-sender", "samples/store.pcap"], b"");
     assert_eq!(ran.err, "store-reader: no key opened any of 11 sealed frames: the keys look wrong\n");
-    assert!(!ran.out.contains("wrong") && ran.status == 0, "{}", ran.out);
+    assert!(!ran.out.contains("look wrong") && ran.status == 0, "{}", ran.out);
     // A capture without any sealed frame says nothing of the keys, and clear frames beside sealed ones speak for no key.
     let clear = "0800000034121E07AA\n";
     let ran = run(&["open", "--key", other], clear.as_bytes());
@@ -185,6 +186,99 @@ fn key_files_are_read_line_by_line() {
         assert_eq!(ran.err, format!("store-reader: {message}\nstore-reader --help says more\n"));
         assert_eq!(ran.status, 2);
     }
+}
+
+/// Notepad puts a byte order mark in front of a text.
+#[test]
+fn a_key_file_may_begin_with_a_byte_order_mark() {
+    let path = scratch("marked.keys");
+    fs::write(&path, format!("\u{FEFF}{KEY}\r\n")).expect("a key file");
+    let ran = run(&["open", "--key-file", path.to_str().expect("UTF-8"), "samples/store.pcap"], b"");
+    assert_eq!((ran.out, ran.err.as_str(), ran.status), (format!("{OPENED}{SUMMARY}"), "", 0));
+}
+
+/// Several files are one run: each behind its name, with records from 1, and one summary.
+#[test]
+fn several_files_in_one_run() {
+    let files = ["samples/store.pcap", "samples/store.pcapng"];
+    let alone = files.map(|file| run(&["open", "--key", KEY, file], b"").out);
+    let lines =
+        |text: &str| text.split_inclusive('\n').take_while(|line| !line.contains(" frames: ")).collect::<String>();
+    let ran = run(&[&["open", "--key", KEY][..], &files].concat(), b"");
+    let expected = format!(
+        "{}:\n{}{}:\n{}18 frames: 13 opened, 1 clear, 4 refused\n",
+        files[0],
+        lines(&alone[0]),
+        files[1],
+        lines(&alone[1])
+    );
+    assert!(ran.out.starts_with(&expected), "{}", ran.out);
+    assert_eq!((ran.err.as_str(), ran.status), ("", 0));
+    let json = run(&[&["open", "--key", KEY, "--json"][..], &files].concat(), b"").out;
+    assert!(json.contains("{\"file\":\"samples/store.pcapng\",\"record\":1,"), "{json}");
+    // A name that is wrong is told before anything is read, and standard input may be one of the files.
+    let ran = run(&["open", "--key", KEY, files[0], "no-such-file"], b"");
+    let message = "store-reader: no-such-file: No such file or directory (os error 2)\n";
+    assert_eq!((ran.out.as_str(), ran.err.as_str(), ran.status), ("", message, 2));
+    let ran = run(&["open", "--key", KEY, "--summary-only", files[0], "-"], &sample());
+    assert!(ran.out.starts_with("28 frames: 18 opened, 2 clear, 8 refused\n"), "{}", ran.out);
+    // What is wrong in one of them is told with its name, and the others are read.
+    let broken = scratch("broken.txt");
+    fs::write(&broken, "08 0\n").expect("a file");
+    let name = broken.to_str().expect("UTF-8");
+    let ran = run(&["open", "--key", KEY, "--summary-only", files[0], name, files[1]], b"");
+    assert_eq!(
+        (ran.err, ran.status),
+        (format!("store-reader: {name}: line 1: an odd number of hexadecimal digits, 3\n"), 1)
+    );
+    assert!(ran.out.starts_with("18 frames: 13 opened,"), "{}", ran.out);
+}
+
+/// One row a frame: as many as the sample has records, those of the frames that it was made of, and what the filters let through.
+#[test]
+fn one_row_a_frame() {
+    let open = |options: &[&str]| {
+        let arguments = [&["open", "--key", KEY, "--csv", "--frames"], options, &["samples/store.pcap"]].concat();
+        let ran = run(&arguments, b"");
+        assert_eq!((ran.err.as_str(), ran.status), ("", 0));
+        ran.out
+    };
+    let all = open(&[]);
+    let rows: Vec<&str> = all.lines().collect();
+    assert_eq!(rows.len(), 1 + 20);
+    let heads = rows[0].split(',').count();
+    let file = "samples/store.pcap";
+    for (record, row) in [
+        (
+            3,
+            "2026-11-18T11:06:42.000000Z,0x1A62,0x7A10,0x0000,right,opened,,,data,0x7A10,0x0000,7,,00:12:4B:00:1C:A1:B2:C3,0,74565,,,\
+             000102040401010118010A0000296608",
+        ),
+        (
+            8,
+            "2026-11-18T11:06:47.000000Z,0x1A62,0x7A10,0x0000,right,refused,19,the MIC is not the one computed,data,0x7A10,0x0000,8,,\
+             00:12:4B:00:1C:A1:B2:C3,0,74566,,,",
+        ),
+        (
+            11,
+            "2026-11-18T11:06:50.000000Z,0x1A62,0x7A10,0x0000,right,opened,,,command,0x7A10,0x0000,9,,00:12:4B:00:1C:A1:B2:C3,0,74567,,\
+             end device timeout request,0B0E00",
+        ),
+        (18, "2026-11-18T11:06:57.000000Z,0xFFFF,,0xFFFF,right,not a NWK frame,,Green Power frame,,,,,,,,,,,"),
+    ] {
+        assert_eq!(rows[record], format!("{file},{record},{row}"));
+        assert_eq!(rows[record].split(',').count(), heads);
+    }
+    assert_eq!(open(&["--refused"]).lines().count(), 1 + 4);
+    assert_eq!(open(&["--source", "0xD105"]).lines().count(), 1 + 2);
+    let lines = run(&["read", "--csv", "--frames"], b"08 00 00 00 34 12 1E 07 AA\n08 0\n");
+    let expected = "standard input,1,,,,,,read,,,data,0x1234,0x0000,7,,,,,,,AA\n\
+                    standard input,2,,,,,,not read,,\"an odd number of hexadecimal digits, 3\",,,,,,,,,,,\n";
+    assert_eq!(lines.out.split_once('\n').expect("heads").1, expected);
+    assert_eq!(
+        (lines.err.as_str(), lines.status),
+        ("store-reader: line 2: an odd number of hexadecimal digits, 3\n", 1)
+    );
 }
 
 #[test]
@@ -305,8 +399,8 @@ fn json_is_one_object_a_line() {
         "\n",
         r#"{"line":3,"refusal":2,"condition":"a header has fewer than 8 bytes","bytes":"08"}"#,
         "\n",
-        r#"{"summary":{"frames":2,"accepted":1,"refused":1,"refusals":[{"refusal":2,"count":1,"#,
-        r#""condition":"a header has fewer than 8 bytes"}],"skipped":[],"wrong_fcs":0,"broken":1}}"#,
+        r#"{"summary":{"json_version":1,"frames":2,"accepted":1,"refused":1,"refusals":[{"refusal":2,"count":1,"#,
+        r#""condition":"a header has fewer than 8 bytes"}],"skipped":[],"wrong_fcs":0,"broken":1,"bytes_not_read":0}}"#,
         "\n"
     );
     assert_eq!((ran.out.as_str(), ran.status), (expected, 1));
@@ -349,6 +443,7 @@ clear,,1,
 refused,3,1,the frame type is 2
 refused,10,1,an auxiliary header with extended nonce has 6 to 12 bytes
 refused,19,2,the MIC is not the one computed
+of these,19,2,\"with a right frame check sequence: under another key, or altered\"
 not a NWK frame,,1,6LoWPAN frame
 not a NWK frame,,1,Green Power frame
 not a NWK frame,,1,MAC acknowledgement
@@ -357,6 +452,7 @@ not a NWK frame,,1,MAC data frame without a payload
 not a NWK frame,,1,inter-PAN frame
 wrong frame check sequence,,1,
 not read,,0,
+bytes not read,,0,
 ";
     assert_eq!((ran.out.as_str(), ran.err.as_str(), ran.status), (expected, "", 0));
     let quoted = run(&["refusals", "--csv"], b"").out;
@@ -448,13 +544,13 @@ fn marks_as_json() {
         "\n",
         r#"{"line":3,"refusal":2,"condition":"a header has fewer than 8 bytes","bytes":"08"}"#,
         "\n",
-        r#"{"summary":{"frames":3,"opened":1,"clear":1,"refused":1,"refusals":[{"refusal":2,"count":1,"#,
-        r#""condition":"a header has fewer than 8 bytes"}],"skipped":[],"wrong_fcs":0,"broken":0}}"#,
+        r#"{"summary":{"json_version":1,"frames":3,"opened":1,"clear":1,"refused":1,"refusals":[{"refusal":2,"count":1,"#,
+        r#""condition":"a header has fewer than 8 bytes"}],"skipped":[],"wrong_fcs":0,"broken":0,"bytes_not_read":0}}"#,
         "\n"
     );
     assert_eq!(open(&input), expected);
     let none = open(SEALED);
-    assert!(none.contains(r#"{"summary":{"frames":1,"opened":1,"clear":0,"refused":0,"#), "{none}");
+    assert!(none.contains(r#"{"summary":{"json_version":1,"frames":1,"opened":1,"clear":0,"refused":0,"#), "{none}");
 }
 
 /// Without a clear frame the line is as it was, and the table has its row with 0. Reading marks nothing.
@@ -583,8 +679,23 @@ fn wrong_arguments_are_named() {
             "open has --key-sequence only beside --replay: else no key sequence number is active",
         ),
         (&["open", "--key", KEY, "--replay", "--key-sequence=256"], "--key-sequence: \"256\" is no number that fits"),
-        (&["read", "a", "b"], "read takes one file here: \"b\""),
-        (&["read", "--", "--json", "b"], "read takes one file here: \"b\""),
+        (&["command", "a", "b"], "command takes one file here: \"b\""),
+        (&["command", "--", "--json", "b"], "command takes one file here: \"b\""),
+        (&["read", "-", "-"], "- is given twice"),
+        (&["open", "--by-sendr"], "open has no option --by-sendr; did you mean --by-sender?"),
+        (&["open", "--jmup=3"], "open has no option --jmup; did you mean --jump?"),
+        (&["opne"], "\"opne\" is no command; did you mean open?"),
+        (&["help", "raed"], "\"raed\" is no command; did you mean read?"),
+        (&["read", "--by", "week"], "--by: \"week\" is neither day nor hour"),
+        (&["read", "--by-sender", "--jump", "0"], "--jump: a counter rises by 1 at least"),
+        (&["read", "--jump", "7"], "read has --jump only beside --by-sender or --by"),
+        (&["read", "--frames"], "--frames is given only beside --csv"),
+        (&["read", "--json", "--frames"], "--frames is given only beside --csv"),
+        (&["read", "--csv", "--frames", "--summary-only"], "--frames and --summary-only exclude each other"),
+        (
+            &["read", "--csv", "--frames", "--by=day"],
+            "--frames has a row for each frame, and no rows by sender or time",
+        ),
         (&["read", "--source", "0x12345"], "--source: an odd number of hexadecimal digits, 5"),
         (&["journal", "--full"], "journal has no option --full"),
         (&["journal", "--csv"], "journal has no option --csv"),
@@ -631,7 +742,7 @@ fn the_version_is_that_of_the_crate() {
 
 #[test]
 fn help_shows_an_example_of_each_command() {
-    for arguments in [&["--help"][..], &["open", "--help"], &["help"], &["seal", "-h"]] {
+    for arguments in [&["--help"][..], &["help"], &["-h"]] {
         let ran = run(arguments, b"");
         assert_eq!((ran.err.as_str(), ran.status), ("", 0));
         let examples = ran.out.split("Examples").nth(1).expect("examples");
@@ -650,7 +761,7 @@ fn the_examples_of_the_help_run() {
     let path =
         format!("{}:{}", folder.parent().expect("a folder").display(), std::env::var("PATH").unwrap_or_default());
     let lines: Vec<&str> = examples.lines().filter(|line| !line.trim().is_empty()).collect();
-    assert_eq!(lines.len(), 9);
+    assert_eq!(lines.len(), 13);
     for line in lines {
         let ran =
             Command::new("sh").args(["-c", line]).env("PATH", &path).current_dir(root()).output().expect("a shell");

@@ -5,8 +5,7 @@ mod support;
 use std::collections::BTreeSet;
 use std::fs;
 use support::command::{root, run, tool, KEY};
-
-const COMMANDS: [&str; 6] = ["open", "read", "seal", "command", "journal", "refusals"];
+use support::man::{self, man_page, COMMANDS};
 
 /// The long options that a text names, each behind a blank, a bracket, a bar or at the start of a line.
 fn options(text: &str) -> BTreeSet<String> {
@@ -15,25 +14,44 @@ fn options(text: &str) -> BTreeSet<String> {
     names.map(|word| word.trim_end_matches(['.', ':', ';']).split('=').next().unwrap_or("").to_string()).collect()
 }
 
-/// The help up to its examples.
+/// The help of all commands, each up to its examples.
 fn help() -> String {
-    let help = run(&["--help"], b"").out;
-    help.split("Examples").next().expect("a help").to_string()
+    let pages = [None].into_iter().chain(COMMANDS.map(Some)).map(man::help);
+    pages.map(|page| page.split("Examples").next().expect("a help").to_string()).collect()
 }
 
 fn file(path: &str) -> String {
     fs::read_to_string(root().join(path)).unwrap_or_else(|e| panic!("{path}: {e}"))
 }
 
+/// The help is the one home of what the man page says: with `WRITE_MAN` set the page is written.
 #[test]
-fn the_man_page_names_the_same_options_and_commands() {
-    let page = file("host/man/store-reader.1").replace("\\-", "-");
-    assert_eq!(options(&page), options(&help()));
-    for name in COMMANDS {
-        assert!(page.contains(&format!("\n.B {name}\n")), "the man page does not explain {name}");
-        assert!(help().contains(&format!("\n{name} ")), "the help does not explain {name}");
+fn the_man_page_is_made_of_the_help() {
+    let page = man_page();
+    if std::env::var_os("WRITE_MAN").is_some() {
+        fs::write(root().join("host/man/store-reader.1"), &page).expect("the man page");
     }
-    assert!(page.contains(&format!("\"store-reader {}\"", env!("CARGO_PKG_VERSION"))), "another version");
+    assert!(file("host/man/store-reader.1") == page, "WRITE_MAN=1 cargo test --test help writes the man page");
+    assert_eq!(options(&page.replace("\\-", "-")), options(&help()));
+}
+
+/// A command's help is about that command: it names each option that the command takes, and no other.
+#[test]
+fn each_command_has_its_own_help() {
+    for name in COMMANDS {
+        let page = man::help(Some(name));
+        assert!(page.starts_with(&format!("store-reader {name} ")), "{page}");
+        assert_eq!(run(&["help", name], b"").out, page);
+        let examples = page.split("Examples").nth(1).expect("examples");
+        assert!(examples.lines().filter(|line| !line.trim().is_empty()).count() > 0);
+        let named = options(&page);
+        for option in options(&help()) {
+            let has = !run(&[name, &option], b"").err.contains(&format!("{name} has no option {option}"));
+            let of_all = ["--help", "--version"].contains(&option.as_str());
+            assert!(named.contains(&option) == (has && !of_all), "{name} {option}: {has}");
+        }
+    }
+    assert!(options(&man::help(None)).contains("--version"));
 }
 
 /// groff, where it is installed, has nothing to say against the man page.
@@ -83,8 +101,8 @@ fn bash_completes_what_the_command_takes() {
 /// The help says where a summary is printed: by open, read and command, and not by seal.
 #[test]
 fn the_help_is_true_of_the_summary() {
-    assert!(help().contains("the summary, which open, read and command print at the end"));
-    assert!(help().contains("For seal, which prints no summary"));
+    assert!(help().contains("open, read and command count refusals in their summary"));
+    assert!(help().contains("prints the sealed frames, a line each and without a summary"));
     assert!(
         help().contains("a\n                      counter that is sealed twice under one key repeats the key stream")
     );

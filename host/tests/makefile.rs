@@ -3,7 +3,7 @@
 mod support;
 
 use std::fs;
-use std::os::unix::fs::symlink;
+use std::os::unix::fs::{symlink, PermissionsExt};
 use std::path::{Path, PathBuf};
 use std::process::{Command, Output};
 use support::command::{not_installed, root, scratch};
@@ -77,8 +77,45 @@ fn what_is_installed_works() {
     assert!(Command::new(program).output().expect("the program").status.success());
 }
 
+/// Header, archive and pkg-config file are installed without Rust and without the command, the archive where LIBDIR says.
+#[test]
+fn the_codec_alone_is_installed() {
+    let staging = fresh("staging-codec");
+    let to = format!("DESTDIR={}", staging.display());
+    for (libdir, in_file) in [("/opt/nwk/lib64", "libdir=${prefix}/lib64\n"), ("/srv/lib", "libdir=/srv/lib\n")] {
+        let installed = make(&["install-codec", "PREFIX=/opt/nwk", &format!("LIBDIR={libdir}"), &to]);
+        assert!(installed.status.success(), "{}", text(&installed));
+        let at = |path: &str| staging.join(path.trim_start_matches('/'));
+        assert!(at(&format!("{libdir}/libnwk.a")).is_file() && at("/opt/nwk/include/nwk.h").is_file());
+        let pc = fs::read_to_string(at(&format!("{libdir}/pkgconfig/nwk.pc"))).expect("nwk.pc");
+        assert!(pc.contains("prefix=/opt/nwk\n") && pc.contains(in_file), "{pc}");
+        assert!(!at("/opt/nwk/bin").exists(), "the command is installed too");
+    }
+    let said = text(&lacking("lacking-codec", &["rt"], "install-codec"));
+    assert!(said.contains("ten minutes") && !said.contains("cargo is missing"), "{said}");
+}
+
+/// Each crate is told as it is proved, with how many there are: a toolchain that proves two, and leaves no archive.
+#[test]
+fn crates_are_counted() {
+    let crates = fs::read_to_string(root().join("crates.txt")).expect("crates.txt");
+    let up_to_nwk = crates.lines().take_while(|line| !line.starts_with("nwk:")).filter(|line| line.contains(':'));
+    let all = up_to_nwk.filter(|line| !line.starts_with('#')).count() + 1;
+    let script =
+        "#!/bin/sh\n[ $1 = version ] || printf 'fn a: proved\\nrt: octets proved (15 s)\\nrt: types proved (8 s)\\n'\n";
+    let said = text(&lacking_with("lacking-count", &[("rt", script)], "archive"));
+    let told = format!("octets proved (15 s), 1 of {all}\ntypes proved (8 s), 2 of {all}\n");
+    assert!(said.contains(&told), "{said}");
+}
+
 /// A repository with no archive, and a path with the plain tools and these.
 fn lacking(name: &str, tools: &[&str], target: &str) -> Output {
+    let tools: Vec<(&str, &str)> = tools.iter().map(|tool| (*tool, "#!/bin/sh\nexit 1\n")).collect();
+    lacking_with(name, &tools, target)
+}
+
+/// The same where the tools are these scripts.
+fn lacking_with(name: &str, tools: &[(&str, &str)], target: &str) -> Output {
     let folder = fresh(name);
     for path in ["Makefile", "crates.txt", "bench/bench.mk", "host/Cargo.toml", "host/Cargo.lock", "host/build.rs"] {
         let to = folder.join(path);
@@ -97,8 +134,10 @@ fn lacking(name: &str, tools: &[&str], target: &str) -> Output {
             symlink(path, folder.join("bin").join(tool)).expect("a link");
         }
     }
-    for tool in tools {
-        symlink("/bin/false", folder.join("bin").join(tool)).expect("a link");
+    for (tool, script) in tools {
+        let path = folder.join("bin").join(tool);
+        fs::write(&path, script).expect("a script");
+        fs::set_permissions(&path, fs::Permissions::from_mode(0o755)).expect("a program");
     }
     let make = places.split(':').map(|place| Path::new(place).join("make")).find(|path| path.is_file()).expect("make");
     let mut command = Command::new(make);

@@ -133,6 +133,7 @@ fn the_sample_twice() {
      2 refused by 3: the frame type is 2
      2 refused by 10: an auxiliary header with extended nonce has 6 to 12 bytes
      4 refused by 19: the MIC is not the one computed
+         4 with a right frame check sequence: under another key, or altered
      9 {BY_23}
 "
     );
@@ -233,7 +234,7 @@ fn refused_ones_in_full() {
     assert!(second.ends_with(&format!("\"bytes\":\"{}\"}}", of_probe(10).line().trim_end())), "{second}");
     assert!(!second.contains("mark") && !second.contains("payload"), "{second}");
     let summary = concat!(
-        r#"{"summary":{"frames":2,"opened":1,"clear":0,"refused":1,"refusals":[{"refusal":23,"count":1,"#,
+        r#"{"summary":{"json_version":1,"frames":2,"opened":1,"clear":0,"refused":1,"refusals":[{"refusal":23,"count":1,"#,
         r#""condition":"the frame counter is FFFFFFFF or not above the sender's stored one"}],"#
     );
     assert!(out.lines().nth(2).expect("a summary").starts_with(summary), "{out}");
@@ -252,19 +253,30 @@ fn counts_by_sender() {
     frames.extend([Frame { counter: 4, ..frames[0] }, Frame { counter: 12, ..frames[0] }]);
     frames.push(Frame { counter: 13, number: 7, ..frames[0] });
     let out = opened(&["--by-sender", "--summary-only"], &lines(&frames)).out;
-    let row = |of: &str| {
-        let row = out.lines().find(|line| line.starts_with(of)).unwrap_or_else(|| panic!("no row of {of}: {out}"));
-        row.split("  ").map(str::trim).filter(|cell| !cell.is_empty()).collect::<Vec<_>>().join("|")
+    let rows = |of: &str| -> Vec<String> {
+        let rows = out.lines().filter_map(|line| line.strip_prefix(of));
+        let cells =
+            |row: &str| row.split("  ").map(str::trim).filter(|cell| !cell.is_empty()).collect::<Vec<_>>().join("|");
+        rows.map(cells).collect()
     };
-    assert_eq!(row("00:00:00:00:00:00:00:01"), "00:00:00:00:00:00:00:01|0x0001|2|2|1 by 22, 1 by 23|10 to 12|1");
-    assert_eq!(row("00:00:00:00:00:00:00:02"), "00:00:00:00:00:00:00:02|0x0002|1|0|10 to 10|0");
-    assert_eq!(row("00:00:00:00:00:00:00:41"), "00:00:00:00:00:00:00:41|0x0041|0|1|1 by 24");
+    // 4 lies below the first counter of 10, and the frame under number 7 has counters of its own. All have the sequence number 0,
+    // so nothing says that 11 was sent, or that 4 was a replay.
+    let first = [
+        "0x0001|2|2|1 by 22, 1 by 23|0",
+        "0|10 to 12|2|1|0|0|1|1|at least 0|at least 0.0 %",
+        "7|13 to 13|1|0|0|0|0|0|0|0.0 %",
+    ];
+    assert_eq!(rows("00:00:00:00:00:00:00:01"), first);
+    assert_eq!(rows("00:00:00:00:00:00:00:02"), ["0x0002|1|0|0", "0|10 to 10|1|0|0|0|0|0|0|0.0 %"]);
+    assert_eq!(rows("00:00:00:00:00:00:00:41"), ["0x0041|0|1|1 by 24", "0|10 to 10|1|0|0|0|0|0|0|0.0 %"]);
     assert!(out.contains("\n68 frames: 65 opened, 3 refused\n"), "{out}");
 
     let json = opened(&["--by-sender", "--summary-only", "--json"], &lines(&frames)).out;
     let first = r#"{"sender":{"ieee":"00:00:00:00:00:00:00:01","short":["0x0001"],"opened":2,"clear":0,"refused":2,"#;
-    let refusals =
-        r#""refusals":[{"refusal":22,"count":1},{"refusal":23,"count":1}],"first_counter":10,"last_counter":12,"#;
+    let refusals = concat!(
+        r#""refusals":[{"refusal":22,"count":1},{"refusal":23,"count":1}],"sequence_numbers_never_heard":0,"#,
+        r#""counters":[{"key_number":0,"first":10,"highest":12,"received":2,"gaps":1,"#
+    );
     assert!(json.lines().any(|line| line.starts_with(&format!("{first}{refusals}"))), "{json}");
 }
 
@@ -279,7 +291,7 @@ fn columns_of_the_table() {
     let heads = |table: &str| table.lines().next().expect("heads").split(',').map(str::to_string).collect::<Vec<_>>();
     let added: Vec<String> = heads(&with).into_iter().filter(|head| !heads(&without).contains(head)).collect();
     assert_eq!(added, ["refused_by_22", "refused_by_23", "refused_by_24"]);
-    assert_eq!((heads(&without).len(), heads(&with).len()), (5 + 19 + 5, 5 + 22 + 5));
+    assert_eq!((heads(&without).len(), heads(&with).len()), (5 + 19 + 19, 5 + 22 + 19));
     let column = |head: &str| {
         let at = heads(&with).iter().position(|found| found == head).expect("a column");
         with.lines()

@@ -94,6 +94,26 @@ impl Answer {
         fields
     }
 
+    /// The frame's type in a word.
+    pub fn kind(&self) -> Option<&'static str> {
+        self.header.as_ref().map(kind)
+    }
+
+    /// The name of the command that the frame carries; empty where it carries none.
+    pub fn command_name(&self) -> String {
+        let of_command = |(name, value): &(&str, Value)| match value {
+            Value::Object(fields) if *name == "command" => fields.first().map(|(_, name)| name.line()),
+            _ => None,
+        };
+        self.fields.iter().find_map(of_command).unwrap_or_default()
+    }
+
+    /// The payload, or what is sealed, in hexadecimal digits.
+    pub fn payload_digits(&self) -> String {
+        let bytes = self.fields.iter().find(|(name, _)| ["payload", "sealed"].contains(name));
+        bytes.map_or(String::new(), |(_, value)| value.line())
+    }
+
     /// Adds what opening gave of a frame. The mark is left out if the payload turns out to be refused.
     fn accepted(mut self, mark: Mark, header: NwkHeader, payload: &[u8]) -> Self {
         self.add_payload(&header, payload);

@@ -1,5 +1,10 @@
 //! The command line.
 use super::keys::{self, NumberedKey};
+use super::losses::JUMP;
+use super::nearest::nearest;
+use super::period::By;
+use super::senders::Telling;
+use super::source::Reading;
 use store_reader::{Eui64, Nwk};
 
 /// How the answers are shown.
@@ -10,6 +15,8 @@ pub enum Show {
     Json,
     /// The summary alone, as a table of comma-separated values.
     Csv,
+    /// One row a frame, as comma-separated values.
+    Frames,
 }
 
 /// What sealing adds to clear frames.
@@ -73,26 +80,45 @@ pub struct Arguments {
     pub task: Task,
     pub show: Show,
     pub filter: Filter,
-    pub by_sender: bool,
-    pub file: Option<String>,
+    /// Figures by sender or by time, where they are asked for.
+    pub telling: Option<Telling>,
+    pub reading: Reading,
+    /// Each line is written out at once, also into a pipe.
+    pub flush: bool,
+    /// The inputs by name; none for standard input.
+    pub files: Vec<String>,
+}
+
+impl Arguments {
+    /// The first input's name, of a command that takes one.
+    pub fn file(&self) -> Option<&str> {
+        self.files.first().map(String::as_str)
+    }
 }
 
 pub enum Parsed {
     Run(Arguments),
-    Help,
+    /// The help of a command, or of all.
+    Help(Option<&'static str>),
     Version,
 }
 
 const COMMANDS: [&str; 6] = ["open", "read", "seal", "command", "journal", "refusals"];
 
 /// The options: the commands that have them, whether they take a value, and whether they may be given more than once.
-const OPTIONS: [(&str, &[&str], bool, bool); 19] = [
+const OPTIONS: [(&str, &[&str], bool, bool); 25] = [
     ("--key", &["open", "seal"], true, true),
     ("--key-file", &["open", "seal"], true, true),
     ("--full", &["open", "read", "command"], false, false),
     ("--json", &COMMANDS, false, false),
     ("--csv", &["open", "read", "command", "refusals"], false, false),
     ("--by-sender", &["open", "read"], false, false),
+    ("--by", &["open", "read"], true, false),
+    ("--jump", &["open", "read"], true, false),
+    ("--local", &["open", "read"], false, false),
+    ("--frames", &["open", "read"], false, false),
+    ("--mac", &["open", "read"], false, false),
+    ("--flush", &["open", "read", "command"], false, false),
     ("--summary-only", &["open", "read", "command"], false, false),
     ("--refused", &["open", "read", "command"], false, false),
     ("--source", &["open", "read"], true, true),
@@ -135,17 +161,32 @@ pub fn parse(mut arguments: impl Iterator<Item = String>) -> Result<Parsed, Stri
         return Err("a command is missing".to_string());
     };
     match name.as_str() {
-        "--help" | "-h" | "help" => return Ok(Parsed::Help),
+        "--help" | "-h" => return Ok(Parsed::Help(None)),
+        "help" => return help(arguments.next()),
         "--version" | "-V" => return Ok(Parsed::Version),
         name if COMMANDS.contains(&name) => {}
-        other => return Err(format!("{other:?} is no command")),
+        other => return Err(no_command(other)),
     }
     let given = given(&name, arguments)?;
     match (given.has("--help"), given.has("--version")) {
-        (true, _) => Ok(Parsed::Help),
+        (true, _) => help(Some(name)),
         (_, true) => Ok(Parsed::Version),
         _ => arguments_of(&name, given).map(Parsed::Run),
     }
+}
+
+/// The help of a command, where one is named.
+fn help(name: Option<String>) -> Result<Parsed, String> {
+    let Some(name) = name else {
+        return Ok(Parsed::Help(None));
+    };
+    let found = COMMANDS.into_iter().find(|command| *command == name);
+    found.map(|command| Parsed::Help(Some(command))).ok_or(no_command(&name))
+}
+
+fn no_command(typed: &str) -> String {
+    let near = nearest(typed, COMMANDS.into_iter());
+    format!("{typed:?} is no command{}", near.map_or(String::new(), |near| format!("; did you mean {near}?")))
 }
 
 /// Takes the arguments of a command apart; behind `--` there are no options.
@@ -189,8 +230,15 @@ fn known(name: &str, option: &str) -> Result<(&'static str, bool, bool), String>
     let found = OPTIONS.iter().find(|(option, commands, _, _)| *option == long && commands.contains(&name));
     match found {
         Some((option, _, takes_value, repeats)) => Ok((option, *takes_value, *repeats)),
-        None => Err(format!("{name} has no option {option}")),
+        None => Err(no_option(name, option)),
     }
+}
+
+/// What is said of an option that a command has not, with the nearest that it has. The key of `--key=..` is not repeated.
+fn no_option(name: &str, option: &str) -> String {
+    let options = OPTIONS.iter().filter(|(_, commands, _, _)| commands.contains(&name)).map(|(option, ..)| *option);
+    let near = nearest(option, options);
+    format!("{name} has no option {option}{}", near.map_or(String::new(), |near| format!("; did you mean {near}?")))
 }
 
 fn arguments_of(name: &str, given: Given) -> Result<Arguments, String> {
@@ -207,23 +255,65 @@ fn arguments_of(name: &str, given: Given) -> Result<Arguments, String> {
         refused: given.has("--refused"),
         sources: given.values("--source").map(source).collect::<Result<_, _>>()?,
     };
-    let (show, by_sender) = (show(&given)?, given.has("--by-sender"));
-    let most = if task == Task::Refusals { 0 } else { 1 };
-    let mut operands = given.operands;
-    if operands.len() > most {
-        let takes = if most == 0 { "no file" } else { "one file" };
-        return Err(format!("{name} takes {takes} here: {:?}", operands[most]));
+    let (show, telling) = (show(&given)?, telling(name, &given)?);
+    if let (Show::Frames, Some(_)) = (show, &telling) {
+        return Err("--frames has a row for each frame, and no rows by sender or time".to_string());
     }
-    Ok(Arguments { task, show, filter, by_sender, file: operands.pop() })
+    let reading = Reading { local: given.has("--local"), mac: given.has("--mac") };
+    let flush = given.has("--flush");
+    let files = files(name, given.operands)?;
+    Ok(Arguments { task, show, filter, telling, reading, flush, files })
+}
+
+/// The inputs: any number of captures, one journal, one input of lines.
+fn files(name: &str, operands: Vec<String>) -> Result<Vec<String>, String> {
+    let (most, takes) = match name {
+        "open" | "read" => (usize::MAX, ""),
+        "refusals" => (0, "no file"),
+        _ => (1, "one file"),
+    };
+    match operands.get(most) {
+        Some(further) => Err(format!("{name} takes {takes} here: {further:?}")),
+        None if operands.iter().filter(|file| *file == "-").count() > 1 => Err("- is given twice".to_string()),
+        None => Ok(operands),
+    }
+}
+
+/// The figures that are asked for. A rise of a counter is a jump above the limit, which is 1 at least.
+fn telling(name: &str, given: &Given) -> Result<Option<Telling>, String> {
+    let by = match given.value("--by") {
+        None => None,
+        Some("day") => Some(By::Day),
+        Some("hour") => Some(By::Hour),
+        Some(other) => return Err(format!("--by: {other:?} is neither day nor hour")),
+    };
+    let by_sender = given.has("--by-sender");
+    let jump = match given.value("--jump").map(|text| number("--jump", text)).transpose()? {
+        Some(0) => return Err("--jump: a counter rises by 1 at least".to_string()),
+        jump => jump,
+    };
+    match (by_sender || by.is_some(), jump) {
+        (false, Some(_)) => Err(format!("{name} has --jump only beside --by-sender or --by")),
+        (false, None) => Ok(None),
+        (true, jump) => Ok(Some(Telling { by, by_sender, jump: jump.unwrap_or(JUMP) })),
+    }
 }
 
 fn show(given: &Given) -> Result<Show, String> {
     let shows = [("--full", Show::Full), ("--json", Show::Json), ("--csv", Show::Csv)];
     let mut chosen = shows.iter().filter(|(option, _)| given.has(option));
-    match (chosen.next(), chosen.next()) {
-        (Some((first, _)), Some((second, _))) => Err(format!("{first} and {second} exclude each other")),
-        (Some((_, show)), None) => Ok(*show),
-        _ => Ok(Show::Line),
+    let show = match (chosen.next(), chosen.next()) {
+        (Some((first, _)), Some((second, _))) => return Err(format!("{first} and {second} exclude each other")),
+        (Some((_, show)), None) => *show,
+        _ => Show::Line,
+    };
+    match (given.has("--frames"), show) {
+        (false, show) => Ok(show),
+        (true, Show::Csv) if given.has("--summary-only") => {
+            Err("--frames and --summary-only exclude each other".to_string())
+        }
+        (true, Show::Csv) => Ok(Show::Frames),
+        (true, _) => Err("--frames is given only beside --csv".to_string()),
     }
 }
 

@@ -39,6 +39,8 @@ pub fn of_file(path: &str) -> Result<Vec<NumberedKey>, String> {
         0..=LONGEST_FILE => {}
         _ => return Err(format!("{path}: more than {LONGEST_FILE} bytes are no file of keys")),
     }
+    // Some programs put a byte order mark in front of a text.
+    let text = text.strip_prefix('\u{FEFF}').unwrap_or(&text);
     let mut keys = Vec::new();
     for (number, line) in (1..).zip(text.lines()) {
         let line = line.split('#').next().unwrap_or("").trim();

@@ -1,5 +1,6 @@
 //! Frames in hexadecimal digits, one a line or in the lines of a dump.
 use super::bytes::LONGEST_RECORD;
+use super::interrupt::is_interrupted;
 use std::io::{self, BufRead};
 use store_reader::hex;
 
@@ -17,7 +18,14 @@ pub struct Lines {
     next: Option<Line>,
     /// The first line with an offset in front.
     pub first_offset: Option<u64>,
+    /// The last frame came in a dump.
+    pub in_dump: bool,
+    /// The next dump is of something else than a frame.
+    no_frame: bool,
 }
+
+/// What some programs put in front of a text in UTF-8.
+const BYTE_ORDER_MARK: &[u8] = b"\xEF\xBB\xBF";
 
 /// The bytes of a line, or why they cannot be read.
 pub type Bytes = Result<Vec<u8>, String>;
@@ -30,10 +38,18 @@ impl Lines {
                 return Ok(Some((number, Err(format!("the line has more than {LONGEST_LINE} bytes")))));
             };
             let text = content(&line);
+            self.in_dump = false;
             match (text, dump_line(text)) {
                 ("", _) => {}
                 ("-", _) => return Ok(Some((number, Ok(Vec::new())))),
-                (_, Some((0, bytes))) => return self.dump(number, bytes, input).map(Some),
+                (_, Some((0, bytes))) => {
+                    let dump = self.dump(number, bytes, input)?;
+                    self.in_dump = true;
+                    if !std::mem::take(&mut self.no_frame) {
+                        return Ok(Some(dump));
+                    }
+                }
+                _ if is_title(text) => self.no_frame = !text.starts_with("Frame ("),
                 _ => return Ok(Some((number, digits(&line)))),
             }
         }
@@ -83,8 +99,14 @@ impl Lines {
         if part(input, &mut bytes)? == 0 {
             return Ok(None);
         }
+        if is_interrupted() && !bytes.ends_with(b"\n") {
+            return Ok(None);
+        }
         self.count += 1;
         if bytes.len() <= LONGEST_LINE || bytes.ends_with(b"\n") {
+            if self.count == 1 && bytes.starts_with(BYTE_ORDER_MARK) {
+                bytes.drain(..BYTE_ORDER_MARK.len());
+            }
             return Ok(Some((self.count, Some(String::from_utf8_lossy(&bytes).into_owned()))));
         }
         while !bytes.ends_with(b"\n") {
@@ -100,6 +122,11 @@ impl Lines {
 /// Reads up to a line's end, or one byte more than a line may have.
 fn part(input: &mut impl BufRead, bytes: &mut Vec<u8>) -> io::Result<usize> {
     io::Read::take(input, LONGEST_LINE as u64 + 1).read_until(b'\n', bytes)
+}
+
+/// What tshark puts above the dumps of a frame and of what it made of it, where there are several: `Frame (53 bytes):`.
+fn is_title(text: &str) -> bool {
+    text.ends_with(" bytes):") || text.ends_with(" byte):")
 }
 
 /// A line without its comment and the blanks around it.
@@ -198,5 +225,18 @@ mod tests {
         let expected = [(1, Ok(vec![8, 0])), (2, Ok(vec![1, 2, 3, 4])), (6, wrong), (7, Ok(vec![9, 10]))];
         assert_eq!(found, expected);
         assert_eq!(lines.first_offset, Some(2));
+    }
+
+    /// tshark, given the key, has a dump of the frame and one of its payload; a byte order mark is no digit.
+    #[test]
+    fn titles_and_byte_order_marks() {
+        let text = "\u{FEFF}08\nFrame (2 bytes):\n0000  01 02\nDecrypted ZigBee Payload (1 byte):\n0000  03\n\n\
+                    Frame (1 bytes):\n0000  04\n";
+        let (mut input, mut lines) = (text.as_bytes(), Lines::default());
+        let mut found = Vec::new();
+        while let Some((_, bytes)) = lines.next(&mut input).unwrap() {
+            found.push((bytes.unwrap(), lines.in_dump));
+        }
+        assert_eq!(found, [(vec![8], false), (vec![1, 2], true), (vec![4], true)]);
     }
 }

@@ -2,9 +2,9 @@
 
 /// The link types of IEEE 802.15.4 that are read.
 const WITH_FCS: u32 = 195;
-const WITH_PHY_HEADER: u32 = 215;
+pub const WITH_PHY_HEADER: u32 = 215;
 const WITHOUT_FCS: u32 = 230;
-const TAP: u32 = 283;
+pub const TAP: u32 = 283;
 
 /// The preamble, the start of frame and the frame's length.
 const PHY_HEADER: usize = 6;
@@ -39,6 +39,11 @@ pub struct Link {
 
 impl Link {
     pub const KNOWN: &'static str = "only IEEE 802.15.4 is read, link types 195, 215, 230 and 283";
+
+    /// A link type of which nothing more is said.
+    pub fn of(link_type: u32) -> Self {
+        Self { link_type, fcs: None }
+    }
 
     pub fn is_known(self) -> bool {
         matches!(self.link_type, WITH_FCS | WITH_PHY_HEADER | WITHOUT_FCS | TAP)

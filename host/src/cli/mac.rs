@@ -29,6 +29,26 @@ pub struct MacHeader {
     pub destination: Option<MacAddress>,
 }
 
+/// What the frame check sequence says of a frame.
+#[derive(Debug, Clone, Copy, Default, PartialEq, Eq)]
+pub enum Check {
+    /// There is none.
+    #[default]
+    Missing,
+    Right,
+    Wrong,
+}
+
+impl Check {
+    /// Whether the sequence is the one that was computed.
+    pub fn of(is_right: bool) -> Self {
+        match is_right {
+            true => Self::Right,
+            false => Self::Wrong,
+        }
+    }
+}
+
 /// What a MAC frame carries: a payload, or the kind of frame that has none for the layers above.
 #[derive(Debug, PartialEq)]
 pub enum Carried<'a> {
@@ -96,15 +116,25 @@ fn address(mode: u16, bytes: &[u8]) -> Option<(Option<MacAddress>, &[u8])> {
 
 /// The frame check sequence of IEEE 802.15.4: CRC-16 with polynomial `x^16 + x^12 + x^5 + 1`, lowest bit first, from 0.
 pub fn fcs(bytes: &[u8]) -> u16 {
-    let mut crc = 0u16;
-    for byte in bytes {
-        crc ^= u16::from(*byte);
-        for _ in 0..8 {
-            crc = if crc & 1 == 1 { crc >> 1 ^ 0x8408 } else { crc >> 1 };
-        }
-    }
-    crc
+    bytes.iter().fold(0, |crc, byte| crc >> 8 ^ FCS_OF_BYTES[usize::from(crc as u8 ^ byte)])
 }
+
+/// The frame check sequence of each byte.
+const FCS_OF_BYTES: [u16; 256] = {
+    let mut table = [0; 256];
+    let mut byte = 0;
+    while byte < 256 {
+        let mut crc = byte as u16;
+        let mut bit = 0;
+        while bit < 8 {
+            crc = if crc & 1 == 1 { crc >> 1 ^ 0x8408 } else { crc >> 1 };
+            bit += 1;
+        }
+        table[byte] = crc;
+        byte += 1;
+    }
+    table
+};
 
 /// The longer frame check sequence of IEEE 802.15.4-2015: the CRC-32 that Ethernet has.
 pub fn fcs_of_four(bytes: &[u8]) -> u32 {

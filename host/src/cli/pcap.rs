@@ -1,5 +1,6 @@
 //! Records of a pcap capture.
 use super::bytes::{number, take, Order, LONGEST_RECORD};
+use super::input::Input;
 use super::link::{Fcs, Link};
 use super::time::{Resolution, Time};
 use std::io::Read;
@@ -52,7 +53,8 @@ impl Pcap {
     }
 
     /// The next record, none at the capture's end. Behind an error nothing more can be read.
-    pub fn next(&mut self, input: &mut impl Read) -> Result<Option<Packet>, String> {
+    pub fn next(&mut self, input: &mut Input) -> Result<Option<Packet>, String> {
+        input.begin();
         let header = take(input, RECORD_HEADER)?;
         if header.is_empty() {
             return Ok(None);

@@ -1,5 +1,6 @@
 //! Records of a pcapng capture: several sections, each with its byte order and its interfaces.
 use super::bytes::{long, number, skip, take, Order, LONGEST_RECORD};
+use super::input::Input;
 use super::link::{Fcs, Link};
 use super::pcap::Packet;
 use super::time::Resolution;
@@ -25,6 +26,9 @@ const AROUND: usize = 12;
 
 /// The longest block that is kept: a record with options around it.
 const LONGEST_BLOCK: usize = LONGEST_RECORD + 65_536;
+
+/// The most interfaces of a section.
+const MOST_INTERFACES: usize = 65_536;
 
 /// What is known of an interface.
 #[derive(Debug, Clone, PartialEq)]
@@ -56,8 +60,9 @@ impl Pcapng {
     }
 
     /// The next record, none at the capture's end. Behind an error nothing more can be read.
-    pub fn next(&mut self, input: &mut impl Read) -> Result<Option<Record>, String> {
+    pub fn next(&mut self, input: &mut Input) -> Result<Option<Record>, String> {
         loop {
+            input.begin();
             let kind = take(input, 4)?;
             if kind.is_empty() {
                 return Ok(None);
@@ -129,6 +134,7 @@ impl Pcapng {
         let cut = || "a block that is too short for its fields".to_string();
         match kind {
             INTERFACE => match self.interface(body) {
+                Some(_) if self.interfaces.len() == MOST_INTERFACES => Some(Err("one interface too many".to_string())),
                 Some(interface) => {
                     self.interfaces.push(interface);
                     None

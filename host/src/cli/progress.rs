@@ -1,5 +1,5 @@
 //! A line on a terminal while an input takes long; it is gone at the end.
-use super::source::Extent;
+use super::input::Extent;
 use std::io::{self, IsTerminal, Write};
 use std::time::{Duration, Instant};
 

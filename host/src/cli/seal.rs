@@ -25,7 +25,7 @@ pub fn seal_each<W: Write>(mut source: Source, sealing: &Sealing, printer: &mut 
     let mut noted = false;
     while let Some(entry) = source.next() {
         if let (Some(line), false) = (source.first_offset(), noted) {
-            note_offset(line);
+            note_offset("", line);
             noted = true;
         }
         match sealed(&entry, sealing, counter) {

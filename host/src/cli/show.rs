@@ -1,8 +1,9 @@
 //! What is printed of each input.
 use super::answer::{condition, Answer};
 use super::arguments::{Filter, Show, SourceAddress};
+use super::frames;
 use super::journal::{Found, Refused};
-use super::mac::{MacAddress, MacHeader};
+use super::mac::{Check, MacAddress, MacHeader};
 use super::source::{Entry, Place};
 use super::value::{full, Fields, Value};
 use std::io::{self, Write};
@@ -18,6 +19,11 @@ pub struct Printer<'a, W> {
     pub filter: &'a Filter,
     /// Refusals are coloured.
     pub colour: bool,
+    /// The input's name, and whether there are several, so that it is told.
+    pub file: String,
+    pub several: bool,
+    /// What is done with frames.
+    pub done: &'static str,
 }
 
 impl<W: Write> Printer<'_, W> {
@@ -54,7 +60,17 @@ impl<W: Write> Printer<'_, W> {
                 }
                 self.json(entry, fields)
             }
+            Show::Frames => write!(self.out, "{}", frames::of_answer(&self.file, entry, answer, self.done)),
             Show::Csv => Ok(()),
+        }
+    }
+
+    /// The name of the next input, in front of its lines where there are several.
+    pub fn begin(&mut self, file: &str) -> io::Result<()> {
+        self.file = file.to_string();
+        match self.show {
+            Show::Line | Show::Full if self.several && !self.filter.summary_only => writeln!(self.out, "{file}:"),
+            _ => Ok(()),
         }
     }
 
@@ -84,6 +100,9 @@ impl<W: Write> Printer<'_, W> {
                 }
                 self.json(entry, fields)
             }
+            Show::Frames => {
+                write!(self.out, "{}", frames::of_other(&self.file, entry, "not a NWK frame", kind))
+            }
             Show::Csv => Ok(()),
         }
     }
@@ -104,19 +123,33 @@ impl<W: Write> Printer<'_, W> {
 
     /// An input that cannot be read: among the answers for `--json`, else on standard error.
     pub fn broken(&mut self, entry: &Entry, why: &str) -> io::Result<()> {
-        if self.show == Show::Json {
-            return self.json(entry, vec![("error", Value::text(why))]);
+        match self.show {
+            Show::Json => return self.json(entry, vec![("error", Value::text(why))]),
+            Show::Frames => write!(self.out, "{}", frames::of_other(&self.file, entry, "not read", why))?,
+            _ => {}
         }
-        complain(&format!("{}: {why}", entry.place));
+        complain(&format!("{}{}: {why}", self.of_several(), entry.place));
         Ok(())
+    }
+
+    /// The input's name in front of a message, where there are several.
+    pub fn of_several(&self) -> String {
+        match self.several {
+            true => format!("{}: ", self.file),
+            false => String::new(),
+        }
     }
 
     /// One object with the record's own fields in front.
     pub fn json(&mut self, entry: &Entry, fields: Fields) -> io::Result<()> {
         let (kind, number) = entry.place.parts();
-        let mut object: Fields = vec![(kind, Value::Number(number))];
+        let mut object = Fields::new();
+        if self.several {
+            object.push(("file", Value::text(&self.file)));
+        }
+        object.push((kind, Value::Number(number)));
         object.extend(record_fields(entry));
-        if entry.wrong_fcs {
+        if entry.fcs == Check::Wrong {
             object.push(("wrong_fcs", Value::Flag(true)));
         }
         object.extend(fields);
@@ -195,7 +228,7 @@ fn record_fields(entry: &Entry) -> Fields {
 }
 
 fn note(entry: &Entry) -> Option<String> {
-    entry.wrong_fcs.then(|| "(wrong frame check sequence)".to_string())
+    (entry.fcs == Check::Wrong).then(|| "(wrong frame check sequence)".to_string())
 }
 
 /// A refusal's number and condition as fields.
@@ -208,7 +241,15 @@ pub fn complain(why: &str) {
     let _ = writeln!(io::stderr(), "store-reader: {why}");
 }
 
-/// A note on a line of the input.
-pub fn note_offset(line: u64) {
-    complain(&format!("{}: the offset in front is passed over, here and in what follows", Place::Line(line)));
+/// A note on a line of the input, behind the input's name where there are several.
+pub fn note_offset(front: &str, line: u64) {
+    complain(&format!("{front}{}: the offset in front is passed over, here and in what follows", Place::Line(line)));
+}
+
+/// A note on a line that is read as it stands, though it looks like a MAC frame.
+pub fn note_mac(front: &str, line: u64) {
+    complain(&format!(
+        "{front}{}: this looks like a MAC frame, and is read as a NWK frame; see --mac",
+        Place::Line(line)
+    ));
 }

@@ -1,18 +1,19 @@
 //! Frames from a file or standard input: a capture, or hexadecimal digits.
 use super::bytes::take;
+use super::input::{Extent, Input};
+use super::interrupt::is_interrupted;
 use super::lines::Lines;
-use super::link::Fcs;
-use super::mac::{fcs, fcs_of_four, mac_frame, Carried, MacHeader};
+use super::link::{Fcs, Link, TAP, WITH_PHY_HEADER};
+use super::mac::{fcs, fcs_of_four, mac_frame, Carried, Check, MacHeader};
 use super::pcap::{self, Packet, Pcap};
 use super::pcapng::{self, Pcapng};
 use super::protocol::other_protocol;
 use super::time::Time;
+use super::zone::Zone;
 use std::borrow::Cow;
-use std::cell::Cell;
 use std::fmt;
 use std::fs::File;
-use std::io::{self, BufReader, Chain, Cursor, Read};
-use std::rc::Rc;
+use std::io::{self, Read};
 
 /// Where an input stands, counted from 1.
 #[derive(Debug, Clone, Copy, PartialEq)]
@@ -58,41 +59,35 @@ pub struct Entry {
     pub place: Place,
     pub time: Option<Time>,
     pub mac: Option<MacHeader>,
-    pub wrong_fcs: bool,
+    pub fcs: Check,
     pub content: Content,
 }
 
-/// How many bytes were read, of how many where that is known.
-#[derive(Clone, Default)]
-pub struct Extent {
-    pub read: Rc<Cell<u64>>,
-    pub total: Option<u64>,
+/// How an input is read.
+#[derive(Debug, Clone, Copy, Default, PartialEq)]
+pub struct Reading {
+    /// Times are shown in local time.
+    pub local: bool,
+    /// Lines and dumps hold MAC frames.
+    pub mac: bool,
 }
-
-/// Counts what is read.
-struct Counted<R> {
-    input: R,
-    read: Rc<Cell<u64>>,
-}
-
-impl<R: Read> Read for Counted<R> {
-    fn read(&mut self, buffer: &mut [u8]) -> io::Result<usize> {
-        let n = self.input.read(buffer)?;
-        self.read.set(self.read.get() + n as u64);
-        Ok(n)
-    }
-}
-
-/// An input behind the bytes of its front that were looked at.
-type Input = Chain<Cursor<Vec<u8>>, BufReader<Box<dyn Read>>>;
 
 /// An input, and how it is read.
 pub struct Source {
     input: Input,
     format: Format,
-    extent: Extent,
     records: u64,
     ended: bool,
+    /// The bytes of a damaged capture that were not read.
+    pub unread: u64,
+    /// The zone that times are shown in, where it is not UTC.
+    zone: Option<Zone>,
+    mac: bool,
+    /// The MAC frames of lines and dumps, and those whose last two bytes are a right FCS.
+    mac_frames: u64,
+    right_fcs: u64,
+    /// The first line that looks like a MAC frame and is read as a NWK frame.
+    pub first_mac: Option<u64>,
 }
 
 enum Format {
@@ -121,11 +116,13 @@ const NOT_READ: [(&[u8], &str); 11] = [
 
 impl Source {
     /// Opens a file, or standard input where none or `-` is named.
-    pub fn open(path: Option<&str>) -> Result<Self, String> {
-        match path {
-            None | Some("-") => Self::new(Box::new(io::stdin()), None).map_err(|e| format!("standard input: {e}")),
-            Some(path) => Self::file(path).map_err(|e| format!("{path}: {e}")),
-        }
+    pub fn open(path: Option<&str>, reading: Reading) -> Result<Self, String> {
+        let source = match path {
+            None | Some("-") => Self::new(Box::new(io::stdin()), None),
+            Some(path) => Self::file(path),
+        };
+        let source = source.map_err(|e| format!("{}: {e}", name(path)))?;
+        Ok(Self { zone: reading.local.then(Zone::of_system), mac: reading.mac, ..source })
     }
 
     fn file(path: &str) -> Result<Self, String> {
@@ -136,12 +133,10 @@ impl Source {
 
     /// Looks at the first bytes to tell a capture from lines.
     pub fn new(input: Box<dyn Read>, total: Option<u64>) -> Result<Self, String> {
-        let read = Rc::new(Cell::new(0));
-        let counted = Box::new(Counted { input, read: Rc::clone(&read) });
-        let mut input: BufReader<Box<dyn Read>> = BufReader::new(counted);
+        let mut input = Input::new(input, total);
         let front = front(&mut input)?;
-        let is_binary = front.iter().chain(input.buffer().iter().take(LONGEST_MAGIC)).any(|byte| *byte == 0);
-        let mut input = Cursor::new(front.clone()).chain(input);
+        let is_binary = front.iter().chain(input.at_hand().iter().take(LONGEST_MAGIC)).any(|byte| *byte == 0);
+        input.put_back(front.clone());
         let format = if let Some((order, resolution)) = pcap::magic(&front) {
             Format::Pcap(Pcap::new(&mut input, order, resolution)?)
         } else if front.starts_with(&pcapng::MAGIC) {
@@ -153,15 +148,26 @@ impl Source {
         } else {
             Format::Lines(Lines::default())
         };
-        Ok(Self { input, format, extent: Extent { read, total }, records: 0, ended: false })
+        let (zone, first_mac) = (None, None);
+        let (records, mac_frames, right_fcs, unread) = (0, 0, 0, 0);
+        Ok(Self { input, format, records, ended: false, unread, zone, mac: false, mac_frames, right_fcs, first_mac })
     }
 
     pub fn is_capture(&self) -> bool {
         !matches!(self.format, Format::Lines(_))
     }
 
+    /// What an input is called of which nothing could be used.
+    pub fn without(&self) -> &'static str {
+        match (self.input.is_empty(), self.is_capture()) {
+            (true, _) => "no bytes",
+            (_, true) => "no record that can be used",
+            (_, false) => "no frame",
+        }
+    }
+
     pub fn extent(&self) -> Extent {
-        self.extent.clone()
+        self.input.extent()
     }
 
     /// The first line that had an offset in front, which was passed over.
@@ -172,9 +178,67 @@ impl Source {
         }
     }
 
+    /// The end of an input that cannot be read further; of a capture the bytes that are left are counted.
     fn broken(&mut self, place: Place, why: String) -> Entry {
         self.ended = true;
-        Entry { place, time: None, mac: None, wrong_fcs: false, content: Content::Broken(why) }
+        if self.is_capture() {
+            self.unread = self.input.rest();
+        }
+        Entry { place, time: None, mac: None, fcs: Check::Missing, content: Content::Broken(why) }
+    }
+
+    /// A line's frame. A MAC frame in a dump is taken for one by its first byte, which no NWK frame of Zigbee has.
+    fn line_entry(&mut self, number: u64, bytes: Result<Vec<u8>, String>, in_dump: bool) -> Entry {
+        let content = bytes.map_or_else(Content::Broken, Content::Frame);
+        let mut entry = Entry { place: Place::Line(number), time: None, mac: None, fcs: Check::Missing, content };
+        let Content::Frame(bytes) = &entry.content else {
+            return entry;
+        };
+        let looks_like_mac = is_mac(bytes);
+        if self.mac || in_dump && looks_like_mac {
+            let bytes = bytes.clone();
+            self.take_off(&mut entry, &bytes);
+        } else if looks_like_mac && bytes[1] & ADDRESSED != 0 {
+            self.first_mac.get_or_insert(number);
+        }
+        entry
+    }
+
+    /// Takes off what stands around a NWK frame in a dump. A FCS that is right is taken off; one that is wrong is taken for one if
+    /// most frames so far had a right one: any two bytes are right by chance once in 65,536.
+    fn take_off(&mut self, entry: &mut Entry, bytes: &[u8]) {
+        let behind_header = match bytes {
+            [0, 0, 0, 0, START_OF_FRAME, ..] => Link::of(WITH_PHY_HEADER).mac_frame(bytes),
+            [0, 0, ..] => Link::of(TAP).mac_frame(bytes),
+            _ => {
+                let is_right = matches!(without_fcs(bytes, Fcs::Two), Ok((_, Check::Right)));
+                self.mac_frames += 1;
+                self.right_fcs += u64::from(is_right);
+                let has_fcs = is_right || 2 * self.right_fcs >= self.mac_frames;
+                Ok((bytes, if has_fcs { Fcs::Two } else { Fcs::None }))
+            }
+        };
+        fill(entry, behind_header);
+    }
+}
+
+/// The first byte of the frame control of a MAC frame without MAC security: where a NWK frame has its version, bits 0 and 1 of it are
+/// off. Zigbee has used the versions 1, 2 and 3.
+fn is_mac(bytes: &[u8]) -> bool {
+    bytes.len() > 2 && bytes[0] & 0x0C == 0
+}
+
+/// The upper byte of a MAC frame control whose source has an address.
+const ADDRESSED: u8 = 0xC0;
+
+/// What stands in front of a frame behind a preamble of four zeros.
+const START_OF_FRAME: u8 = 0xA7;
+
+/// An input's name.
+pub fn name(path: Option<&str>) -> &str {
+    match path {
+        None | Some("-") => "standard input",
+        Some(path) => path,
     }
 }
 
@@ -205,8 +269,10 @@ impl Iterator for Source {
         let record = match &mut self.format {
             Format::Lines(lines) => {
                 let at = Place::Line(lines.number());
-                return match lines.next(&mut self.input) {
-                    Ok(next) => next.map(|(number, bytes)| line_entry(number, bytes)),
+                let next = lines.next(&mut self.input);
+                let in_dump = lines.in_dump;
+                return match next {
+                    Ok(next) => next.map(|(number, bytes)| self.line_entry(number, bytes, in_dump)),
                     Err(e) => Some(self.broken(at, e.to_string())),
                 };
             }
@@ -214,39 +280,39 @@ impl Iterator for Source {
             Format::Pcapng(capture) => capture.next(&mut self.input),
         };
         match record {
-            Ok(record) => record.map(|record| record_entry(place, record)),
+            Ok(record) => record.map(|record| {
+                let mut entry = record_entry(place, record);
+                entry.time = entry.time.map(|time| self.zone.iter_mut().fold(time, Time::in_zone));
+                entry
+            }),
+            // What Ctrl-C cut off is not damaged.
+            Err(_) if is_interrupted() => None,
             Err(why) => Some(self.broken(place, why)),
         }
     }
 }
 
-fn line_entry(number: u64, bytes: Result<Vec<u8>, String>) -> Entry {
-    let content = bytes.map_or_else(Content::Broken, Content::Frame);
-    Entry { place: Place::Line(number), time: None, mac: None, wrong_fcs: false, content }
-}
-
 fn record_entry(place: Place, record: Result<Packet, String>) -> Entry {
-    let mut entry = Entry { place, time: None, mac: None, wrong_fcs: false, content: Content::Frame(Vec::new()) };
+    let mut entry = Entry { place, time: None, mac: None, fcs: Check::Missing, content: Content::Frame(Vec::new()) };
     match record {
         Err(why) => entry.content = Content::Broken(why),
+        Ok(packet) if packet.bytes.len() < packet.whole => {
+            entry.time = packet.time;
+            let why = format!("only {} of the frame's {} bytes were captured", packet.bytes.len(), packet.whole);
+            entry.content = Content::Broken(why);
+        }
         Ok(packet) => {
             entry.time = packet.time;
-            fill(&mut entry, &packet);
+            fill(&mut entry, packet.link.mac_frame(&packet.bytes));
         }
     }
     entry
 }
 
-/// Takes off what the capture and the MAC put around a NWK frame.
-fn fill(entry: &mut Entry, packet: &Packet) {
-    let captured = packet.bytes.len();
-    if captured < packet.whole {
-        let why = format!("only {captured} of the frame's {} bytes were captured", packet.whole);
-        entry.content = Content::Broken(why);
-        return;
-    }
-    let unchecked = packet.link.mac_frame(&packet.bytes).and_then(|(frame, fcs)| without_fcs(frame, fcs));
-    let (frame, wrong_fcs) = match unchecked {
+/// Takes off what the MAC puts around a NWK frame.
+fn fill(entry: &mut Entry, frame: Result<(&[u8], Fcs), String>) {
+    let unchecked = frame.and_then(|(frame, fcs)| without_fcs(frame, fcs));
+    let (frame, fcs) = match unchecked {
         Ok(frame) => frame,
         Err(kind) => {
             entry.content = Content::Other(kind.into(), Vec::new());
@@ -255,7 +321,7 @@ fn fill(entry: &mut Entry, packet: &Packet) {
     };
     let (header, carried) = mac_frame(frame);
     entry.mac = Some(header);
-    entry.wrong_fcs = wrong_fcs;
+    entry.fcs = fcs;
     entry.content = match carried {
         Carried::Nothing(kind) => Content::Other(kind.into(), Vec::new()),
         Carried::Payload(payload) => match other_protocol(payload) {
@@ -265,13 +331,13 @@ fn fill(entry: &mut Entry, packet: &Packet) {
     };
 }
 
-/// The frame in front of its FCS, and whether that is wrong.
-fn without_fcs(frame: &[u8], kind: Fcs) -> Result<(&[u8], bool), String> {
+/// The frame in front of its FCS, and what that says.
+fn without_fcs(frame: &[u8], kind: Fcs) -> Result<(&[u8], Check), String> {
     match (kind, frame) {
-        (Fcs::None, _) => Ok((frame, false)),
-        (Fcs::Two, [frame @ .., low, high]) => Ok((frame, fcs(frame) != u16::from_le_bytes([*low, *high]))),
+        (Fcs::None, _) => Ok((frame, Check::Missing)),
+        (Fcs::Two, [frame @ .., low, high]) => Ok((frame, Check::of(fcs(frame) == u16::from_le_bytes([*low, *high])))),
         (Fcs::Four, [frame @ .., a, b, c, d]) => {
-            Ok((frame, fcs_of_four(frame) != u32::from_le_bytes([*a, *b, *c, *d])))
+            Ok((frame, Check::of(fcs_of_four(frame) == u32::from_le_bytes([*a, *b, *c, *d]))))
         }
         _ => Err("MAC frame too short for an FCS".to_string()),
     }

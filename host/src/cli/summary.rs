@@ -1,12 +1,17 @@
 //! What a run met, counted: frames by refusal number, and what was no frame.
 use super::answer::{condition, Answer, Mark};
 use super::csv;
+use super::mac::Check;
+use super::refusals::Refusals;
 use super::replay::was_opened;
 use super::source::Kind;
 use super::value::{Fields, Value};
 use std::collections::BTreeMap;
 use std::fmt;
 use store_reader::Refusal;
+
+/// The version of what `--json` prints: it rises where a field goes or changes its meaning, and stays where one is added.
+const JSON_VERSION: u8 = 1;
 
 /// By what names accepted inputs are counted.
 #[derive(Debug, Clone, Copy)]
@@ -35,12 +40,16 @@ pub struct Summary {
     accepted: u64,
     /// Clear frames; none where inputs are not opened, so that nothing is marked.
     clear: Option<u64>,
-    refused: BTreeMap<Refusal, u64>,
+    refused: Refusals,
     /// Accepted inputs by the key that opened them, where there are several.
     keys: BTreeMap<usize, u64>,
     others: BTreeMap<Kind, u64>,
     wrong_fcs: u64,
+    /// Of accepted inputs, those with a wrong frame check sequence.
+    accepted_wrong_fcs: u64,
     pub broken: u64,
+    /// The bytes of damaged captures that were not read.
+    pub unread: u64,
     /// Replays are refused.
     replay: bool,
     /// What the inputs are called, what is done with them, and the same of those to come.
@@ -63,13 +72,16 @@ impl Summary {
         Names { done: self.done, clear: self.clear.is_some(), replay: self.replay }
     }
 
-    /// Counts a frame or command, and whether the frame check sequence around it is wrong.
-    pub fn count(&mut self, answer: &Answer, wrong_fcs: bool) {
-        self.wrong_fcs += u64::from(wrong_fcs);
+    /// Counts a frame or command, and what the frame check sequence around it says.
+    pub fn count(&mut self, answer: &Answer, fcs: Check) {
+        self.wrong_fcs += u64::from(fcs == Check::Wrong);
         match (answer.refusal, answer.mark) {
-            (Some(refusal), _) => *self.refused.entry(refusal).or_default() += 1,
+            (Some(refusal), _) => self.refused.note(refusal, fcs),
             (None, Some(Mark::Clear)) => *self.clear.get_or_insert(0) += 1,
-            (None, _) => self.accepted += 1,
+            (None, _) => {
+                self.accepted += 1;
+                self.accepted_wrong_fcs += u64::from(fcs == Check::Wrong);
+            }
         }
         if let Some(key) = answer.key {
             *self.keys.entry(key).or_default() += 1;
@@ -91,13 +103,18 @@ impl Summary {
     }
 
     fn refusals(&self) -> u64 {
-        self.refused.values().sum()
+        self.refused.all()
     }
 
     /// How many frames were sealed and not opened, where none was. Clear frames say nothing of the keys.
     fn keys_look_wrong(&self) -> Option<u64> {
-        let any_opened = self.accepted > 0 || self.refused.keys().any(|refusal| was_opened(*refusal));
-        self.refused.get(&Refusal::WRONG_MIC).copied().filter(|_| !any_opened)
+        let any_opened = self.accepted > 0 || self.refused.iter().any(|(refusal, _)| was_opened(refusal));
+        Some(self.refused.of(Refusal::WRONG_MIC)).filter(|frames| *frames > 0 && !any_opened)
+    }
+
+    /// Whether most frames that a key opened have a wrong frame check sequence: then the sniffer has put something else there.
+    fn fcs_looks_replaced(&self) -> bool {
+        self.clear.is_some() && 2 * self.accepted_wrong_fcs > self.accepted
     }
 
     /// What is said where the keys look wrong.
@@ -106,14 +123,17 @@ impl Summary {
         Some(format!("no key opened any of {frames}: the keys look wrong"))
     }
 
+    /// Of frames refused by 19, how many had which frame check sequence, where there are any.
+    fn parts(&self, refusal: Refusal) -> impl Iterator<Item = (&'static str, u64, &'static str)> {
+        self.refused.wrong_mic.parts().into_iter().filter(move |_| refusal == Refusal::WRONG_MIC)
+    }
+
     /// The same counts for `--json`.
     pub fn fields(&self) -> Fields {
         let refused = self.refused.iter().map(|(refusal, n)| {
-            Value::Object(vec![
-                ("refusal", refusal.number().into()),
-                ("count", Value::Number(*n)),
-                ("condition", Value::text(condition(*refusal))),
-            ])
+            let mut fields = refusal_fields(refusal, n, &self.refused);
+            fields.push(("condition", Value::text(condition(refusal))));
+            Value::Object(fields)
         });
         let others = self
             .others
@@ -123,8 +143,11 @@ impl Summary {
             .keys
             .iter()
             .map(|(key, n)| Value::Object(vec![("key", Value::Number(*key as u64)), ("count", Value::Number(*n))]));
-        let mut counts: Fields =
-            vec![("frames", Value::Number(self.all())), (self.names().json(), Value::Number(self.accepted))];
+        let mut counts: Fields = vec![
+            ("json_version", JSON_VERSION.into()),
+            ("frames", Value::Number(self.all())),
+            (self.names().json(), Value::Number(self.accepted)),
+        ];
         counts.extend(self.clear.map(|clear| ("clear", Value::Number(clear))));
         counts.extend([
             ("refused", Value::Number(self.refusals())),
@@ -132,9 +155,13 @@ impl Summary {
             ("skipped", Value::List(others.collect())),
             ("wrong_fcs", Value::Number(self.wrong_fcs)),
             ("broken", Value::Number(self.broken)),
+            ("bytes_not_read", Value::Number(self.unread)),
         ]);
         if !self.keys.is_empty() {
             counts.push(("opened_with", Value::List(keys.collect())));
+        }
+        if self.fcs_looks_replaced() {
+            counts.push(("fcs_looks_replaced", Value::Flag(true)));
         }
         if self.keys_look_wrong().is_some() {
             counts.push(("keys_look_wrong", Value::Flag(true)));
@@ -149,14 +176,18 @@ impl Summary {
         if let Some(clear) = self.clear {
             table += &csv::row(["clear", "", &clear.to_string(), ""]);
         }
-        for (refusal, n) in &self.refused {
-            table += &csv::row(["refused", &refusal.number().to_string(), &n.to_string(), condition(*refusal)]);
+        for (refusal, n) in self.refused.iter() {
+            table += &csv::row(["refused", &refusal.number().to_string(), &n.to_string(), condition(refusal)]);
+            for (_, n, words) in self.parts(refusal) {
+                table += &csv::row(["of these", &refusal.number().to_string(), &n.to_string(), words]);
+            }
         }
         for (kind, n) in &self.others {
             table += &csv::row(["not a NWK frame", "", &n.to_string(), kind]);
         }
         table += &csv::row(["wrong frame check sequence", "", &self.wrong_fcs.to_string(), ""]);
-        table + &csv::row(["not read", "", &self.broken.to_string(), ""])
+        table += &csv::row(["not read", "", &self.broken.to_string(), ""]);
+        table + &csv::row(["bytes not read", "", &self.unread.to_string(), ""])
     }
 }
 
@@ -170,11 +201,17 @@ impl fmt::Display for Summary {
         for (key, n) in &self.keys {
             writeln!(f, "{n:>6} {} with key {key}", self.done)?;
         }
-        for (refusal, n) in &self.refused {
-            writeln!(f, "{n:>6} refused by {}: {}", refusal.number(), condition(*refusal))?;
+        for (refusal, n) in self.refused.iter() {
+            writeln!(f, "{n:>6} refused by {}: {}", refusal.number(), condition(refusal))?;
+            for (_, n, words) in self.parts(refusal) {
+                writeln!(f, "{n:>10} {words}")?;
+            }
         }
         if self.wrong_fcs > 0 {
             writeln!(f, "{:>6} with a wrong frame check sequence", self.wrong_fcs)?;
+        }
+        if self.fcs_looks_replaced() {
+            writeln!(f, "       most opened frames too: the sniffer seems to put something else there, so it says nothing of noise")?;
         }
         if !self.others.is_empty() {
             writeln!(f, "{} without a NWK frame to {}", counted(self.others.values().sum(), "record"), self.to_do)?;
@@ -185,11 +222,24 @@ impl fmt::Display for Summary {
         if self.broken > 0 {
             writeln!(f, "{} could not be read", counted(self.broken, "input"))?;
         }
+        if self.unread > 0 {
+            writeln!(f, "{} at the end of a capture not read", counted(self.unread, "byte"))?;
+        }
         self.wrong_keys().map_or(Ok(()), |why| writeln!(f, "{why}"))
     }
 }
 
-fn counted(n: u64, noun: &str) -> String {
+/// A refusal with its count; one by 19 with what the frame check sequences say.
+pub fn refusal_fields(refusal: Refusal, n: u64, refused: &Refusals) -> Fields {
+    let mut fields: Fields = vec![("refusal", refusal.number().into()), ("count", Value::Number(n))];
+    if refusal == Refusal::WRONG_MIC {
+        fields.push(("wrong_fcs", Value::Number(refused.wrong_mic.wrong_fcs)));
+        fields.push(("right_fcs", Value::Number(refused.wrong_mic.right_fcs)));
+    }
+    fields
+}
+
+pub fn counted(n: u64, noun: &str) -> String {
     let plural = if n == 1 { "" } else { "s" };
     format!("{n} {noun}{plural}")
 }

@@ -1,19 +1,21 @@
 //! The time of a record, as finely as its capture has it.
+use super::zone::Zone;
 use std::cmp::Ordering;
 use std::fmt;
 
-/// A time in UTC: seconds since 1970, and a fraction of so many decimal digits.
+/// A time in UTC: seconds since 1970, and a fraction of so many decimal digits; with the offset of the local time that it is shown in.
 #[derive(Debug, Clone, Copy)]
 pub struct Time {
     seconds: i64,
     fraction: u64,
     digits: u32,
+    offset: Option<i32>,
 }
 
 /// The most digits of a fraction that fit its number.
 const MOST_DIGITS: u32 = 18;
 
-const SECONDS_A_DAY: i64 = 86_400;
+pub const SECONDS_A_DAY: i64 = 86_400;
 
 /// How a capture counts: units of a second, a power of ten or of two.
 #[derive(Debug, Clone, Copy, PartialEq)]
@@ -49,7 +51,8 @@ impl Resolution {
                 (units >> power, ((rest * 10u128.pow(digits)) >> power) as u64, digits)
             }
         };
-        Time { seconds: i64::try_from(seconds).unwrap_or(i64::MAX).saturating_add(offset), fraction, digits }
+        let seconds = i64::try_from(seconds).unwrap_or(i64::MAX).saturating_add(offset);
+        Time { seconds, fraction, digits, offset: None }
     }
 }
 
@@ -60,8 +63,18 @@ impl Time {
             Resolution::Decimal(digits) => {
                 resolution.time(u64::from(seconds) * 10u64.pow(digits) + u64::from(fraction), 0)
             }
-            Resolution::Binary(_) => Self { seconds: seconds.into(), fraction: 0, digits: 0 },
+            Resolution::Binary(_) => Self { seconds: seconds.into(), fraction: 0, digits: 0, offset: None },
         }
+    }
+
+    /// The same time, shown in a zone.
+    pub fn in_zone(self, zone: &mut Zone) -> Self {
+        Self { offset: Some(zone.offset(self.seconds)), ..self }
+    }
+
+    /// The seconds since 1970 that the clock shows, and how far it is ahead of UTC where it shows local time.
+    pub fn clock(self) -> (i64, Option<i32>) {
+        (self.seconds.saturating_add(self.offset.unwrap_or(0).into()), self.offset)
     }
 
     /// The fraction in the finest unit of all.
@@ -90,23 +103,33 @@ impl Ord for Time {
     }
 }
 
-/// ISO 8601 in UTC.
+/// ISO 8601, in UTC or in local time with its offset.
 impl fmt::Display for Time {
     fn fmt(&self, f: &mut fmt::Formatter<'_>) -> fmt::Result {
-        let (year, month, day) = date(self.seconds.div_euclid(SECONDS_A_DAY));
-        let second = self.seconds.rem_euclid(SECONDS_A_DAY);
+        let (clock, ahead) = self.clock();
+        let (year, month, day) = date(clock.div_euclid(SECONDS_A_DAY));
+        let second = clock.rem_euclid(SECONDS_A_DAY);
         let (hours, minutes, seconds) = (second / 3600, second / 60 % 60, second % 60);
         write!(f, "{year:04}-{month:02}-{day:02}T{hours:02}:{minutes:02}:{seconds:02}")?;
-        match self.digits {
-            0 => f.write_str("Z"),
-            digits => write!(f, ".{:0width$}Z", self.fraction, width = digits as usize),
+        if self.digits > 0 {
+            write!(f, ".{:0width$}", self.fraction, width = self.digits as usize)?;
+        }
+        match ahead {
+            None => f.write_str("Z"),
+            Some(ahead) => f.write_str(&offset(ahead)),
         }
     }
 }
 
+/// An offset from UTC as ISO 8601 has it, in hours and minutes.
+pub fn offset(seconds: i32) -> String {
+    let (sign, minutes) = (if seconds < 0 { '-' } else { '+' }, seconds.unsigned_abs() / 60);
+    format!("{sign}{:02}:{:02}", minutes / 60, minutes % 60)
+}
+
 /// Year, month and day of a day counted from 1970, in the Gregorian calendar. Years are counted from March, so that the
 /// day of a leap year is the last; 400 years have 146,097 days.
-fn date(day: i64) -> (i64, i64, i64) {
+pub fn date(day: i64) -> (i64, i64, i64) {
     let day = day.saturating_add(719_468);
     let (era, day) = (day.div_euclid(146_097), day.rem_euclid(146_097));
     let year = (day - day / 1_460 + day / 36_524 - day / 146_096) / 365;
@@ -134,6 +157,9 @@ mod tests {
         assert_eq!(Resolution::Decimal(0).time(1, -2).to_string(), "1969-12-31T23:59:59Z");
         let fine = Time::of_parts(1_795_000_000, 7, Resolution::NANOSECONDS);
         assert_eq!(fine.to_string(), "2026-11-18T11:06:40.000000007Z");
+        let ahead = |offset| Time { offset: Some(offset), ..fine }.to_string();
+        assert_eq!(ahead(19_800), "2026-11-18T16:36:40.000000007+05:30");
+        assert_eq!(ahead(-43_200), "2026-11-17T23:06:40.000000007-12:00");
     }
 
     #[test]

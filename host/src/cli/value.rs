@@ -8,6 +8,8 @@ pub enum Value {
     Text(String),
     Number(u64),
     Signed(i64),
+    /// A share of 1.
+    Rate(f64),
     Flag(bool),
     List(Vec<Value>),
     Object(Fields),
@@ -33,6 +35,7 @@ impl Value {
             Self::Text(text) => text.clone(),
             Self::Number(number) => number.to_string(),
             Self::Signed(number) => number.to_string(),
+            Self::Rate(rate) => format!("{rate:.4}"),
             Self::Flag(flag) => if *flag { "yes" } else { "no" }.to_string(),
             Self::List(entries) => {
                 let entries: Vec<String> = entries.iter().map(Self::line).collect();
@@ -48,6 +51,7 @@ impl Value {
             Self::Text(text) => quoted(text),
             Self::Number(number) => number.to_string(),
             Self::Signed(number) => number.to_string(),
+            Self::Rate(rate) => format!("{rate:.4}"),
             Self::Flag(flag) => flag.to_string(),
             Self::List(entries) => {
                 let entries: Vec<String> = entries.iter().map(Self::json).collect();
@@ -122,7 +126,8 @@ fn words(name: &str) -> String {
 }
 
 pub fn digits(bytes: &[u8]) -> String {
-    bytes.iter().map(|byte| format!("{byte:02X}")).collect()
+    let digit = |number: u8| char::from(b"0123456789ABCDEF"[usize::from(number & 0xF)]);
+    bytes.iter().flat_map(|byte| [digit(byte >> 4), digit(*byte)]).collect()
 }
 
 fn quoted(text: &str) -> String {

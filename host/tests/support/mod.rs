@@ -1,5 +1,6 @@
 //! What the tests share: calls through the C boundary between guard bytes, a model of documents 01 and 02, and generated
 //! calls.
+pub mod air;
 pub mod burst_tally;
 pub mod calls;
 pub mod clear_tally;
@@ -14,6 +15,7 @@ pub mod hex;
 pub mod journal_files;
 pub mod journal_tally;
 pub mod journals;
+pub mod man;
 pub mod model;
 pub mod nettle;
 pub mod operations;
