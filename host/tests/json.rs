@@ -69,6 +69,13 @@ fn printed() -> String {
     let shrunk = scratch("json-shrunk.journal");
     let _ = fs::remove_file(&shrunk);
     all += &run(&["journal", "samples/store.journal", "--json", "--shrink", shrunk.to_str().expect("UTF-8")], b"").out;
+    let mut damaged = fs::read(root().join("samples/store.journal")).expect("the sample");
+    damaged.truncate(59);
+    damaged.extend([0; 512]);
+    all += &run(&["journal", "--json"], &damaged).out;
+    let repaired = scratch("json-repaired.journal");
+    let _ = fs::remove_file(&repaired);
+    all += &run(&["journal", "--json", "--repair", repaired.to_str().expect("UTF-8")], &damaged).out;
     all + &run(&["refusals", "--json"], b"").out
 }
 
