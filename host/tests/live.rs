@@ -6,7 +6,7 @@ use std::fs;
 use std::io::{BufRead, BufReader, Read, Write};
 use std::process::{Child, ChildStdin, Command, Stdio};
 use std::sync::mpsc::{channel, Receiver};
-use std::time::Duration;
+use std::time::{Duration, Instant};
 use support::air::{Air, Device, Fate};
 use support::command::{root, run, tool, KEY};
 
@@ -60,11 +60,24 @@ impl Live {
     }
 }
 
+/// Whether a process catches (`SigCgt:`) or ignores (`SigIgn:`) Ctrl-C, by its status.
+fn has_signal(process: &str, field: &str) -> bool {
+    let status = fs::read_to_string(format!("/proc/{process}/status")).unwrap_or_default();
+    let signals = status.lines().find_map(|line| line.strip_prefix(field)).map_or("0", str::trim);
+    u64::from_str_radix(signals, 16).is_ok_and(|signals| signals >> 1 & 1 == 1)
+}
+
+fn wait_until(holds: impl Fn() -> bool) {
+    let end = Instant::now() + SOON;
+    while !holds() {
+        assert!(Instant::now() < end, "it takes too long");
+        std::thread::sleep(Duration::from_millis(5));
+    }
+}
+
 /// Whether the tests run where Ctrl-C is ignored, which the command then ignores too.
 fn is_ignored() -> bool {
-    let status = fs::read_to_string("/proc/self/status").unwrap_or_default();
-    let ignored = status.lines().find_map(|line| line.strip_prefix("SigIgn:")).map_or("0", str::trim);
-    let is_ignored = u64::from_str_radix(ignored, 16).is_ok_and(|signals| signals >> 1 & 1 == 1);
+    let is_ignored = has_signal("self", "SigIgn:");
     if is_ignored {
         let _ = writeln!(std::io::stderr(), "Ctrl-C is ignored here: skipped");
     }
@@ -129,8 +142,8 @@ fn an_interrupt_before_the_first_record() {
     for front in [&b""[..], b"08 0", b"\xD4\xC3", &sample()[..10], &sample()[..24], &sample()[..30]] {
         let mut live = Live::new(&[]);
         live.write(front);
-        // The command has to be waiting for its input by now: it watches for the signal before it reads.
-        std::thread::sleep(Duration::from_millis(300));
+        // The command watches for the signal before it reads.
+        wait_until(|| has_signal(&live.child.id().to_string(), "SigCgt:"));
         let (printed, said, status) = live.interrupt();
         assert_eq!(
             (printed, said.as_str(), status),
