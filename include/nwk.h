@@ -88,8 +88,7 @@ enum nwk_refusal {
  * presence byte (0 or 1) before each optional field. Absent fields are 0 when a record is filled and ignored when it is written. An
  * input record has exactly its size and no byte that its field cannot take, else 13; an output record has at least its size, else 18.
  *
- * A field's offset is a macro, with the number of its bytes beside it. Writing goes by the fields present (HAS_) and writes the bits as they
- * are given. */
+ * A field's offset is a macro, with its bytes beside it. Writing goes by the fields present (HAS_) and writes the bits as given. */
 
 /* What reading a header gives */
 #define NWK_HEADER_RECORD 147
@@ -116,11 +115,11 @@ enum nwk_refusal {
 #define NWK_HEADER_HAS_SOURCE_ROUTE 36     /* 1 byte */
 #define NWK_HEADER_RELAY_COUNT 37          /* 1 byte: 0 to 54 */
 #define NWK_HEADER_RELAY_INDEX 38          /* 1 byte */
-#define NWK_HEADER_RELAYS 39               /* 108 bytes: 54 addresses of 2 bytes; those past the count are 0 on reading and ignored on writing */
+#define NWK_HEADER_RELAYS 39               /* 108 bytes: 54 of 2 bytes; past the count 0 on reading and ignored on writing */
 
 /* What reading an auxiliary header gives */
 #define NWK_AUXILIARY_RECORD 19
-#define NWK_AUXILIARY_PRESENT 0            /* 1 byte: presence of the auxiliary header itself; where it is 0 the rest is 0 on reading and ignored on writing */
+#define NWK_AUXILIARY_PRESENT 0            /* 1 byte: where it is 0 there is no auxiliary header, and the rest is 0 or ignored */
 #define NWK_AUXILIARY_LEVEL 1              /* 1 byte: security level, 0 to 7 */
 #define NWK_AUXILIARY_KEY_ID 2             /* 1 byte: key identifier, 0 to 3 */
 #define NWK_AUXILIARY_EXTENDED_NONCE_BIT 3 /* 1 byte */
@@ -132,12 +131,12 @@ enum nwk_refusal {
 
 /* What opening a frame gives */
 #define NWK_OPENED_RECORD 182
-#define NWK_OPENED_REFUSAL 0        /* 1 byte: a refused frame's number in a burst, with zeros in the rest; nwk_open leaves its record as it was */
+#define NWK_OPENED_REFUSAL 0        /* 1 byte: 0, or in a burst a refused frame's number with zeros in the rest */
 #define NWK_OPENED_MARK 1           /* 1 byte: one of the marks below */
 #define NWK_OPENED_LENGTH 2         /* 2 bytes: of the payload, wherever it stands (nwk_open) */
 #define NWK_OPENED_BLOCKS 4         /* 1 byte: 0, for a count of cipher blocks */
 #define NWK_OPENED_HAS_NONCE_IEEE 5 /* 1 byte: 1 exactly if the frame was sealed */
-#define NWK_OPENED_NONCE_IEEE 6     /* 8 bytes: the IEEE that the nonce used: the auxiliary record's, else the header's source; 2 more bytes are 0 */
+#define NWK_OPENED_NONCE_IEEE 6     /* 8 bytes: the auxiliary IEEE, else the header's source; 2 more bytes are 0 */
 #define NWK_OPENED_HEADER 16        /* 147 bytes: a header record */
 #define NWK_OPENED_AUXILIARY 163    /* 19 bytes: an auxiliary record, with the level as received; absent where the frame was clear */
 
@@ -149,28 +148,27 @@ enum nwk_refusal {
 /* What reading a command gives. Only the command's own list counts: relays for 5, link statuses for 8, PAN ids for 9, power list for 13,
  * bytes for 0. Places past a count are 0 on reading and ignored on writing. A bit and a presence byte are 0 or 1.
  *
- *   identifier                           offset: field (bytes, 1 where none is given)
- *    1 route request                     1: many-to-one, 0 to 3; 2: route request identifier; 3: destination address (2);
- *                                        5: path cost; 6: presence of the destination IEEE; 7: it (8)
- *    2 route reply                       1: route request identifier; 2: originator (2); 4: responder (2); 6: path cost;
- *                                        7: presence of the originator IEEE; 8: it (8);
- *                                        16: presence of the responder IEEE; 17: it (8)
- *    3 network status                    1: status code, 0 to 0x14; 2: network address (2)
- *    4 leave                             1: rejoin bit; 2: request bit; 3: remove children bit
- *    5 route record                      no field
- *    6 rejoin request                    1 to 8: capability bits: alternate PAN coordinator, device type, power source, receiver
- *                                        on when idle, two reserved, security capability, allocate address
- *    7 rejoin response                   1: network address (2); 3: association status, 0 to 3, 0x80 or 0xF0
- *    8 link status                       1: first frame bit; 2: last frame bit
- *    9 network report                    1: report identifier, 0; 2: extended PAN id (8)
- *   10 network update                    1: stored count, 0 to 31; 2: update identifier, 0; 3: extended PAN id (8); 11: update id;
- *                                        12: new PAN id (2)
- *   11 end device timeout request        1: timeout code, 0 to 14; 2: end device configuration
- *   12 end device timeout response       1: status, 0 to 2; 2: MAC data poll keepalive bit; 3: timeout request keepalive bit;
- *                                        4: power negotiation bit
- *   13 link power delta                  1: power type, 0 to 2
- *   14 network commissioning request     1: commissioning type, 0 or 1; 2 to 9: capability bits, as in 6
- *   15 network commissioning response    1: network address (2); 3: association status, 0 to 3, 0x80 or 0xF0
+ * Fields by identifier, each with its offset, and its bytes where they are more than 1:
+ *
+ *    1 route request: 1: many-to-one, 0 to 3; 2: route request identifier; 3: destination address (2); 5: path cost; 6: presence of the
+ *      destination IEEE; 7: it (8)
+ *    2 route reply: 1: route request identifier; 2: originator (2); 4: responder (2); 6: path cost; 7: presence of the originator IEEE;
+ *      8: it (8); 16: presence of the responder IEEE; 17: it (8)
+ *    3 network status: 1: status code, 0 to 0x14; 2: network address (2)
+ *    4 leave: 1: rejoin bit; 2: request bit; 3: remove children bit
+ *    5 route record: no field
+ *    6 rejoin request: 1 to 8: capability bits, alternate PAN coordinator, device type, power source, receiver on when idle, two
+ *      reserved, security capability, allocate address
+ *    7 rejoin response: 1: network address (2); 3: association status, 0 to 3, 0x80 or 0xF0
+ *    8 link status: 1: first frame bit; 2: last frame bit
+ *    9 network report: 1: report identifier, 0; 2: extended PAN id (8)
+ *   10 network update: 1: stored count, 0 to 31; 2: update identifier, 0; 3: extended PAN id (8); 11: update id; 12: new PAN id (2)
+ *   11 end device timeout request: 1: timeout code, 0 to 14; 2: end device configuration
+ *   12 end device timeout response: 1: status, 0 to 2; 2: MAC data poll keepalive bit; 3: timeout request keepalive bit; 4: power
+ *      negotiation bit
+ *   13 link power delta: 1: power type, 0 to 2
+ *   14 network commissioning request: 1: commissioning type, 0 or 1; 2 to 9: capability bits, as in 6
+ *   15 network commissioning response: 1: network address (2); 3: association status, 0 to 3, 0x80 or 0xF0
  */
 #define NWK_COMMAND_RECORD 535
 #define NWK_COMMAND_IDENTIFIER 0        /* 1 byte: 1 to 15, or 0 for an unparsed command, which keeps all its bytes */
@@ -211,21 +209,20 @@ uint64_t nwk_write_auxiliary(const uint8_t *auxiliary, size_t auxiliary_len, uin
  * nwk_read_auxiliary where the security bit is set; 12 an unsecured payload over 108; 18 header shorter than 147 or auxiliary
  * shorter than 19. */
 uint64_t nwk_read_frame(const uint8_t *bytes, size_t bytes_len, uint8_t *header, size_t header_len, uint8_t *auxiliary,
-                        size_t auxiliary_len);
+    size_t auxiliary_len);
 
 /* Write a frame without a key to out: the header of a record, then the payload; no auxiliary header. Length: the frame's bytes.
  * Refusals: 13 the record; 17 a payload over 108 or a frame over 118; 18 out shorter. */
 uint64_t nwk_write_frame(const uint8_t *header, size_t header_len, const uint8_t *payload, size_t payload_len, uint8_t *out,
-                         size_t out_len);
+    size_t out_len);
 
 /* Seal a frame to out. Length: the frame's bytes. Bits are sent as the records have them, so for a frame that opens again set
  * NWK_HEADER_SECURITY_BIT, each of the bits at 3 and 5 to 7 exactly if its field is present, and NWK_AUXILIARY_EXTENDED_NONCE_BIT
  * exactly if the auxiliary IEEE is. The level does not matter: 5 is authenticated and 0 is sent. Refusals: 13 a record; 14 the
  * auxiliary record's presence byte is 0; 15 neither record has an IEEE for the nonce (the auxiliary one, else the header's source);
  * 21 the counter is FFFFFFFF, which receivers throw away; 17 a payload over 108 or a frame over 118; 18 out shorter. */
-uint64_t nwk_seal(uint64_t key_first, uint64_t key_second, const uint8_t *header, size_t header_len,
-                  const uint8_t *auxiliary, size_t auxiliary_len, const uint8_t *payload, size_t payload_len, uint8_t *out,
-                  size_t out_len);
+uint64_t nwk_seal(uint64_t key_first, uint64_t key_second, const uint8_t *header, size_t header_len, const uint8_t *auxiliary,
+    size_t auxiliary_len, const uint8_t *payload, size_t payload_len, uint8_t *out, size_t out_len);
 
 /* Open a frame into an opened record and out. Length: the payload's bytes. Look at NWK_CLEAR(answer) before you take the payload:
  *
@@ -237,17 +234,15 @@ uint64_t nwk_seal(uint64_t key_first, uint64_t key_second, const uint8_t *header
  * to 12 as nwk_read_frame; of a sealed frame 15 no IEEE for the nonce, 16 fewer than 4 bytes behind the headers, 18 out shorter than
  * the payload; of any frame 18 opened shorter than 182; of a sealed frame 19 the MIC is not the one computed. */
 uint64_t nwk_open(uint64_t key_first, uint64_t key_second, const uint8_t *bytes, size_t bytes_len, uint8_t *opened,
-                  size_t opened_len, uint8_t *out, size_t out_len);
+    size_t opened_len, uint8_t *out, size_t out_len);
 
 /* Open a burst: up to 16 frames under one key, frames being their bytes end to end and lengths the bytes of each. Length: the number of
  * frames, which may be 0. Refusals: 20 more than 16 lengths, lengths whose sum is not frames_len, out shorter than 108 times
  * lengths_count, or fewer answers than lengths. A refused frame does not stop the next one.
  * Afterwards answers[k] is the opened record of frame k (from 0), and the 108 bytes of out from 108 * k are its part: both as nwk_open
- * leaves them for that frame and part alone, but that a refused frame's record is its number and zeros. By its mark a payload is at the
- * front of its part (NWK_MARK_SEALED), in the last bytes of its frame (NWK_MARK_CLEAR), or nowhere. Other records and bytes stay. */
-uint64_t nwk_open_burst(uint64_t key_first, uint64_t key_second, const uint8_t *frames, size_t frames_len,
-                        const uint16_t *lengths, size_t lengths_count, uint8_t (*answers)[NWK_OPENED_RECORD],
-                        size_t answers_count, uint8_t *out, size_t out_len);
+ * leaves them for that frame and part alone, but that a refused frame's record is its number and zeros. Other records and bytes stay. */
+uint64_t nwk_open_burst(uint64_t key_first, uint64_t key_second, const uint8_t *frames, size_t frames_len, const uint16_t *lengths,
+    size_t lengths_count, uint8_t (*answers)[NWK_OPENED_RECORD], size_t answers_count, uint8_t *out, size_t out_len);
 
 #define NWK_PAYLOAD_OPAQUE 0
 #define NWK_PAYLOAD_COMMAND 1
@@ -261,9 +256,8 @@ uint64_t nwk_payload_kind(uint8_t frame_type);
  * The caller keeps a list of sender records, all zeros at first, and lends it to one call at a time. Its first NWK_MAX_SENDERS places
  * count: others are neither looked at nor changed. Where a list names a sender twice, the first record counts.
  *
- * For each frame that nwk_open marks as sealed: ask for the key, with the IEEE that its nonce used (NWK_OPENED_NONCE_IEEE), its
- * key sequence number and its counter; if nothing is refused, note the counter and take the payload. Never note before opening: a
- * counter that anyone may have claimed would shut its sender out. */
+ * For each frame that nwk_open marks as sealed: ask for the key, with NWK_OPENED_NONCE_IEEE, key sequence number and counter; if nothing
+ * is refused, note the counter and take the payload. Never note before opening: anyone could shut the sender out. */
 
 /* A sender record, 16 bytes: 3 bytes of padding at its end, ignored. */
 struct nwk_sender {
@@ -273,24 +267,21 @@ struct nwk_sender {
 };
 
 /* Does not compile where a record has another layout than the functions were compiled for. */
-typedef char nwk_sender_has_16_bytes[sizeof(struct nwk_sender) == 16 && offsetof(struct nwk_sender, counter) == 8 &&
-                                             offsetof(struct nwk_sender, used) == 12
-                                         ? 1
-                                         : -1];
+typedef char nwk_sender_has_16_bytes
+    [sizeof(struct nwk_sender) == 16 && offsetof(struct nwk_sender, counter) == 8 && offsetof(struct nwk_sender, used) == 12 ? 1 : -1];
 
 /* Ask for the key of a frame that arrived: key is then the active key's 16 bytes. Length: 16. Refusals: 22 key_sequence_number is not
  * active_key_sequence_number; 23 frame_counter is FFFFFFFF, or the list names the sender and it is not above the stored counter. The
  * list is as it was. */
 uint64_t nwk_inbound_network_key(uint64_t key_first, uint64_t key_second, uint8_t active_key_sequence_number,
-                                 struct nwk_sender *senders, size_t senders_count, uint64_t sender,
-                                 uint8_t key_sequence_number, uint32_t frame_counter, uint8_t key[16]);
+    struct nwk_sender *senders, size_t senders_count, uint64_t sender, uint8_t key_sequence_number, uint32_t frame_counter,
+    uint8_t key[16]);
 
 /* Note the counter of a frame that was opened, also a lower one. Where NWK_KNOWN(answer) is 1 the sender was known, and in place of
  * the length stands the counter that was stored, which may be 0; else the sender is new and took the first free place. After
  * FFFFFFFF no counter of that sender is above the stored one. Refusals: 24 the sender is new and no place that counts is free.
  * Afterwards the sender's record has used 1, its address and this counter. No other record has changed. */
-uint64_t nwk_note_inbound_frame_counter(struct nwk_sender *senders, size_t senders_count, uint64_t sender,
-                                        uint32_t frame_counter);
+uint64_t nwk_note_inbound_frame_counter(struct nwk_sender *senders, size_t senders_count, uint64_t sender, uint32_t frame_counter);
 
 /* Forget a sender: every place that counts and names it becomes free, all zeros. Length: 0. Nothing is refused, and nothing else
  * changes. */
@@ -321,8 +312,8 @@ uint64_t nwk_forget_sender(struct nwk_sender *senders, size_t senders_count, uin
  *             3. write the kind, and wait again: only then does the record count
  *             Those of a burst may go together, NWK_JOURNAL_APPEND bytes at most, with 0 in place of the first kind alone
  *   a frame   1. open it  2. ask nwk_inbound_network_key  3. note its counter in the list  4. append the sender's record  5. hand it
- *             on. A cut before 4 is done costs the frame, which may be taken if it is sent again; one behind it costs the frame
- *             for good. Handing on before 4 loses none, and takes one twice that somebody recorded
+ *             on. A cut before 4 is done costs the frame, unless it is sent again; one behind it costs it for good. Handing on
+ *             before 4 loses none, and may take a recorded one twice
  *
  * The last counter is the recovered ceiling after each nwk_recover_journal, and from then on the one handed out last. A host that
  * reserves 1,000 counters at a time writes a ceiling of the last counter + 1,000, hands out those up to it, and writes the next. Where
@@ -345,14 +336,14 @@ uint64_t nwk_forget_sender(struct nwk_sender *senders, size_t senders_count, uin
  * Afterwards the list names each sender once, by first appearance, with its last counter; places left over that count are all zeros.
  * *complete is the length of the complete records: nothing is appended while there is anything behind them. */
 uint64_t nwk_recover_journal(const uint8_t *journal, size_t journal_len, struct nwk_sender *senders, size_t senders_count,
-                             uint64_t *complete);
+    uint64_t *complete);
 
 /* Write the record that is to be appended next to out, alone. kind is NWK_JOURNAL_CEILING with its ceiling in counter, which may be
  * lower than others, NWK_JOURNAL_SENDER with sender and counter, or NWK_JOURNAL_KEY_NUMBER with key_number; other arguments mean nothing.
  * Length: 5, 13 or 2. Refusals: 25 a record of the journal, or kind, is not of kind 1 to 3; 24 the journal with the new record names more
  * than 64 senders, whatever kind is to be written; 18 out shorter. */
-uint64_t nwk_write_journal_record(const uint8_t *journal, size_t journal_len, uint8_t kind, uint64_t sender,
-                                  uint32_t counter, uint8_t key_number, uint8_t *out, size_t out_len);
+uint64_t nwk_write_journal_record(const uint8_t *journal, size_t journal_len, uint8_t kind, uint64_t sender, uint32_t counter,
+    uint8_t key_number, uint8_t *out, size_t out_len);
 
 /* Hand out the next counter. In place of the length: last + 1, which is last of the next call. Refusals: 25 as nwk_recover_journal; 26
  * last is FFFFFFFE or above; 27 no complete ceiling record of the journal is at least last + 1: write one, and ask again. */
@@ -390,15 +381,13 @@ uint64_t nwk_timeout_seconds(uint8_t code);
 
 /* Seal a payload with CCM (SP 800-38C, AES-128): out is then the ciphertext and mic the MIC. out may not overlap payload: the MIC would
  * be wrong. Length: the payload's. Refusals: 1 auth or payload over 127; 18 out shorter than the payload. */
-uint64_t nwk_encrypt_ccm(uint64_t key_first, uint64_t key_second, const uint8_t nonce[13], const uint8_t *auth,
-                         size_t auth_len, const uint8_t *payload, size_t payload_len, uint8_t *out, size_t out_len,
-                         uint8_t mic[4]);
+uint64_t nwk_encrypt_ccm(uint64_t key_first, uint64_t key_second, const uint8_t nonce[13], const uint8_t *auth, size_t auth_len,
+    const uint8_t *payload, size_t payload_len, uint8_t *out, size_t out_len, uint8_t mic[4]);
 
 /* Open a ciphertext with its MIC: out, which may not overlap ciphertext, is then the payload. Length: the payload's. Refusals: 1 auth or
  * ciphertext over 127; 18 out shorter than the ciphertext; 19 the MIC is not the one computed. */
-uint64_t nwk_decrypt_ccm(uint64_t key_first, uint64_t key_second, const uint8_t nonce[13], const uint8_t *auth,
-                         size_t auth_len, const uint8_t *ciphertext, size_t ciphertext_len, const uint8_t mic[4],
-                         uint8_t *out, size_t out_len);
+uint64_t nwk_decrypt_ccm(uint64_t key_first, uint64_t key_second, const uint8_t nonce[13], const uint8_t *auth, size_t auth_len,
+    const uint8_t *ciphertext, size_t ciphertext_len, const uint8_t mic[4], uint8_t *out, size_t out_len);
 
 /* Take the MIC, the last 4 bytes, off ciphertext with MIC. Length: that of the ciphertext in front of it. Refusals: 16 fewer than 4
  * bytes. */

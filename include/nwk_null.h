@@ -34,42 +34,42 @@ NWK_OR_NULL(nwk_shrink_journal)
 NWK_OR_NULL(nwk_read_command)
 NWK_OR_NULL(nwk_write_command)
 
-static inline uint64_t nwk_read_frame_or_null(const uint8_t *bytes, size_t n, uint8_t *header, size_t h, uint8_t *auxiliary, size_t a) {
+static inline uint64_t nwk_read_frame_or_null(const uint8_t *bytes, size_t n, uint8_t *header, size_t h, uint8_t *auxiliary,
+    size_t a) {
   return nwk_read_frame(nwk_given(bytes, n), n, nwk_lent(header, h), h, nwk_lent(auxiliary, a), a);
 }
 
 static inline uint64_t nwk_write_frame_or_null(const uint8_t *header, size_t h, const uint8_t *payload, size_t n, uint8_t *out,
-                                               size_t room) {
+    size_t room) {
   return nwk_write_frame(nwk_given(header, h), h, nwk_given(payload, n), n, nwk_lent(out, room), room);
 }
 
 static inline uint64_t nwk_seal_or_null(uint64_t first, uint64_t second, const uint8_t *header, size_t h, const uint8_t *auxiliary,
-                                        size_t a, const uint8_t *payload, size_t n, uint8_t *out, size_t room) {
+    size_t a, const uint8_t *payload, size_t n, uint8_t *out, size_t room) {
   return nwk_seal(first, second, nwk_given(header, h), h, nwk_given(auxiliary, a), a, nwk_given(payload, n), n, nwk_lent(out, room),
-                  room);
+      room);
 }
 
 static inline uint64_t nwk_open_or_null(uint64_t first, uint64_t second, const uint8_t *bytes, size_t n, uint8_t *opened, size_t r,
-                                        uint8_t *out, size_t room) {
+    uint8_t *out, size_t room) {
   return nwk_open(first, second, nwk_given(bytes, n), n, nwk_lent(opened, r), r, nwk_lent(out, room), room);
 }
 
-static inline uint64_t nwk_open_burst_or_null(uint64_t first, uint64_t second, const uint8_t *frames, size_t n, const uint16_t *lengths,
-                                              size_t k, uint8_t (*answers)[NWK_OPENED_RECORD], size_t places, uint8_t *out,
-                                              size_t room) {
+static inline uint64_t nwk_open_burst_or_null(uint64_t first, uint64_t second, const uint8_t *frames, size_t n,
+    const uint16_t *lengths, size_t k, uint8_t (*answers)[NWK_OPENED_RECORD], size_t places, uint8_t *out, size_t room) {
   static const uint16_t no_length = 0;
   static uint8_t no_answer[1][NWK_OPENED_RECORD];
   return nwk_open_burst(first, second, nwk_given(frames, n), n, k == 0 ? &no_length : lengths, k, places == 0 ? no_answer : answers,
-                        places, nwk_lent(out, room), room);
+      places, nwk_lent(out, room), room);
 }
 
 static inline uint64_t nwk_inbound_network_key_or_null(uint64_t first, uint64_t second, uint8_t active, struct nwk_sender *senders,
-                                                       size_t n, uint64_t sender, uint8_t number, uint32_t counter,
-                                                       uint8_t key[16]) {
+    size_t n, uint64_t sender, uint8_t number, uint32_t counter, uint8_t key[16]) {
   return nwk_inbound_network_key(first, second, active, nwk_lent_senders(senders, n), n, sender, number, counter, key);
 }
 
-static inline uint64_t nwk_note_inbound_frame_counter_or_null(struct nwk_sender *senders, size_t n, uint64_t sender, uint32_t counter) {
+static inline uint64_t nwk_note_inbound_frame_counter_or_null(struct nwk_sender *senders, size_t n, uint64_t sender,
+    uint32_t counter) {
   return nwk_note_inbound_frame_counter(nwk_lent_senders(senders, n), n, sender, counter);
 }
 
@@ -78,12 +78,12 @@ static inline uint64_t nwk_forget_sender_or_null(struct nwk_sender *senders, siz
 }
 
 static inline uint64_t nwk_recover_journal_or_null(const uint8_t *journal, size_t n, struct nwk_sender *senders, size_t places,
-                                                   uint64_t *complete) {
+    uint64_t *complete) {
   return nwk_recover_journal(nwk_given(journal, n), n, nwk_lent_senders(senders, places), places, complete);
 }
 
 static inline uint64_t nwk_write_journal_record_or_null(const uint8_t *journal, size_t n, uint8_t kind, uint64_t sender,
-                                                        uint32_t counter, uint8_t number, uint8_t *out, size_t room) {
+    uint32_t counter, uint8_t number, uint8_t *out, size_t room) {
   return nwk_write_journal_record(nwk_given(journal, n), n, kind, sender, counter, number, nwk_lent(out, room), room);
 }
 
@@ -91,13 +91,13 @@ static inline uint64_t nwk_next_counter_or_null(const uint8_t *journal, size_t n
   return nwk_next_counter(nwk_given(journal, n), n, last);
 }
 
-static inline uint64_t nwk_encrypt_ccm_or_null(uint64_t first, uint64_t second, const uint8_t nonce[13], const uint8_t *auth, size_t a,
-                                               const uint8_t *payload, size_t n, uint8_t *out, size_t room, uint8_t mic[4]) {
+static inline uint64_t nwk_encrypt_ccm_or_null(uint64_t first, uint64_t second, const uint8_t nonce[13], const uint8_t *auth,
+    size_t a, const uint8_t *payload, size_t n, uint8_t *out, size_t room, uint8_t mic[4]) {
   return nwk_encrypt_ccm(first, second, nonce, nwk_given(auth, a), a, nwk_given(payload, n), n, nwk_lent(out, room), room, mic);
 }
 
-static inline uint64_t nwk_decrypt_ccm_or_null(uint64_t first, uint64_t second, const uint8_t nonce[13], const uint8_t *auth, size_t a,
-                                               const uint8_t *ciphertext, size_t n, const uint8_t mic[4], uint8_t *out, size_t room) {
+static inline uint64_t nwk_decrypt_ccm_or_null(uint64_t first, uint64_t second, const uint8_t nonce[13], const uint8_t *auth,
+    size_t a, const uint8_t *ciphertext, size_t n, const uint8_t mic[4], uint8_t *out, size_t room) {
   return nwk_decrypt_ccm(first, second, nonce, nwk_given(auth, a), a, nwk_given(ciphertext, n), n, mic, nwk_lent(out, room), room);
 }
 

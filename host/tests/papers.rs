@@ -52,3 +52,21 @@ fn source_licence_and_processor_are_named() {
     assert!(read("include/nwk.h").contains("compiled for x86-64"));
     assert!(read("host/build.rs").contains("compiled for x86_64 Linux"));
 }
+
+/// Each fact has one home: README has at most 10 kB, and it, CONTRIBUTING, the pages of `docs/` and the headers at most 120 kB together.
+#[test]
+fn the_papers_are_short() {
+    assert!(read("README.md").len() <= 10_000, "README.md has {} bytes", read("README.md").len());
+    let mut sizes = vec![("README.md".to_string(), read("README.md").len())];
+    sizes.push(("CONTRIBUTING.md".to_string(), read("CONTRIBUTING.md").len()));
+    for (folder, ending) in [("docs", "md"), ("include", "h")] {
+        for entry in fs::read_dir(root().join(folder)).expect(folder) {
+            let path = entry.expect("a file").path();
+            if path.extension().is_some_and(|found| found == ending) {
+                sizes.push((path.display().to_string(), fs::metadata(&path).expect("a file").len() as usize));
+            }
+        }
+    }
+    let all: usize = sizes.iter().map(|(_, size)| size).sum();
+    assert!(all <= 120_000, "{all} bytes: {sizes:?}");
+}
