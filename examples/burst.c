@@ -39,7 +39,7 @@ static uint16_t leave_clear(const char *reading, uint8_t *frame, size_t room) {
 }
 
 /* One line for a frame: its record, its part of the output, and where its own bytes end. The mark says which of the two has the
- * payload, and whether anybody vouches for it. */
+ * payload, and whether it is authenticated. */
 static void show(size_t k, const uint8_t *record, const uint8_t *part, const uint8_t *frame_end) {
   const unsigned length = nwk_get16(record + NWK_OPENED_LENGTH);
   const unsigned source = nwk_get16(record + NWK_OPENED_HEADER + NWK_HEADER_SOURCE);

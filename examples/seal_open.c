@@ -83,7 +83,7 @@ int main(void) {
     printf("opening refused: %s\n", nwk_refusal_text(NWK_REFUSAL(opened)));
     return 1;
   }
-  /* A clear frame is accepted too, with nothing in the output and nobody who vouches for it. */
+  /* A clear frame is accepted too, with nothing in the output, and is not authenticated. */
   if (NWK_CLEAR(opened)) {
     printf("not a sealed frame\n");
     return 1;

@@ -1,7 +1,7 @@
 //! The gateway's loop: the frames that the radio hands over at once are opened in one call, each sealed one is asked for by its
 //! sender's last counter and noted, and what does not pass is counted by its number. What was noted goes into a journal at once, and
-//! the frames are handed on when it is on disk: a cut in between loses them and lets none pass twice. Clear frames, for which nobody
-//! vouches, go another way. After a power cut the journal still knows which frames were taken. Last a probe is replaced.
+//! the frames are handed on when it is on disk: a cut in between loses them and lets none pass twice. Clear frames, which nothing
+//! authenticates, go another way. After a power cut the journal still knows which frames were taken. Last a probe is replaced.
 //!
 //!   cargo run --release --example gateway
 use std::collections::BTreeMap;

@@ -9,7 +9,7 @@ use core::slice::{ChunksExact, Iter};
 /// each. What comes back gives every frame, in its order, as [`open`](crate::open) would have. A refused frame stops no
 /// other.
 ///
-/// Look at each frame's mark first: it says where its payload is, and whether anybody vouches for it. The payload of a sealed
+/// Look at each frame's mark first: it says where the payload is, and whether it is authenticated. The payload of a sealed
 /// frame k (from 0) stands at the front of its own part of the output, the [`MAX_PAYLOAD`] bytes from `MAX_PAYLOAD * k`. A clear
 /// frame leaves its part as it was: its payload is the last bytes of that frame, and its length says nothing of the output.
 /// If the frame's type is 1 that is a command, to be read apart. The rest of the output stays as it was. `answers` has a

@@ -138,7 +138,7 @@ pub fn seal(
 }
 
 /// Opens a frame, and says whether it was sealed or clear. Look at that mark first: it says where the payload is, and whether
-/// anybody vouches for it.
+/// it is authenticated.
 ///
 /// - A sealed frame's payload is authenticated, and stands at the front of the output, of which
 ///   [`MAX_PAYLOAD`](crate::MAX_PAYLOAD) bytes are always enough.

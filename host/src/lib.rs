@@ -28,11 +28,11 @@
 //! # Ok::<(), Refusal>(())
 //! ```
 //!
-//! [`open`] takes clear frames too, whose security bit is off and whose payload nobody vouches for. So what it gives has a
-//! mark, [`Opened`], and there is no way to a payload but through it. The frames that a radio hands over at once are opened in
-//! one call by [`open_burst`]. That no frame is taken twice is for [`Senders`] to see to, which keeps the counters of up to
-//! [`MAX_SENDERS`] senders. That no outgoing counter is used twice, power cuts or not, is for a journal to see to: [`recover`],
-//! [`write_record`], [`next_counter`] and [`shrink`] over bytes, and `JournalFile` over a file.
+//! [`open`] accepts clear frames too: their security bit is off, and nothing authenticates them. So what it gives has a mark,
+//! [`Opened`], and there is no way to a payload but through it. [`open_burst`] opens the frames that a radio hands over at once.
+//! [`Senders`] keeps the counters of up to [`MAX_SENDERS`] senders, so that no frame is taken twice. A journal keeps outgoing counters
+//! from being used twice, also after a power cut: [`recover`], [`write_record`], [`next_counter`] and [`shrink`] over bytes, and
+//! `JournalFile` over a file.
 //!
 //! # The order for frames that arrive
 //!

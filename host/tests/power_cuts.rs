@@ -1,4 +1,4 @@
-//! The power is cut for real: a process that keeps its counters in a journal file, and shrinks it now and then, is killed at random
+//! A stand-in for power cuts: a process that keeps its counters in a journal file, and shrinks it now and then, is killed at random
 //! moments. The file loses a random part of what was being appended, or shrinking is undone. No counter comes twice, and nothing is
 //! lost that the process was told is on disk. `disk_states.rs` tries every state, one by one.
 #[allow(dead_code)]
