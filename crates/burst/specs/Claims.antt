@@ -1,5 +1,6 @@
 -- Document 02, 1, and what 3 says of bursts, sentence by sentence: each is one claim over all keys, bytes, lengths, outputs and
--- lists for the answers.
+-- lists for the answers. But for the claims on 20, a claim is about a burst that is accepted (`Accepted`), and k is the number of
+-- any of its frames.
 -- Assumes nothing.
 use Prim.Native.Nat.{ℕ, _*_, _≤_, _<_}
 use mathlib.Core.Path.{_≡_}
@@ -39,19 +40,19 @@ pub record AsAlone (key fs ns o : List ℕ) (list : List (List ℕ)) (k : ℕ) :
 abbrev pub EachAsAlone : Type 0
 EachAsAlone = (key fs ns o : List ℕ) (list : List (List ℕ)) → Accepted fs ns o list → (k : ℕ) → k < length ns → AsAlone key fs ns o list k
 
--- each record says the whole of that answer, where the bytes lent are bytes
+-- each record decodes to the whole of that answer, where the bytes lent are below 256
 abbrev pub EachSaid : Type 0
 EachSaid =
     (key fs ns o : List ℕ) (list : List (List ℕ)) → Below 256 fs → Accepted fs ns o list → (k : ℕ) → k < length ns
     → openedOf (getD (openBurst key fs ns o list .answers) k []) ≡ openFrame key (frameAt fs ns k) (partAt o k) .answer
 
--- a part has room for every payload: no longer output would be answered otherwise
+-- a part has room for every payload: with a longer output the answer is the same, where the bytes lent are below 256
 abbrev pub PartsSuffice : Type 0
 PartsSuffice =
     (key fs ns o o′ : List ℕ) (list : List (List ℕ)) → Below 256 fs → Accepted fs ns o list → partSize ≤ length o′ → (k : ℕ) → k < length ns
     → openFrame key (frameAt fs ns k) (partAt o k) .answer ≡ openFrame key (frameAt fs ns k) o′ .answer
 
--- each record, with its frame and its part, hands back the payload that opening the frame alone hands back
+-- the payload by each record, from its frame and its part, is that of opening the frame alone, where the bytes lent are below 256
 abbrev pub PayloadsAsAlone : Type 0
 PayloadsAsAlone =
     (key fs ns o : List ℕ) (list : List (List ℕ)) → Below 256 fs → Accepted fs ns o list → (k : ℕ) → k < length ns
@@ -69,6 +70,8 @@ abbrev pub EachItsOwnNumber : Type 0
 EachItsOwnNumber = (key fs ns o : List ℕ) (list : List (List ℕ)) → Accepted fs ns o list → (k : ℕ) → k < length ns → OwnNumber key fs ns o list k
 
 -- ---- "in a burst a clear frame writes nothing to its part, and its payload is the frame's last bytes" (document 02, 3)
+
+-- where frame k reads, its security bit is off, and the bytes lent are below 256
 
 pub record ClearInBurst (key fs ns o : List ℕ) (list : List (List ℕ)) (k : ℕ) : Type 0 where
   pub marked : openedOf (getD (openBurst key fs ns o list .answers) k []) .mark ≡ Mark.Clear

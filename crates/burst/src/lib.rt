@@ -85,7 +85,8 @@ fn open_each(
 }
 
 // Open a burst of frames that stand end to end, as long as the lengths say. Frame k goes to the 108 bytes of the output from
-// 108 × k, and its answer to place k of the list; 20 refuses the burst and changes nothing, a frame's own refusal only its place.
+// 108 × k, and its answer to place k of the list. 20 refuses the burst and changes nothing; a frame's own refusal changes only its
+// record.
 pub fn open_burst(
     key: Key,
     frames: &[u8],

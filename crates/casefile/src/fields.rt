@@ -17,7 +17,7 @@ pub struct FieldRead {
     pub n: usize,
 }
 
-// Reads word k into the front of `out`. An empty word is not well formed. Where the word is not, what is left in `out` is not said.
+// Reads word k into the front of `out`. An empty word is not well formed. Where the word is not, what is left in `out` is not specified.
 pub fn field(line: &[u8], k: usize, out: &mut [u8]) -> FieldRead
     ensures { λ r. ⌜ Counts (r .n) (now (out .exit)) ⌝ }
     ensures { λ r. ⌜ r ≡ fieldOf (wordOf (now (line .entry)) k) (length (now (out .entry))) ⌝ }

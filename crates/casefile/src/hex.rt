@@ -17,7 +17,7 @@ pub fn digit(b: u8) -> u8
 }
 
 // Fills `out` with what `digits` stand for, two digits a byte, and answers whether they are digits, just as many, and not none.
-// Where they are not, what it leaves in `out` is not said.
+// Where they are not, what it leaves in `out` is not specified.
 pub fn decode(digits: &[u8], out: &mut [u8]) -> bool
     ensures { λ r. ⌜ r ≡ isHex (now (digits .entry)) (length (now (out .entry))) ⌝ }
     ensures { λ r. ⌜ (r ≡ true → now (out .exit) ≡ hexBytes (now (digits .entry))) ⌝ }

@@ -31,13 +31,13 @@ commandRecord f = fieldsRecord (f .command) ++ listsRecord f
 
 -- ---- the command of a record
 
--- the command with its lists that a record of 535 bytes says
+-- the command with its lists that a record of 535 bytes encodes
 unfoldable pub recordedBy : TypedBody → List ℕ → NwkCommandRead
 recordedBy (TypedBody.Typed c) r = readAs (withListsAt c r)
 recordedBy TypedBody.NotTyped r = readNothing 13
 
--- reading a record: document 01, number 13, for another length and for what its fields cannot say. The limits of the
--- command's numbers and of its own list are the writer's to say.
+-- reading a record: document 01, number 13, for another length and for a byte that its field cannot take. The writer looks at
+-- the limits of the command's numbers and of its own list.
 unfoldable pub readRecord : List ℕ → NwkCommandRead
 readRecord r = recordedBy (cond (eqb (length r) commandRecordSize) (said r) TypedBody.NotTyped) r
 

@@ -110,6 +110,6 @@ unfoldable pub saidBy : NwkCommandIdCode → List ℕ → TypedBody
 saidBy (NwkCommandIdCode.Known id) r = cond (flagsFit id r) (commandOf id (recordValues id r)) TypedBody.NotTyped
 saidBy NwkCommandIdCode.Unknown r = TypedBody.NotTyped
 
--- the command that the fields of r say, if its identifier and codes are declared and its flags are 0 or 1
+-- the command that the fields of r encode, if its identifier and codes are declared and its flags are 0 or 1
 unfoldable pub said : List ℕ → TypedBody
 said r = cond (eqb (getD r 0 0) 0) (TypedBody.Typed NwkCommand.Unparsed) (saidBy (commandIdOf (getD r 0 0)) r)

@@ -37,7 +37,7 @@ pub fn put_command(out: &mut [u8], f: NwkCommandWithLists)
     lists::put_unparsed(out, f.unparsed_len, unparsed);
 }
 
-// Read a record: the command that it says with its lists, or refusal 13 for another length, an undeclared identifier or
+// Read a record: the command that it encodes, with its lists, or refusal 13 for another length, an undeclared identifier or
 // code, and a truth value or presence byte above 1.
 pub fn read_record(bytes: &[u8]) -> NwkCommandRead
     ensures { λ r. ⌜ r ≡ readRecord (now (bytes .entry)) ⌝ }

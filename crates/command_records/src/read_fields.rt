@@ -1,4 +1,4 @@
-// The command that a record's identifier and fields say: one function for each of the fifteen, which answers a command, or
+// The command that a record's identifier and fields encode: one function for each of the fifteen, which answers a command, or
 // that a code is undeclared.
 
 ghost use mathlib.Core.Path.{_≡_};
@@ -308,7 +308,7 @@ fn flags_fit(id: NwkCommandId, bytes: &[u8]) -> bool
     }
 }
 
-// The command that a record says, if its identifier and codes are declared and its flags are 0 or 1.
+// The command that a record encodes, if its identifier and codes are declared and its flags are 0 or 1.
 pub fn command_at(bytes: &[u8]) -> TypedBody
     ensures { λ r. ⌜ r ≡ said (now (bytes .entry)) ⌝ }
 {

@@ -137,7 +137,7 @@ fn misfits(given: NwkCommandWithLists) -> bool
     }
 }
 
-// What the fields are refused by, or 0.
+// The refusal of the fields, or 0.
 fn field_refusal(given: NwkCommandWithLists) -> u8
     ensures { λ r. ⌜ r ≡ fieldRefusal given ⌝ }
 {

@@ -80,7 +80,7 @@ unfoldable pub misfits : NwkCommandList → Wire → Bool
 misfits k (body id v) = overPlaces k (length (v .entries)) || not (heldValues (formatOf id) v)
 misfits k (raw bs) = false
 
--- what its fields are refused by: document 01, number 13
+-- the refusal of its fields: document 01, number 13
 unfoldable pub fieldRefusal : NwkCommandWithLists → ℕ
 fieldRefusal f = firstOf (on 13 (misfits (listOf (f .command)) (wire f)) ∷ [])
 

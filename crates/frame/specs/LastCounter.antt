@@ -25,7 +25,7 @@ sealWithout21 key h a p o =
 
 -- ---- "sealable counters are now 0 to 0xFFFFFFFE"
 
--- whatever is sealed has such a counter
+-- whatever is sealed has such a counter, the auxiliary header being within its types' ranges
 abbrev pub SealableCounters : Type 0
 SealableCounters =
     (key : List ℕ) (h : NwkHeader) (a : OptionAuxHeader) (p o : List ℕ)
@@ -47,7 +47,7 @@ LastRefused =
     → counterOf a ≡ lastCounter
     → sealFrame key h a p o ≡ sealNothing (firstOf (by (headersRefusal h a) ∷ by 21 ∷ [])) o
 
--- and 21 is said of no other
+-- and 21 is answered for no other counter
 abbrev pub OnlyTheLast : Type 0
 OnlyTheLast =
     (key : List ℕ) (h : NwkHeader) (a : OptionAuxHeader) (p o : List ℕ)
@@ -55,7 +55,8 @@ OnlyTheLast =
 
 -- ---- "opening still accepts the old one"
 
--- whatever the list without 21 lets through, the last counter among it, opens again to its headers and its payload
+-- whatever the list without 21 accepts, under the last counter too, opens again to its headers and its payload; the other premises
+-- are those of the sealing law's first half
 abbrev pub StillOpened : Type 0
 StillOpened =
     (key : List ℕ) (h : NwkHeader) (a : OptionAuxHeader) (p out out₂ : List ℕ)
@@ -66,7 +67,7 @@ StillOpened =
 
 -- ---- "the sealing law's second half leaves out frames with that counter"
 
--- sealing afresh what opening gave of such a frame is refused by 21, and nothing is written
+-- sealing afresh what opening gave of such a frame, marked sealed, is refused by 21, and nothing is written
 abbrev pub LeftOut : Type 0
 LeftOut =
     (key f out out₂ : List ℕ)

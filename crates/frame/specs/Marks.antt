@@ -1,4 +1,4 @@
--- Document 02, 3, sentence by sentence: what opening says of clear frames and of sealed ones. Each is one claim over all keys,
+-- Document 02, 3, sentence by sentence: what opening answers for clear and for sealed frames. Each is one claim over all keys,
 -- frames and earlier output contents. Of bursts the claims are in crates/burst/specs/Claims.antt, and the sealing law in
 -- SealingLaw.antt speaks of sealed frames only.
 -- Assumes nothing.
@@ -125,7 +125,8 @@ pub record WrittenBack (h : NwkHeader) (p key f o : List ℕ) : Type 0 where
   pub header : SameHeader h (openFrame key f o .answer .header)
   pub payload : handedBack key f o ≡ p
 
--- where the security bit is off and each presence bit agrees with its field
+-- where writing accepts the header, which is within its types' ranges, its security bit is off and each presence bit agrees with
+-- its field
 abbrev pub WrittenOpensClear : Type 0
 WrittenOpensClear =
     (key : List ℕ) (h : NwkHeader) (p out o : List ℕ) → HeaderFits h → writeFrame h p out .answer .refusal ≡ 0

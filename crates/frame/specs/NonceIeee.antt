@@ -1,6 +1,6 @@
 -- Document 02, 5, of opening: "the opened frame's record now carries the long address the nonce used (none for a clear frame)".
--- Each is one claim over all keys, frames and earlier output contents. Which frames are opened stays, as Marks.antt has it, and
--- that the record in a burst says the same is `EachSaid` in crates/burst/specs/Claims.antt.
+-- Each is one claim over all keys, frames and earlier output contents. Which frames are opened is in Marks.antt, and that a
+-- record of a burst has the same address is `EachSaid` in crates/burst/specs/Claims.antt.
 -- Assumes nothing.
 use mathlib.Core.Path.{_≡_}
 use mathlib.Core.List.{List, _++_}

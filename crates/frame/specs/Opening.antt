@@ -1,5 +1,5 @@
--- Opening a frame (Zigbee Specification 4.3.1.2; `EncryptedNwkFrame::from_bytes` and `decrypt`). It goes by what reading the
--- frame answers. A frame whose security bit is off is clear: its payload is a part of the frame, and the output stays
+-- Opening a frame (Zigbee Specification 4.3.1.2; `EncryptedNwkFrame::from_bytes` and `decrypt`). It uses the answer of reading
+-- the frame. A frame whose security bit is off is clear: its payload is a part of the frame, and the output stays
 -- (document 02, 3).
 -- Assumes nothing.
 use Prim.Native.Nat.{ℕ, _-_}
@@ -110,7 +110,7 @@ openWith ciph f o = openBy networkLevel micLength ciph f (readFrame f) o
 abbrev pub openFrame : List ℕ → List ℕ → List ℕ → Run
 openFrame key f o = openWith (ciphOf key) f o
 
--- the same under any eleven round keys; under those of a key it is `openFrame` (`cipher-is` in crates/ccm/proofs/Answers.antt)
+-- the same under any eleven round keys; under those of a key it is `openFrame` (`cipher-is` in crates/ccm/proofs/RoundKeys.antt)
 abbrev pub openUnder : List (List (List ℕ)) → List ℕ → List ℕ → Run
 openUnder w f o = openWith (ciphUnder w) f o
 

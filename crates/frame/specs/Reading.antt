@@ -1,5 +1,5 @@
 -- Reading a frame (Zigbee Specification 3.3.1; `EncryptedNwkFrame::from_bytes`): the header, the auxiliary header exactly if
--- the security bit is set, and what is behind them. It goes by what reading the two headers answers.
+-- the security bit is set, and what is behind them. It uses the answers of reading the two headers.
 -- Assumes nothing.
 use Prim.Native.Nat.{ℕ, _+_, _-_}
 use mathlib.Core.Bool.{Bool, true, false, cond, not, _&&_}

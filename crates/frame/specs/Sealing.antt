@@ -26,7 +26,7 @@ unfoldable pub sealedBytes : NwkSecurityLevel → ℕ → List ℕ → NwkHeader
 sealedBytes l t key h a p =
     (headerBytes h ++ auxBytes (atLevel sentLevel a)) ++ (generated l t key h a p .ciphertext ++ generated l t key h a p .tag)
 
--- ---- the refusals: they go by the payload's length and not by its bytes
+-- ---- the refusals, by the payload's length and not its bytes
 
 -- the frame's length, for n bytes of payload and a tag of t
 unfoldable pub sealedLength : ℕ → NwkHeader → NwkAuxHeader → ℕ → ℕ

@@ -39,8 +39,8 @@ pub fn seal_then_open(
 }
 
 // Open a frame and seal afresh what it gave. Where opening accepts a sealed frame whose security control byte has level and
-// bit 7 zero, and 118 bytes are lent, exactly the frame's bytes are written again, unless its counter is the last one: that
-// sealing refuses by 21. Of a clear frame it is refused by 14.
+// bit 7 zero and whose counter is not the last one, and 118 bytes are lent, exactly the frame's bytes are written again. The
+// last counter is refused by 21, and a clear frame by 14.
 pub fn open_then_seal(key: Key, frame: &[u8], out: &mut [u8], again: &mut [u8]) -> FrameSealed
     ensures answer { λ r. ⌜ r ≡ openThenSeal (key .0) (now (frame .entry)) (now (out .entry)) (now (again .entry)) .answer ⌝ }
     ensures out { λ _. ⌜ now (out .exit) ≡ openFrame (key .0) (now (frame .entry)) (now (out .entry)) .out ⌝ }

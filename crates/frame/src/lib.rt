@@ -51,8 +51,8 @@ pub struct FrameSealed {
     pub length: usize,
 }
 
-// What opening says of a payload: nothing beside a refusal; that the frame was clear, so that nobody vouches for its payload;
-// or that it was sealed, so that CCM does.
+// The mark of an opened frame: none beside a refusal; clear, where nothing authenticates the payload; or sealed, where CCM
+// does.
 pub enum Mark {
     Unmarked,
     Clear,

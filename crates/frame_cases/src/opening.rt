@@ -21,12 +21,12 @@ use header::nwk::NwkHeader;
 use types::Key;
 use types::OptionEui64;
 
-// Whether word k of a line says a mark.
+// Whether word k of a line is a mark.
 fn is_mark(line: &[u8], k: usize) -> bool {
     words::is(line, k, b"-") || words::is(line, k, b"clear") || words::is(line, k, b"sealed")
 }
 
-// Whether word k of a line says this mark.
+// Whether word k of a line is this mark.
 fn says(line: &[u8], k: usize, mark: Mark) -> bool {
     match mark {
         Mark::Unmarked => words::is(line, k, b"-"),

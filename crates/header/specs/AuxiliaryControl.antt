@@ -65,7 +65,7 @@ securityFrom v =
 unfoldable pub securityByte : NwkSecurityHeaderControlField → ℕ
 securityByte c = packed securitySizes (securityValues c)
 
--- what a byte says
+-- the field of a byte
 unfoldable pub securityOf : ℕ → NwkSecurityHeaderControlField
 securityOf b = securityFrom (fields securitySizes b)
 

@@ -63,6 +63,6 @@ controlFrom v =
 unfoldable pub controlWord : NwkFrameControl → ℕ
 controlWord c = packed controlSizes (controlValues c)
 
--- what 16 bits say
+-- the field of 16 bits
 unfoldable pub controlOf : ℕ → NwkFrameControl
 controlOf w = controlFrom (fields controlSizes w)

@@ -34,7 +34,7 @@ badControl c = ltb 15 (c .«protocol_version») || ltb 3 (c .reserved1)
 unfoldable pub badHeader : NwkHeader → Bool
 badHeader h = badControl (h .«frame_control») || ltb 54 (relayCount (h .«source_route»))
 
--- what the fields are refused by: the first entry of every writer's list
+-- the refusal of the fields, the first entry of every writer's list
 unfoldable pub fieldRefusal : NwkHeader → ℕ
 fieldRefusal h = firstOf (on 13 (badHeader h) ∷ [])
 

@@ -116,7 +116,7 @@ impl NwkSecurityHeaderKeyId {
 }
 
 impl NwkSecurityHeaderControlField {
-    // What a byte says; its bit 7 is skipped.
+    // The field of a byte; its bit 7 is skipped.
     pub fn from_byte(b: u8) -> NwkSecurityHeaderControlField
         ensures { λ r. ⌜ r ≡ securityOf b ⌝ }
     {

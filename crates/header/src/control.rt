@@ -87,7 +87,7 @@ impl NwkRouteDiscovery {
 }
 
 impl NwkFrameControl {
-    // What 16 bits say, taken apart from the lowest.
+    // The field of 16 bits, lowest first.
     pub fn from_word(w: u16) -> NwkFrameControl
         ensures { λ r. ⌜ r ≡ controlOf w ⌝ }
     {

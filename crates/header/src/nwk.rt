@@ -251,7 +251,7 @@ impl NwkHeader {
         )
     }
 
-    // What the fields are refused by: 13 where one exceeds its bits or the relays exceed their places, else 0.
+    // The refusal of the fields: 13 where one exceeds its bits or the relays exceed their places, else 0.
     pub fn field_refusal(self) -> u8
         ensures { λ r. ⌜ r ≡ fieldRefusal self ⌝ }
     {

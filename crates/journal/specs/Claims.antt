@@ -25,8 +25,9 @@ abbrev pub AllBelow : ℕ → List ℕ → Type 0
 AllBelow c [] = Unit {0}
 AllBelow c (x ∷ xs) = (x < c) × AllBelow c xs
 
--- In every life, of any length and with any number of cuts, a counter handed out is larger than every one handed out before it. So none
--- is handed out twice, and none that was handed out before a cut is handed out again after it.
+-- In every life (Life.antt), of any length and with any number of cuts, a counter handed out is larger than every one handed out before
+-- it. So none is handed out twice, and none that was handed out before a cut is handed out again after it. The store keeps the complete
+-- records, each call is handed the last counter, and a shrunk journal takes the journal's place in one step and only with the mark.
 abbrev pub NoCounterTwice : Type 0
 NoCounterTwice = (es : List Event) (before behind : List ℕ) (c : ℕ) → life es .handed ≡ before ++ (c ∷ behind) → AllBelow c before
 
@@ -34,7 +35,7 @@ NoCounterTwice = (es : List Event) (before behind : List ℕ) (c : ℕ) → life
 abbrev pub EachCanBeSealed : Type 0
 EachCanBeSealed = (es : List Event) (before behind : List ℕ) (c : ℕ) → life es .handed ≡ before ++ (c ∷ behind) → (0 < c) × (c < lastCounter)
 
--- the next counter is one more than the last, and a complete ceiling record is no lower
+-- where it is not refused, the next counter is one more than the last, and a complete ceiling record is no lower
 abbrev pub OneMoreIfCovered : Type 0
 OneMoreIfCovered =
     (j : List ℕ) (last : ℕ) → nextCounter j last .refusal ≡ 0
@@ -48,7 +49,7 @@ Fits (JournalRecord.Ceiling c) = c < 2 ^ 32
 Fits (JournalRecord.Sender s c) = (s < 2 ^ 64) × (c < 2 ^ 32)
 Fits (JournalRecord.KeyNumber k) = k < 2 ^ 8
 
--- a whole record is applied: the larger ceiling, the sender's counter in its place, or the key number
+-- a whole record, its values in range, is applied: the larger ceiling, the sender's counter in its place, or the key number
 pub record WithRecord (j : List ℕ) (r : JournalRecord) (k : List ℕ) : Type 0 where
   pub state : stateOf k ≡ applied r (stateOf j)
   pub known : unknownKind k ≡ false
@@ -61,22 +62,22 @@ RecordIsApplied = (j : List ℕ) (r : JournalRecord) → Fits r → WithRecord j
 abbrev pub SameRecovery : List ℕ → List ℕ → Type 0
 SameRecovery j k = (l : List SenderRecord) → (recoverAnswer k (length l) ≡ recoverAnswer j (length l)) × (recoveredList k l ≡ recoveredList j l)
 
--- a part of one changes nothing
+-- a part of one changes nothing, where every kind of the journal is known
 abbrev pub PartChangesNothing : Type 0
 PartChangesNothing =
     (j : List ℕ) (r : JournalRecord) (n : ℕ) → unknownKind j ≡ false → n < length (recordBytes r) → SameRecovery j (completePart j ++ take n (recordBytes r))
 
 -- ---- 3: the complete records
 
--- just they recover to the same, and the length given is theirs
+-- where every kind is known, they alone recover to the same, and the length given is theirs
 abbrev pub CompleteRecordsRecover : Type 0
 CompleteRecordsRecover = (j : List ℕ) → unknownKind j ≡ false → SameRecovery j (completePart j) × (length (completePart j) ≡ completeLength j)
 
--- they are the records' bytes, end to end
+-- they are the records' bytes, end to end, where each byte is below 256
 abbrev pub CompletePartIsRecords : Type 0
 CompletePartIsRecords = (j : List ℕ) → Below 256 j → completePart j ≡ bytesOf (records j)
 
--- ---- 4: what the writer wrote reads back
+-- ---- 4: what the writer wrote reads back, where it did not refuse and the values are in range
 
 abbrev pub lengthOfKind : ℕ → ℕ → Type 0
 lengthOfKind kind n = ((kind ≡ 1) × (n ≡ 5)) ⊎ (((kind ≡ 2) × (n ≡ 13)) ⊎ ((kind ≡ 3) × (n ≡ 2)))
@@ -87,20 +88,20 @@ ReadsBack =
     writes j w .answer .refusal ≡ 0 → Fits r
     → (records (given (writes j w)) ≡ r ∷ []) × lengthOfKind (w .kind) (writes j w .answer .length)
 
--- ---- what recovery gives
+-- ---- what recovery gives; but for the first and the last claim, where it is not refused
 
 -- the ceiling is the largest: a counter is covered by a ceiling record exactly if it is no higher
 abbrev pub LargestCeiling : Type 0
 LargestCeiling = (j : List ℕ) (n : ℕ) → someCeiling (suc n) (records j) ≡ ltb n (stateOf j .ceiling)
 
--- none of the records is a key number's
+-- no record is a key number
 abbrev pub NoKeyNumber : List JournalRecord → Type 0
 NoKeyNumber [] = Unit {0}
 NoKeyNumber (JournalRecord.Ceiling c ∷ rs) = NoKeyNumber rs
 NoKeyNumber (JournalRecord.Sender s c ∷ rs) = NoKeyNumber rs
 NoKeyNumber (JournalRecord.KeyNumber k ∷ rs) = ⊥
 
--- the key number is that of the record behind which there is no other, or none if there is no record of one
+-- the key number is that of the last such record, or none if there is no such record
 abbrev pub LastKeyNumberOrNone : Type 0
 LastKeyNumberOrNone =
     (j : List ℕ) (places : ℕ) → recoverRefusal j places ≡ 0
@@ -145,13 +146,13 @@ LeftOverZeroed =
     (j : List ℕ) (l : List SenderRecord) (i : ℕ) (d : SenderRecord) → recoverRefusal j (length l) ≡ 0
     → length (appearing [] (records j)) ≤ i → i < counted (length l) → getD (recoveredList j l) i d ≡ freeRecord
 
--- it names each once
+-- the list names each sender once
 abbrev pub EachSenderOnce : Type 0
 EachSenderOnce =
     (j : List ℕ) (l : List SenderRecord) (s i k : ℕ) (d : SenderRecord) → recoverRefusal j (length l) ≡ 0 → i < countedPlaces → k < countedPlaces
     → i < length l → k < length l → names s (getD (recoveredList j l) i d) ≡ true → names s (getD (recoveredList j l) k d) ≡ true → i ≡ k
 
--- places past the 64th stay
+-- places past the 64th stay, refused or not
 abbrev pub PlacesBehindStay : Type 0
 PlacesBehindStay =
     (j : List ℕ) (l : List SenderRecord) (i : ℕ) (d : SenderRecord) → countedPlaces ≤ i → getD (recoveredList j l) i d ≡ getD l i d

@@ -95,7 +95,7 @@ recovered a g =
 abbrev pub storing : List ℕ → List ℕ → Bool → Gateway → Gateway
 storing j b m g = record { stored = j; beside = b; marked = m; last = g .last; handed = g .handed }
 
--- these bytes stand behind the complete records; what is beside counts no more
+-- these bytes stand behind the complete records, and the mark is cleared
 abbrev pub behind : List ℕ → Gateway → Gateway
 behind t g = storing (completePart (g .stored) ++ t) (g .beside) false g
 

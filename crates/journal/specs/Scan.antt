@@ -33,7 +33,7 @@ tableOf (suc n) [] cs = []
 tableOf (suc n) (a ∷ xs) [] = []
 tableOf (suc n) (a ∷ xs) (c ∷ cs) = recordOf a c ∷ tableOf n xs cs
 
--- with room for so many senders it holds those of the list, or its number says that they are more
+-- with room for so many senders it holds those of the list, or its number is one above the room
 abbrev pub Holds : ℕ → ℕ → List ℕ → List ℕ → List SenderRecord → Type 0
 Holds room n xs cs ss = (n ≡ cond (leb (length ss) room) (length ss) (suc room)) × (length ss ≤ room → tableOf n xs cs ≡ ss)
 

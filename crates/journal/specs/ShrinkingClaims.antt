@@ -1,5 +1,6 @@
--- What document 02, 7 promises of shrinking, each one claim over all journals and outputs, proved in `proofs/ShrinkingClaims.antt`. That no
--- counter is handed out twice is the claim of `Claims`: lives have shrinking and replacing among their events.
+-- What document 02, 7 promises of shrinking, each one claim over all journals and outputs, proved in `proofs/ShrinkingClaims.antt`. Unless
+-- its type leaves them out, a claim's premises are that shrinking is not refused and that each byte is below 256. That no counter is
+-- handed out twice is the claim of `Claims`: lives have shrinking and replacing among their events.
 -- Assumes nothing.
 use Prim.Native.Nat.{ℕ, _+_, _*_, _≤_}
 use mathlib.Core.Path.{_≡_}
@@ -33,8 +34,7 @@ RecoversTheSame =
     Below 256 j → shrink j o .answer .refusal ≡ 0
     → SameState j k l × (recoverRefusal j (length l) ≡ 0 → recoverAnswer k (length l) .complete ≡ length k)
 
--- and all else that a gateway asks of it is answered as before: the next counter behind any last one, and what the writer answers and
--- leaves for any record
+-- a gateway's other calls answer as before: the next counter behind any last one, and the writer with any record
 abbrev pub AnswersTheSame : Type 0
 AnswersTheSame =
     (j o : List ℕ) → let k = given (shrink j o) in Below 256 j → shrink j o .answer .refusal ≡ 0
@@ -82,7 +82,7 @@ abbrev pub SameStateSameBytes : Type 0
 SameStateSameBytes =
     (j k o : List ℕ) (l : List SenderRecord) → Below 256 j → Below 256 k → recoverRefusal j (length l) ≡ 0 → SameState j k l → shrink k o ≡ shrink j o
 
--- a shrunk journal shrinks to itself
+-- a shrunk journal shrinks to itself, into an output with room for it
 abbrev pub ShrunkTwice : Type 0
 ShrunkTwice =
     (j o p : List ℕ) → let k = given (shrink j o) in Below 256 j → shrink j o .answer .refusal ≡ 0 → length k ≤ length p → shrink k p ≡ wrote k p

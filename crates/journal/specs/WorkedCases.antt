@@ -166,7 +166,7 @@ counters =
 
 unfoldable pub shrinkings : List Case
 shrinkings =
-    -- an empty journal, and one that says only that the ceiling is 0: nothing
+    -- an empty journal, and one with a ceiling of 0 alone, shrink to nothing
     shrinksTo [] [] [] ∷ shrinksTo [] (0xEE ∷ []) [] ∷ shrinksTo (ceilingRecord 0) (0xEE ∷ []) []
     -- a key number alone, 0 too
     ∷ shrinksTo (3 ∷ 1 ∷ 3 ∷ 5 ∷ []) (replicate 3 0xEE) (3 ∷ 5 ∷ []) ∷ shrinksTo (3 ∷ 0 ∷ []) (replicate 2 0xEE) (3 ∷ 0 ∷ [])

@@ -82,7 +82,7 @@ pub fn whole_at(journal: &[u8], i: usize) -> usize
     body + 1
 }
 
-// The record at place i, whose body is all there.
+// The complete record at place i.
 pub fn record_at(journal: &[u8], i: usize) -> JournalRecord
     requires { ⌜ i + bodyLength (getD (now journal) i 0) < length (now journal) ⌝ }
     ensures { λ r. ⌜ r ≡ recordAt (now (journal .entry)) i ⌝ }

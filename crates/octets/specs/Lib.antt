@@ -1,4 +1,4 @@
--- Byte strings as lists of numbers, and what the crates above say with them.
+-- Byte strings as lists of numbers, and what the crates above share.
 pub mod Strings
 pub mod Numbers
 pub mod Fields

@@ -4,12 +4,12 @@ use Prim.Native.Nat.{ℕ, zero, suc}
 use mathlib.Core.Bool.{Bool, cond}
 use mathlib.Core.List.{List, [], _∷_}
 
--- by the refusal's number: what is answered where it is 0, or what is answered where it is not
+-- selects the answer by the refusal's number: the first where it is 0, else the second
 unfoldable pub unless : {A : Type 0} → ℕ → A → A → A
 unless zero accepted refused = accepted
 unless (suc n) accepted refused = refused
 
--- an entry of the list: a number with the condition it is given on, or the number that an operation before it gave
+-- an entry of the list: a number with its condition, or the number that an earlier operation gave
 pub data Condition : Type 0 where
   on : ℕ → Bool → Condition
   by : ℕ → Condition

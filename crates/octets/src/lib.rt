@@ -29,21 +29,21 @@ pub fn refuse(before: u8, number: u8, holds: bool) -> u8
     if holds { number } else { 0 }
 }
 
-// Whether both hold; each is looked at.
+// Whether both hold; both are evaluated.
 pub fn both(a: bool, b: bool) -> bool
     ensures { λ r. ⌜ r ≡ (a && b) ⌝ }
 {
     a & b
 }
 
-// Whether one of them holds; each is looked at.
+// Whether one of them holds; both are evaluated.
 pub fn either(a: bool, b: bool) -> bool
     ensures { λ r. ⌜ r ≡ (a || b) ⌝ }
 {
     a | b
 }
 
-// What is left of a number, 0 where more is taken away than there is.
+// The difference of two numbers, or 0 where it would be negative.
 pub fn minus(a: usize, b: usize) -> usize
     ensures { λ r. ⌜ r ≡ a - b ⌝ }
 {

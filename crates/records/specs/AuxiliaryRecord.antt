@@ -56,7 +56,7 @@ auxOf r =
 abbrev pub auxPresent : List ℕ → Bool
 auxPresent r = eqb (getD r 0 0) 1
 
--- ---- what a record cannot say (refusal 13)
+-- ---- records that encode nothing (refusal 13)
 
 -- the greatest value of each byte from 0 to 9
 abbrev pub auxLimits : List ℕ

@@ -58,7 +58,7 @@ headerOf r =
       relays = relaysFrom r 39;
     }
 
--- ---- what a record cannot say (refusal 13)
+-- ---- records that encode nothing (refusal 13)
 
 -- the greatest value of each byte from 0 to 36
 abbrev pub headerLimits : List ℕ

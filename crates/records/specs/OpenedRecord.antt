@@ -1,6 +1,6 @@
 -- The opened record, 182 bytes: 0 refusal, 1 mark, 2 length, 4 count of blocks, 5 presence of the nonce's address, 6 that
--- address, 14 two bytes, 16 the header record, 163 the auxiliary record. The count and the two bytes are 0: there is room for
--- what an answer may say besides. Here too is the record of an auxiliary header or none.
+-- address, 14 two bytes, 16 the header record, 163 the auxiliary record. The count and the two bytes are 0, kept for what later
+-- requests add. Here too is the record of an auxiliary header or none.
 -- Assumes nothing.
 use Prim.Native.Nat.{ℕ}
 use mathlib.Core.Bool.{cond, not}
@@ -16,7 +16,7 @@ use Rattle.records.specs.Optional.{ieeeRecord, ieeeIn}
 use Rattle.records.specs.HeaderRecord.{headerRecord, headerOf}
 use Rattle.records.specs.AuxiliaryRecord.{auxRecord, auxOf, auxPresent}
 
--- the record of an auxiliary header or none, and what a record says
+-- the record of an auxiliary header or none, and the one that a record encodes
 unfoldable pub optionRecord : OptionAuxHeader → List ℕ
 optionRecord o = auxRecord (not (security.isAbsent o)) (security.orBlank o)
 
@@ -26,7 +26,7 @@ optionOf r = auxIf (auxPresent r) (auxOf r)
 abbrev pub openedRecordSize : ℕ
 openedRecordSize = 182
 
--- the number of each mark, and the mark that a number says
+-- the number of each mark, and the mark of a number
 abbrev pub markCode : Mark → ℕ
 markCode Mark.Unmarked = 0
 markCode Mark.Clear = 1
@@ -43,7 +43,7 @@ unfoldable pub openedRecord : FrameOpened → List ℕ
 openedRecord o =
     openedFront (o .refusal) (markCode (o .mark)) (o .length) (o .«nonce_ieee») ++ (headerRecord (o .header) ++ optionRecord (o .aux))
 
--- the answer that a record says
+-- the answer that a record encodes
 unfoldable pub openedOf : List ℕ → FrameOpened
 openedOf r =
     record {

@@ -75,7 +75,7 @@ pub fn put_aux(out: &mut [u8], present: bool, a: NwkAuxHeader)
     put_counter(out, a.frame_counter, extended_source, a.key_sequence_number);
 }
 
-// The security control that a record says.
+// The security control that a record encodes.
 fn security_of(bytes: &[u8]) -> NwkSecurityHeaderControlField
     ensures { λ r. ⌜ r ≡ securityAt (now (bytes .entry)) ⌝ }
 {
@@ -94,7 +94,7 @@ pub fn is_present(bytes: &[u8]) -> bool
     octets::byte_at(bytes, 0) == 1
 }
 
-// The auxiliary header that a record says; bytes past its end count 0.
+// The auxiliary header that a record encodes; bytes past its end count 0.
 pub fn aux_of(bytes: &[u8]) -> NwkAuxHeader
     ensures { λ r. ⌜ r ≡ auxOf (now (bytes .entry)) ⌝ }
 {

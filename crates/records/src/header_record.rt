@@ -180,7 +180,7 @@ pub fn put_header(out: &mut [u8], h: NwkHeader)
 
 // ---- the header of a record
 
-// The frame control that the first ten bytes say.
+// The frame control that the first ten bytes encode.
 fn control_of(bytes: &[u8]) -> NwkFrameControl
     ensures { λ r. ⌜ r ≡ controlFrom (now (bytes .entry)) ⌝ }
 {
@@ -211,7 +211,7 @@ fn relays_of(bytes: &[u8]) -> [Nwk; 54]
     relays
 }
 
-// The header that a record says; bytes past its end count 0.
+// The header that a record encodes; bytes past its end count 0.
 pub fn header_of(bytes: &[u8]) -> NwkHeader
     ensures { λ r. ⌜ r ≡ headerOf (now (bytes .entry)) ⌝ }
 {

@@ -1,5 +1,5 @@
-// The opened record, 182 bytes: what opening a frame answers. Later answers find their place in the zeros before the
-// header record.
+// The opened record, 182 bytes: what opening a frame answers. The zeros before the header record are kept for what later
+// requests add.
 use crate::auxiliary_record;
 use crate::header_record;
 use crate::optional;
@@ -36,7 +36,7 @@ fn is_present(aux: OptionAuxHeader) -> bool
     }
 }
 
-// The auxiliary header or none that an auxiliary record says.
+// The auxiliary header or none that an auxiliary record encodes.
 pub fn option_of(bytes: &[u8]) -> OptionAuxHeader
     ensures { λ r. ⌜ r ≡ optionOf (now (bytes .entry)) ⌝ }
 {

@@ -1,4 +1,4 @@
--- What document 02, 5 promises of the inbound counters, each one claim over all lists, senders and counters. They are proved in
+-- What document 02, 5 promises of the inbound counters, each one claim over all lists, senders and counters, proved in
 -- `proofs/Claims.antt`.
 -- Assumes nothing.
 use Prim.Native.Nat.{ℕ, _≤_, _<_}
@@ -14,7 +14,8 @@ use Rattle.senders.specs.Senders.{countedPlaces, stored, knows, hasFree,
 
 -- ---- asking: 22, then 23, and else the active key
 
--- what is asked with another key sequence number is 22; with the active one, 23 for the last counter and for one up to the stored
+-- asking with another key sequence number than the active one answers 22; with the active one 23 for the last counter, and for one
+-- that is not above the stored one
 abbrev pub RefusedByNumber : Type 0
 RefusedByNumber =
     (key : Key) (active s k c : ℕ) (l : List SenderRecord)
@@ -31,14 +32,14 @@ ElseTheActiveKey =
 
 -- ---- which place
 
--- where none of the records before it names s, the record r that does counts: it is compared with and noted over
+-- the first record r that names s, within the first 64 places, counts: its counter is compared, and noting overwrites it
 abbrev pub FirstRecordCounts : Type 0
 FirstRecordCounts =
     (s c : ℕ) (before behind : List SenderRecord) (r : SenderRecord) → length before < countedPlaces → knows s before ≡ false → names s r ≡ true
     → (stored s (before ++ (r ∷ behind)) ≡ OptionCounter.Present (r .counter))
     × (note s c (before ++ (r ∷ behind)) .list ≡ before ++ (recordOf s c ∷ behind))
 
--- a new sender takes the free place r before which none is free
+-- a sender that no record names takes the first free place r, within the first 64, and has no earlier counter
 abbrev pub FirstFreePlace : Type 0
 FirstFreePlace =
     (s c : ℕ) (before behind : List SenderRecord) (r : SenderRecord) → length before < countedPlaces → hasFree before ≡ false → isFree r ≡ true
@@ -67,7 +68,7 @@ abbrev pub ForgettingChangesOnlyTheSender : Type 0
 ForgettingChangesOnlyTheSender =
     (s : ℕ) (l : List SenderRecord) → OnlyAt s l (forget s l) × OthersAsBefore s l (forget s l)
 
--- noting that is accepted puts one record in one counted place, the sender's before or, where it had none, a free one
+-- noting that is not refused writes one counted place: the sender's own or, where it has none, a free one
 abbrev pub NotingTakesOnePlace : Type 0
 NotingTakesOnePlace =
     (s c : ℕ) (l : List SenderRecord) → note s c l .answer .refusal ≡ 0
@@ -77,7 +78,8 @@ NotingTakesOnePlace =
 
 -- ---- 2: after noting c
 
--- every counter up to c is refused by 23; every one above it but the last gives the key; noting again gives c
+-- where noting was not refused: every counter up to c is refused by 23, every one above it but the last gives the key, and noting
+-- again gives c
 abbrev pub AfterNoting : Type 0
 AfterNoting =
     (key : Key) (active s c x : ℕ) (l : List SenderRecord) → note s c l .answer .refusal ≡ 0

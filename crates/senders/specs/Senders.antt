@@ -1,6 +1,6 @@
 -- The inbound counters (document 02, 5; Zigbee Specification 4.3.1.2): `inbound_network_key` and `note_inbound_frame_counter`
--- of security.rs over a list of sender records, and forgetting a sender. The first 64 places of a list count. What goes along a
--- list has as a budget how many places still count, so that it stops before the others.
+-- of security.rs over a list of sender records, and forgetting a sender. The first 64 places of a list count: a
+-- recursion along a list carries how many places still count, and stops there.
 -- Assumes nothing.
 use Prim.Native.Nat.{ℕ, zero, suc}
 use mathlib.Core.Bool.{Bool, true, false, cond, not, _&&_, _||_}

@@ -76,7 +76,7 @@ behind64 r = replicate 64 (recordOf other 7) ++ (r ∷ [])
 
 unfoldable pub worked : List Case
 worked =
-    -- the last counter is refused of everybody, but a wrong key number first
+    -- the last counter is refused for every sender, behind a wrong key number
     refuses [] probe active 0xFFFFFFFF 23
     ∷ refuses [] probe 4 0xFFFFFFFF 22
     ∷ gives [] probe active 0xFFFFFFFE
@@ -95,7 +95,7 @@ worked =
     -- address 0 with the mark is a sender
     ∷ refuses (recordOf 0 7 ∷ []) 0 active 7 23
     ∷ notes (recordOf 0 7 ∷ []) 0 8 (OptionCounter.Present 7) (recordOf 0 8 ∷ [])
-    -- without it no address is: all zeros, or one left over
+    -- without the mark no address is one: all zeros, or one left over
     ∷ gives (freeRecord ∷ []) 0 active 0
     ∷ gives (marked 0 ∷ []) probe active 0
     ∷ notes (marked 0 ∷ []) probe 5 OptionCounter.Absent (recordOf probe 5 ∷ [])
@@ -105,7 +105,7 @@ worked =
     ∷ gives twice probe active 1001
     ∷ notes twice probe 1500 (OptionCounter.Present 1000) (recordOf probe 1500 ∷ recordOf probe 2000 ∷ [])
     ∷ forgets twice probe (freeRecord ∷ freeRecord ∷ [])
-    -- a sender's own record before a free place that stands before it
+    -- a known sender keeps its record, though a free place stands before it
     ∷ notes (freeRecord ∷ once) probe 1001 (OptionCounter.Present 1000) (freeRecord ∷ recordOf probe 1001 ∷ [])
     -- any mark but 0 counts, and noting writes 1
     ∷ refuses (marked 255 ∷ []) probe active 1000 23
