@@ -87,6 +87,7 @@ fn the_codec_alone_is_installed() {
         assert!(installed.status.success(), "{}", text(&installed));
         let at = |path: &str| staging.join(path.trim_start_matches('/'));
         assert!(at(&format!("{libdir}/libnwk.a")).is_file() && at("/opt/nwk/include/nwk.h").is_file());
+        assert!(at("/opt/nwk/include/nwk_null.h").is_file(), "nwk.h includes it");
         let pc = fs::read_to_string(at(&format!("{libdir}/pkgconfig/nwk.pc"))).expect("nwk.pc");
         assert!(pc.contains("prefix=/opt/nwk\n") && pc.contains(in_file), "{pc}");
         assert!(!at("/opt/nwk/bin").exists(), "the command is installed too");
