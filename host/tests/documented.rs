@@ -133,11 +133,15 @@ fn ciphertext_with_mic_has_at_least_4_bytes() {
 /// Ciphertext of 3: 16; of 4: the MIC alone, and the ciphertext in front of it is empty. There is no upper limit.
 #[test]
 fn the_mic_is_split_off() {
-    let split = |n: usize| asked(Operation::SplitMic, [0; 16], vec![(0..n).map(|i| i as u8).collect()], vec![4]);
-    assert_eq!((split(3).answer, &split(3).outputs[0]), (16 << 32, &vec![FILL; 4]));
-    assert_eq!((split(4).answer, &split(4).outputs[0]), (0, &vec![0, 1, 2, 3]));
-    assert_eq!((split(6).answer, &split(6).outputs[0]), (2, &vec![2, 3, 4, 5]));
-    assert_eq!(split(70_000).answer, 69_996);
+    let split = |n: usize| {
+        let outcome = asked(Operation::SplitMic, [0; 16], vec![(0..n).map(|i| i as u8).collect()], vec![4, 8]);
+        (outcome.answer, outcome.outputs[0].clone(), outcome.outputs[1].clone())
+    };
+    let front = |n: u64| n.to_le_bytes().to_vec();
+    assert_eq!(split(3), (16 << 32, vec![FILL; 4], vec![FILL; 8]));
+    assert_eq!(split(4), (4, vec![0, 1, 2, 3], front(0)));
+    assert_eq!(split(6), (4, vec![2, 3, 4, 5], front(2)));
+    assert_eq!(split(70_000).2, front(69_996));
 }
 
 /// A record without an auxiliary header has no field: sealing is refused by 14 whatever its other bytes are, and by 13 only

@@ -11,7 +11,8 @@ use support::calls::{lengths_of, perform, Call, Outcome};
 use support::generate;
 use support::model::{MAX_FRAME, MAX_PAYLOAD};
 use support::operations::{
-    Operation, AUXILIARY_RECORD, COMMAND_RECORD, HEADER_RECORD, MIC, OPENED_HEADER, OPENED_NONCE_IEEE, OPENED_RECORD,
+    Operation, AUXILIARY_RECORD, COMMAND_RECORD, HEADER_RECORD, MIC, NUMBER, OPENED_HEADER, OPENED_NONCE_IEEE,
+    OPENED_RECORD,
 };
 use support::random::Random;
 
@@ -384,11 +385,11 @@ fn ccm_and_blocks() {
         assert_eq!(out, sealed.outputs[0]);
         let one = raw(Operation::EncryptBlock, key, &[&block], &[16]);
         assert_eq!(encrypt_block(&Key::new(key), &block)[..], one.outputs[0]);
-        let split = raw(Operation::SplitMic, key, &[&payload], &[MIC]);
+        let split = raw(Operation::SplitMic, key, &[&payload], &[MIC, NUMBER]);
         match split_mic(&payload) {
             Ok((ciphertext, mic)) => {
-                assert_eq!((split.refusal(), ciphertext), (0, &payload[..split.length()]));
-                assert_eq!(mic[..], split.outputs[0]);
+                assert_eq!((split.refusal(), ciphertext), (0, &payload[..n - MIC]));
+                assert_eq!((&mic[..], &(n - MIC).to_le_bytes()[..]), (&split.outputs[0][..], &split.outputs[1][..]));
             }
             Err(refusal) => assert_eq!((refusal.number(), n < MIC), (split.refusal(), true)),
         }

@@ -137,7 +137,7 @@ fn kind(call: &Call, outcome: &Outcome) -> usize {
         WriteCommand => usize::from(inputs[0][0]),
         PayloadKind | TimeoutSeconds => usize::from(inputs[0][0]),
         EncryptCcm | DecryptCcm => usize::from(inputs[1].is_empty()) + 2 * usize::from(inputs[2].is_empty()),
-        SplitMic => usize::from(outcome.length() == 0),
+        SplitMic => usize::from(outputs[1].iter().all(|&byte| byte == 0)),
         EncryptBlock => 0,
     }
 }
