@@ -53,7 +53,7 @@ fn source_licence_and_processor_are_named() {
     assert!(read("host/build.rs").contains("compiled for x86_64 Linux"));
 }
 
-/// Each fact has one home: README has at most 10 kB, and it, CONTRIBUTING, the pages of `docs/` and the headers at most 120 kB together.
+/// Each fact has one home: README has at most 10 kB, and it, CONTRIBUTING, the pages of `docs/` and the headers at most 130 kB together.
 #[test]
 fn the_papers_are_short() {
     assert!(read("README.md").len() <= 10_000, "README.md has {} bytes", read("README.md").len());
@@ -68,5 +68,5 @@ fn the_papers_are_short() {
         }
     }
     let all: usize = sizes.iter().map(|(_, size)| size).sum();
-    assert!(all <= 120_000, "{all} bytes: {sizes:?}");
+    assert!(all <= 130_000, "{all} bytes: {sizes:?}");
 }

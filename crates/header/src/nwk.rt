@@ -120,15 +120,20 @@ fn optional_refusal(before: u8, f: &[u8], c: NwkFrameControl) -> u8
     octets::refuse(r, refusals::SOURCE_ROUTE, n < header_end(f, c))
 }
 
-// The first of the refusals 1 to 8 that holds, or 0.
+// The first of the refusals 1 to 8 that holds, or 0. The lengths are looked at first by themselves: behind them no read of a fixed
+// field needs to test its place again.
 fn header_refusal(f: &[u8]) -> u8
     ensures { λ r. ⌜ r ≡ headerRefusal (now (f .entry)) ⌝ }
 {
     let n = f.len();
+    if MAX_MAC_PAYLOAD_SIZE < n {
+        return refusals::TOO_LONG;
+    }
+    if n < MIN_HEADER_OVERHEAD {
+        return refusals::SHORT_HEADER;
+    }
     let w = octets::read_u16(f, 0);
-    let r = octets::refuse(0, refusals::TOO_LONG, MAX_MAC_PAYLOAD_SIZE < n);
-    let r = octets::refuse(r, refusals::SHORT_HEADER, n < MIN_HEADER_OVERHEAD);
-    let r = octets::refuse(r, refusals::FRAME_TYPE, w % 4 == 2);
+    let r = octets::refuse(0, refusals::FRAME_TYPE, w % 4 == 2);
     let r = octets::refuse(r, refusals::DISCOVERY, w / 64 % 4 == 3);
     optional_refusal(r, f, NwkFrameControl::from_word(w))
 }
