@@ -88,6 +88,11 @@ static bool split_mic(void *input) {
   return NWK_REFUSAL(nwk_split_mic(m->sealed, m->length + MIC_LENGTH, m->out, &front)) == 0 && front == m->length;
 }
 
+static bool payload_place(void *input) {
+  struct message *m = input;
+  return NWK_REFUSAL(nwk_payload_place(NWK_MARK_CLEAR, m->length, m->length)) == 0;
+}
+
 static bool payload_kind(void *input) {
   struct message *m = input;
   return NWK_REFUSAL(nwk_payload_kind((uint8_t)m->length)) == 0;
@@ -210,6 +215,7 @@ void print_stack_use(void) {
       {"nwk_write_journal_record", over_journals, write_journal_record},
       {"nwk_next_counter", over_journals, next_counter},
       {"nwk_shrink_journal", over_journals, shrink_journal},
+      {"nwk_payload_place", over_messages, payload_place},
       {"nwk_payload_kind", over_messages, payload_kind},
       {"nwk_read_command", over_commands, read_command},
       {"nwk_write_command", over_commands, write_command},

@@ -35,7 +35,7 @@ extern "C" {
 #define NWK_LENGTH(answer) NWK_CAST(uint32_t, (answer) & 0xFFFFFFFFu)
 #define NWK_REFUSAL(answer) NWK_CAST(uint8_t, (answer) >> 32 & 0xFFu)
 
-/* nwk_open: 1 if the frame was clear, 0 if it was sealed. nwk_payload_place: 1 if the payload is in the frame, 0 if in out. */
+/* nwk_open: 1 if the frame was clear, 0 if it was sealed. */
 #define NWK_CLEAR(answer) NWK_CAST(uint8_t, (answer) >> 40 & 1u)
 
 /* nwk_payload_place: the place of the payload's first byte. */
@@ -249,8 +249,7 @@ uint64_t nwk_open_burst(uint64_t key_first, uint64_t key_second, const uint8_t *
 
 /* Where the payload is that nwk_open, or nwk_open_burst, spoke of: by the mark in the opened record, the payload's length and the
  * frame's. Length: the payload's bytes, 0 for NWK_MARK_NONE. NWK_CLEAR(answer) is 1 if they are in the frame, from
- * NWK_FIRST(answer) on, and 0 if they are at the front of out. nwk_payload makes an address of it. Refusals: 1 a payload or a frame
- * over 118; 13 a mark above 2. */
+ * NWK_FIRST(answer) on, and 0 if they are at the front of out. Refusals: 1 a payload or a frame over 118; 13 a mark above 2. */
 uint64_t nwk_payload_place(uint8_t mark, uint64_t length, uint64_t frame_length);
 
 #define NWK_PAYLOAD_OPAQUE 0
