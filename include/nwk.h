@@ -221,9 +221,10 @@ uint64_t nwk_write_frame(const uint8_t *header, size_t header_len, const uint8_t
 
 /* Seal a frame to out. Length: the frame's bytes. Bits are sent as the records have them, so for a frame that opens again set
  * NWK_HEADER_SECURITY_BIT, the multicast, source route and IEEE bits (3, 5, 6, 7) exactly where their fields are present, and
- * NWK_AUXILIARY_EXTENDED_NONCE_BIT exactly where the auxiliary IEEE is. The level does not matter: 5 is authenticated and 0 is sent. Refusals: 13 a record; 14 the
- * auxiliary record's presence byte is 0; 15 neither record has an IEEE for the nonce (the auxiliary one, else the header's source);
- * 21 the counter is FFFFFFFF, which receivers throw away; 17 a payload over 108 or a frame over 118; 18 out shorter. */
+ * NWK_AUXILIARY_EXTENDED_NONCE_BIT where the auxiliary IEEE is. The level does not matter: 5 is authenticated and 0 is sent.
+ * Refusals: 13 a record; 14 the auxiliary record's presence byte is 0; 15 neither record has an IEEE for the nonce (the auxiliary one,
+ * else the header's source); 21 the counter is FFFFFFFF, which receivers throw away; 17 a payload over 108 or a frame over 118; 18 out
+ * shorter. */
 uint64_t nwk_seal(uint64_t key_first, uint64_t key_second, const uint8_t *header, size_t header_len, const uint8_t *auxiliary,
     size_t auxiliary_len, const uint8_t *payload, size_t payload_len, uint8_t *out, size_t out_len);
 
