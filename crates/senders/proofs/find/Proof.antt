@@ -129,7 +129,8 @@ module _ {M : Type 1} (𝓤 : URA M) (H : Heap 𝓤) (A : Atoms 𝓤) (W : Given
 
     module _ (l₀ l₁ l₂ l₃ l₄ l₅ l₆ l₇ l₈ l₉ l₁₀ : ℕ) where
       abbrev En : Env 𝓤 H
-      En = (state, l₀) ∷ (slice, l₁) ∷ (word, l₂) ∷ (word, l₃) ∷ (state, l₄) ∷ (word, l₅) ∷ (word, l₆) ∷ (tyBool, l₇) ∷ (word, l₈) ∷ (tyPtr, l₉) ∷ (entry, l₁₀) ∷ []
+      En = (state, l₀) ∷ (slice, l₁) ∷ (word, l₂) ∷ (word, l₃) ∷ (state, l₄) ∷ (word, l₅) ∷ (word, l₆)
+          ∷ (tyBool, l₇) ∷ (word, l₈) ∷ (tyPtr, l₉) ∷ (entry, l₁₀) ∷ []
 
       -- what no turn touches: the parameters' locals, the result's, and the open borrow
       abbrev Frame : List (Item 𝓤)

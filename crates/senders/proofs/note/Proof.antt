@@ -152,8 +152,8 @@ module _ {M : Type 1} (𝓤 : URA M) (H : Heap 𝓤) (A : Atoms 𝓤) (W : Given
 
     module _ (l₀ l₁ l₂ l₃ l₄ l₅ l₆ l₇ l₈ l₉ l₁₀ l₁₁ : ℕ) (is : Is F.the-row f (F′.lowered f ∷ [])) where
       abbrev En : Env 𝓤 H
-      En = (result, l₀) ∷ (slice, l₁) ∷ (word, l₂) ∷ (short, l₃) ∷ (state, l₄) ∷ (word, l₅) ∷ (reference, l₆) ∷ (lending, l₇) ∷ (tyBool, l₈) ∷ (entry, l₉) ∷ (word, l₁₀)
-          ∷ (tyPtr, l₁₁) ∷ []
+      En = (result, l₀) ∷ (slice, l₁) ∷ (word, l₂) ∷ (short, l₃) ∷ (state, l₄) ∷ (word, l₅) ∷ (reference, l₆) ∷ (lending, l₇) ∷ (tyBool, l₈)
+          ∷ (entry, l₉) ∷ (word, l₁₀) ∷ (tyPtr, l₁₁) ∷ []
 
       -- where the list is zs and `find` has answered
       abbrev At : List SenderRecord → List (Item 𝓤)
@@ -247,7 +247,8 @@ module _ {M : Type 1} (𝓤 : URA M) (H : Heap 𝓤) (A : Atoms 𝓤) (W : Given
         move ! (1 ∷ []) $ lft-end ! tt $ move ! (2 ∷ 1 ∷ []) $ join ! $ move ! (1 ∷ 0 ∷ []) $
         use2 W (later (‵ (Arr (memory T.the-row) (length xs) .lies xs b o))) (slice-back 𝓤 H A W T.the-row (α ∷ []) δ xs (length xs) b o) $ await ! tt $
         fsplit ! $ drop ! $ use1 W (‵ (row T.the-row fullShare xs b o)) (whole-out 𝓤 H A W T.the-row xs b o) $ forget ! 17 refl $ forget ! 15 refl $
-        keep ! (0 ∷ 21 ∷ 19 ∷ 13 ∷ 11 ∷ 9 ∷ 7 ∷ 27 ∷ 25 ∷ 23 ∷ 29 ∷ 17 ∷ 15 ∷ 1 ∷ 2 ∷ 3 ∷ 30 ∷ 28 ∷ 26 ∷ 24 ∷ 22 ∷ 20 ∷ 18 ∷ 16 ∷ 14 ∷ 12 ∷ 10 ∷ 8 ∷ []) $
+        keep ! (0 ∷ 21 ∷ 19 ∷ 13 ∷ 11 ∷ 9 ∷ 7 ∷ 27 ∷ 25 ∷ 23 ∷ 29 ∷ 17 ∷ 15
+        ∷ 1 ∷ 2 ∷ 3 ∷ 30 ∷ 28 ∷ 26 ∷ 24 ∷ 22 ∷ 20 ∷ 18 ∷ 16 ∷ 14 ∷ 12 ∷ 10 ∷ 8 ∷ []) $
         by ! (stores l₀ l₁ l₂ l₃ l₄ l₅ l₆ l₇ l₈ l₉ l₁₀ l₁₁ (found-told f v isf))))))))))))))))))
 
 module _ {M : Type 1} (𝓤 : URA M) (H : Heap 𝓤) (A : Atoms 𝓤) (W : Given 𝓤 H A) (mem : Memory → SProp 𝓤) (run : Routine → Fun 𝓤) (𝓣 : Tables 𝓤 H)
@@ -275,5 +276,6 @@ note-spec 𝓤 H 𝓜 𝓖 𝓡 =
     (tables 𝓤 H 𝓜 𝓡 code.env .C) (tables 𝓤 H 𝓜 𝓡 code.env .Λ) #senders·note code.function (code.unfolded 𝓤 H 𝓜 𝓡)
     (note-meets 𝓤 H (𝓖 .A) (givenOf 𝓤 H 𝓜 𝓖) (𝓜 .mem) (𝓡 .run) (tablesOf 𝓤 H 𝓜 (tables 𝓤 H 𝓜 𝓡 code.env))
     (cited 𝓤 H (Find 𝓤 H (𝓖 .A) (𝓜 .mem) (𝓡 .run)) 𝓜 𝓡 code.env #senders·find find-def.routine code.calls-senders·find (find-thm.met 𝓤 H 𝓜 𝓖 𝓡))
-    (cited 𝓤 H (RecordOf 𝓤 H (𝓖 .A) (𝓜 .mem) (𝓡 .run)) 𝓜 𝓡 code.env #senders·record-of record-of-def.routine code.calls-senders·record-of (record-of-thm.met 𝓤 H 𝓜 𝓖 𝓡))
+    (cited 𝓤 H (RecordOf 𝓤 H (𝓖 .A) (𝓜 .mem) (𝓡 .run)) 𝓜 𝓡 code.env #senders·record-of record-of-def.routine code.calls-senders·record-of
+    (record-of-thm.met 𝓤 H 𝓜 𝓖 𝓡))
     (cited 𝓤 H (NotedBy 𝓤 H (𝓖 .A) (𝓜 .mem) (𝓡 .run)) 𝓜 𝓡 code.env #senders·noted-by noted-by-def.routine code.calls-senders·noted-by (noted-by-thm.met 𝓤 H 𝓜 𝓖 𝓡)))
