@@ -4,11 +4,11 @@ mod support;
 
 use std::fs;
 use std::io::{BufRead, BufReader, Read, Write};
-use std::process::{Child, ChildStdin, Command, Stdio};
+use std::process::{Child, ChildStdin};
 use std::sync::mpsc::{channel, Receiver};
 use std::time::{Duration, Instant};
 use support::air::{Air, Device, Fate};
-use support::command::{root, run, tool, KEY};
+use support::command::{root, run, start, tool, KEY};
 
 /// How long a line may take that is to come at once.
 const SOON: Duration = Duration::from_secs(20);
@@ -22,15 +22,7 @@ struct Live {
 
 impl Live {
     fn new(options: &[&str]) -> Self {
-        let mut child = Command::new(env!("CARGO_BIN_EXE_store-reader"))
-            .args(["open", "--key", KEY])
-            .args(options)
-            .current_dir(root())
-            .stdin(Stdio::piped())
-            .stdout(Stdio::piped())
-            .stderr(Stdio::piped())
-            .spawn()
-            .expect("the command starts");
+        let mut child = start(&[&["open", "--key", KEY], options].concat());
         let (sender, lines) = channel();
         let out = BufReader::new(child.stdout.take().expect("standard output"));
         std::thread::spawn(move || out.lines().map_while(Result::ok).try_for_each(|line| sender.send(line)));

@@ -2,7 +2,7 @@
 use std::collections::BTreeSet;
 use std::io::Write;
 use std::path::PathBuf;
-use std::process::{Command, Output, Stdio};
+use std::process::{Child, Command, Output, Stdio};
 use std::sync::Mutex;
 
 /// The sample's key.
@@ -24,17 +24,22 @@ pub fn scratch(name: &str) -> PathBuf {
     PathBuf::from(env!("CARGO_TARGET_TMPDIR")).join(name)
 }
 
-/// Runs the command from the repository's root with this standard input.
-pub fn run(arguments: &[&str], input: &[u8]) -> Ran {
+/// Starts the command from the repository's root, its input and outputs in pipes.
+pub fn start(arguments: &[&str]) -> Child {
     // Without the feature std there is no command, and no test that runs it.
-    let mut child = Command::new(option_env!("CARGO_BIN_EXE_store-reader").unwrap_or("store-reader"))
+    Command::new(option_env!("CARGO_BIN_EXE_store-reader").unwrap_or("store-reader"))
         .args(arguments)
         .current_dir(root())
         .stdin(Stdio::piped())
         .stdout(Stdio::piped())
         .stderr(Stdio::piped())
         .spawn()
-        .expect("the command starts");
+        .expect("the command starts")
+}
+
+/// Runs the command from the repository's root with this standard input.
+pub fn run(arguments: &[&str], input: &[u8]) -> Ran {
+    let mut child = start(arguments);
     let mut stdin = child.stdin.take().expect("standard input");
     let input = input.to_vec();
     // A command that refuses its arguments does not read its input.
