@@ -10,19 +10,19 @@ use lib.ListN.{length}
 use lib.Dec.{ltb}
 use borrow.Author.Tests.{ltb-false, le-ltb, not-false}
 use Rattle.octets.specs.Refusals.{firstOf}
-use Rattle.octets.specs.Writing.{written}
 use Rattle.octets.proofs.Strings.{take-over}
-use Rattle.octets.proofs.Writing.{write-accepted}
 use Rattle.octets.proofs.Conditions.{accepted, refused, accepted-by, refused-by, answer-number, unless-either, none, none-refuse, or-false}
 use Rattle.types.specs.declared.OptionEui64.{OptionEui64}
 use Rattle.types.specs.Optional.{hasIeee}
 use Rattle.header.specs.declared.{auxiliary.NwkSecurityLevel.NwkSecurityLevel, auxiliary.AuxRead.AuxRead, nwk.HeaderRead.HeaderRead, nwk.NwkHeader.NwkHeader}
-use Rattle.header.specs.Writing.{headerBytes, badHeader, fieldRefusal}
+use Rattle.header.specs.Writing.{headerBytes}
+use Rattle.header.specs.Same.{AuxAgrees, auxAgrees}
+use Rattle.header.proofs.Writable.{FieldsGood, fields-good, fields-accepted, aux-test}
 use Rattle.ccm.specs.Verification.{Verified}
 use Rattle.frame.specs.declared.{OptionAuxHeader.OptionAuxHeader, FrameRead.FrameRead, Mark.Mark}
 use Rattle.frame.specs.Reading.{secured, frameRefusal, frameRefused, frameGiven, frameNumber, frameBy}
 use Rattle.frame.specs.Security.{isAbsent, orBlank, ieeeOf, nonceIeee, noIeee}
-use Rattle.frame.specs.Writing.{lengthRefusals, frameWriteRefusal, frameWritten}
+use Rattle.frame.specs.Writing.{lengthRefusals, frameWriteRefusal}
 use Rattle.frame.specs.Sealing as sealing
 use Rattle.frame.specs.Sealing.{sealedLength, headersRefusal, sealRefusals, sealGiven, sealRefused, sealNothing, sealBy}
 use Rattle.frame.specs.SealingLaw.{bytesWritten}
@@ -31,23 +31,19 @@ use Rattle.frame.specs.Opening.{isSealed, behind, verified, openRefusals
 
 -- ---- writing
 
--- the bytes of a writer that was not refused
-pub bytes-written : (n : ℕ) (bs o : List ℕ) → n ≡ 0 → frameWritten (written n bs o) ≡ bs
-bytes-written n bs o e = ap frameWritten (sym (write-accepted n n bs o refl e)) ∙ take-over o bs
-
 pub record ClearWritable (h : NwkHeader) (n room : ℕ) : Type 0 where
-  pub good : badHeader h ≡ false
+  pub fields : FieldsGood h
   pub payload : n ≤ 108
   pub whole : length (headerBytes h) + n ≤ 118
   pub fits : length (headerBytes h) + n ≤ room
 
 pub clear-writable : (h : NwkHeader) (n room : ℕ) → frameWriteRefusal h n room ≡ 0 → ClearWritable h n room
-unfolding frameWriteRefusal lengthRefusals fieldRefusal
+unfolding frameWriteRefusal lengthRefusals
 clear-writable h p room e =
     let n = none _ e in
     let long = or-false (ltb 108 p) (ltb 118 (length (headerBytes h) + p)) (n .1 .0) in
     record {
-      good = none _ (n .0) .0;
+      fields = fields-good h (n .0);
       payload = ltb-false 108 p (long .0);
       whole = ltb-false 118 (length (headerBytes h) + p) (long .1);
       fits = ltb-false room (length (headerBytes h) + p) (n .1 .1 .0);
@@ -57,19 +53,31 @@ clear-writable h p room e =
 
 -- no condition of the two headers holds
 pub record GoodHeaders (h : NwkHeader) (a : OptionAuxHeader) : Type 0 where
-  pub good : badHeader h ≡ false
+  pub fields : FieldsGood h
+  pub secured : h .«frame_control» .security ≡ true
   pub present : isAbsent a ≡ false
+  pub nonce : AuxAgrees (orBlank a)
   pub ieee : noIeee h (orBlank a) ≡ false
 
 pub good-headers : (h : NwkHeader) (a : OptionAuxHeader) → headersRefusal h a ≡ 0 → GoodHeaders h a
-unfolding headersRefusal fieldRefusal
+unfolding headersRefusal
 good-headers h a e =
     let n = none _ e in
-    record { good = none _ (n .0) .0; present = n .1 .0; ieee = n .1 .1 .0 }
+    record {
+      fields = fields-good h (n .0);
+      secured = not-false (h .«frame_control» .security) (n .1 .0);
+      present = n .1 .1 .0;
+      nonce = aux-test (orBlank a) .0 (not-false (auxAgrees (orBlank a)) (n .1 .1 .1 .0));
+      ieee = n .1 .1 .1 .1 .0;
+    }
 
 pub headers-accepted : (h : NwkHeader) (a : OptionAuxHeader) → GoodHeaders h a → headersRefusal h a ≡ 0
-unfolding headersRefusal fieldRefusal
-headers-accepted h a g = none-refuse _ (none-refuse _ (g .good, tt), (g .present, (g .ieee, tt)))
+unfolding headersRefusal
+headers-accepted h a g =
+    none-refuse _ (
+      fields-accepted h (g .fields),
+      (ap not (g .secured), (g .present, (ap not (aux-test (orBlank a) .1 (g .nonce)), (g .ieee, tt)))),
+    )
 
 -- no condition of sealing's list holds, for n bytes of payload; isLast says whether the counter is the last one
 pub record Sealable (isLast : Bool) (t : ℕ) (h : NwkHeader) (a : OptionAuxHeader) (n room : ℕ) : Type 0 where

@@ -96,7 +96,7 @@ open-facts f u e sealed =
     let header : length (headerBytes (readHeader f .header)) ≡ readHeader f .length = ap length (hf .bytes) ∙ length-take-le _ f within in
     let part = length-drop (readHeader f .length) f in
     let rest = length-drop (readHeader f .length + auxBehind f (readHeader f) .length) f in
-    rw (s .read) (hf .good, omega arith, omega arith)
+    rw (s .read) (hf .fields .good, omega arith, omega arith)
 
 module _ (ciph : List ℕ → List ℕ) (f part o : List ℕ) (r : FrameRead) (n : ℕ) (read : r ≡ readFrame f) (rest : part ≡ drop (r .length) f)
     (number : n ≡ firstOf (openRefusals micLength (r .refusal) (r .header) (r .aux) (length part) (length o))) where

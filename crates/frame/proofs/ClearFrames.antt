@@ -1,5 +1,5 @@
 -- A clear frame: what reading one gives; and reading what was written without a key gives header and payload back, where the
--- security bit is off and the presence bits agree with their fields.
+-- security bit is off.
 -- Assumes nothing.
 use mathlib.Core.Path.{_≡_, refl, sym, ap, _∙_}
 use mathlib.Core.Bool.{Bool, false, cond, not, _&&_}
@@ -12,17 +12,18 @@ use lib.Seq.{drop-at}
 use lib.Dec.{ltb}
 use borrow.Author.Tests.{ltb-false, le-ltb}
 use Rattle.octets.proofs.Conditions.{accepted}
-use Rattle.octets.proofs.Writing.{written-number}
+use Rattle.octets.specs.Writing.{writtenBytes}
+use Rattle.octets.proofs.Writing.{written-number, bytes-written}
 use Rattle.header.specs.declared.{auxiliary.AuxRead.AuxRead, control.NwkFrameControl.NwkFrameControl, nwk.HeaderRead.HeaderRead, nwk.NwkHeader.NwkHeader}
 use Rattle.header.specs.Reading.{readHeader}
-use Rattle.header.specs.Same.{Agrees, SameHeader, cleared, HeaderFits}
+use Rattle.header.specs.Same.{SameHeader, cleared, HeaderFits}
 use Rattle.header.specs.Writing.{headerBytes}
 use Rattle.header.proofs.ReadBack.{read-back, same-cleared}
 use Rattle.frame.specs.declared.{OptionAuxHeader.OptionAuxHeader, FrameRead.FrameRead}
 use Rattle.frame.specs.Reading.{secured, auxIf, auxBehind, frameRefused, frameGiven, frameNumber, frameBy, readFrame}
-use Rattle.frame.specs.Writing.{frameBytes, frameWriteRefusal, writeFrame, frameWritten}
+use Rattle.frame.specs.Writing.{frameBytes, frameWriteRefusal, writeFrame}
 use Rattle.frame.specs.Opening.{isSealed}
-use Rattle.frame.proofs.Accepted.{bytes-written, ClearWritable, clear-writable, frame-refusal, Readable, readable, read-accepts, counts}
+use Rattle.frame.proofs.Accepted.{ClearWritable, clear-writable, frame-refusal, Readable, readable, read-accepts, counts}
 
 -- the frame whose header has been read, the security bit being off
 clear-frame : (f : List ℕ) (h : HeaderRead) (a : AuxRead) → secured h ≡ false → h .refusal ≡ 0 → length f - h .length ≤ 108
@@ -61,28 +62,28 @@ pub record ReadBack (h : NwkHeader) (p f : List ℕ) (r : FrameRead) : Type 0 wh
   pub auxiliary : r .aux ≡ OptionAuxHeader.Absent
   pub payload : drop (r .length) f ≡ p
 
-clear-read : (h : NwkHeader) (p : List ℕ) (room : ℕ) → HeaderFits h → h .«frame_control» .security ≡ false → Agrees h → ClearWritable h (length p) room
+clear-read : (h : NwkHeader) (p : List ℕ) (room : ℕ) → HeaderFits h → h .«frame_control» .security ≡ false → ClearWritable h (length p) room
     → ReadBack h p (frameBytes h p) (readFrame (frameBytes h p))
 unfolding frameBytes readFrame
-clear-read h p room fits off agrees w =
+clear-read h p room fits off w =
     let whole : length (headerBytes h ++ p) ≤ 118 = rw (length-append (headerBytes h) p) (w .whole) in
     let header : readHeader (headerBytes h ++ p) ≡ record { refusal = 0; length = length (headerBytes h); header = cleared h } =
-    read-back h p fits (w .good) agrees whole in
+    read-back h p fits (w .fields) whole in
     let size : length (headerBytes h ++ p) - length (headerBytes h) ≤ 108 = omega (arith, length-append (headerBytes h) p, w .payload) in
     let run : readFrame (headerBytes h ++ p) ≡ record { refusal = 0; length = length (headerBytes h); header = cleared h; aux = OptionAuxHeader.Absent } =
     ap (λ (k : HeaderRead). frameBy (headerBytes h ++ p) k (auxBehind (headerBytes h ++ p) k)) header
-    ∙ clear-frame (headerBytes h ++ p) _ _ (ap (λ (k : NwkFrameControl). k .security) (sym (same-cleared h (w .good) .control)) ∙ off) refl size in
+    ∙ clear-frame (headerBytes h ++ p) _ _ (ap (λ (k : NwkFrameControl). k .security) (sym (same-cleared h (w .fields .good) .control)) ∙ off) refl size in
     record {
       accepted = ap (λ (r : FrameRead). r .refusal) run;
-      header = rw run (same-cleared h (w .good));
+      header = rw run (same-cleared h (w .fields .good));
       auxiliary = ap (λ (r : FrameRead). r .aux) run;
       payload = ap (λ (r : FrameRead). drop (r .length) (headerBytes h ++ p)) run ∙ drop-at (headerBytes h) p (length (headerBytes h)) refl;
     }
 
 pub clear-back : (h : NwkHeader) (p out : List ℕ) → HeaderFits h → writeFrame h p out .answer .refusal ≡ 0
-    → h .«frame_control» .security ≡ false → Agrees h
-    → ReadBack h p (frameWritten (writeFrame h p out)) (readFrame (frameWritten (writeFrame h p out)))
+    → h .«frame_control» .security ≡ false
+    → ReadBack h p (writtenBytes (writeFrame h p out)) (readFrame (writtenBytes (writeFrame h p out)))
 unfolding writeFrame
-clear-back h p out fits ok off agrees =
+clear-back h p out fits ok off =
     let e : frameWriteRefusal h (length p) (length out) ≡ 0 = sym (written-number _ _ out) ∙ ok in
-    rw (bytes-written _ (frameBytes h p) out e) (clear-read h p (length out) fits off agrees (clear-writable h (length p) (length out) e))
+    rw (bytes-written _ (frameBytes h p) out e) (clear-read h p (length out) fits off (clear-writable h (length p) (length out) e))

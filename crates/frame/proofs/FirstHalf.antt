@@ -2,7 +2,7 @@
 -- gives exactly one record, from which the claim is read off. For every level and tag length.
 -- Assumes nothing.
 use mathlib.Core.Path.{_≡_, refl, sym, ap, _∙_}
-use mathlib.Core.Bool.{Bool, true, false, cond, not, _&&_}
+use mathlib.Core.Bool.{Bool, true, cond, not, _&&_}
 use mathlib.Core.List.{List, _++_, append-assoc}
 use Prim.Native.Nat.{ℕ, _+_, _-_, _≤_}
 use native.Mathlib.Omega.{arith}
@@ -14,8 +14,8 @@ use Rattle.octets.proofs.Conditions.{accepted}
 use Rattle.header.specs.declared.{auxiliary.NwkSecurityLevel.NwkSecurityLevel, auxiliary.NwkAuxHeader.NwkAuxHeader, auxiliary.AuxRead.AuxRead, control.NwkFrameControl.NwkFrameControl, nwk.HeaderRead.HeaderRead, nwk.NwkHeader.NwkHeader}
 use Rattle.header.specs.Reading.{readHeader}
 use Rattle.header.specs.Auxiliary.{auxBytes, readAux}
-use Rattle.header.specs.Writing.{headerBytes, badHeader}
-use Rattle.header.specs.Same.{Agrees, AuxAgrees, cleared, HeaderFits, AuxFits}
+use Rattle.header.specs.Writing.{headerBytes}
+use Rattle.header.specs.Same.{SameHeader, cleared, HeaderFits, AuxFits}
 use Rattle.header.proofs.ReadBack.{read-back, same-cleared}
 use Rattle.header.proofs.AuxiliaryLaws.{aux-read-back}
 use Rattle.ccm.specs.Verification.{Verified}
@@ -23,12 +23,12 @@ use Rattle.ccm.specs.Operations.{ciphOf, openedBy}
 use Rattle.ccm.proofs.Opening.{length-ciphertext, length-tag, opened-sealed}
 use Rattle.frame.specs.declared.{OptionAuxHeader.OptionAuxHeader, FrameRead.FrameRead, Mark.Mark}
 use Rattle.frame.specs.Reading.{secured, auxIf, auxBehind, frameGiven, frameNumber, frameBy, readFrame}
-use Rattle.frame.specs.Security.{sentLevel, atLevel, orBlank, nonceIeee, noIeee, nonce, authenticated}
+use Rattle.frame.specs.Security.{sentLevel, atLevel, orBlank, nonceIeee, nonce, authenticated}
 use Rattle.frame.specs.Sealing.{generated, sealedBytes, sealedLength}
-use Rattle.frame.specs.Opening.{isSealed, behind, ciphertextOf, micOf, verified, openBy}
+use Rattle.frame.specs.Opening.{behind, ciphertextOf, micOf, verified, openBy}
 use Rattle.frame.specs.Marks.{Openable}
 use Rattle.frame.proofs.Levels.{level-agrees, level-fits, level-length, level-nonce, level-authenticated, level-ieee}
-use Rattle.frame.proofs.Accepted.{Readable, read-accepts, sealed-run}
+use Rattle.frame.proofs.Accepted.{GoodHeaders, Readable, read-accepts, sealed-run}
 
 -- ---- reading a secured frame from its parts
 
@@ -87,13 +87,15 @@ module _ (l : NwkSecurityLevel) (t : ℕ) (key : List ℕ) (h : NwkHeader) (x : 
         aux = OptionAuxHeader.Present (atLevel sentLevel x);
       }
 
-  module _ (fits : HeaderFits h) (afits : AuxFits x) (good : badHeader h ≡ false) (sec : h .«frame_control» .security ≡ true)
-      (agrees : Agrees h) (aagrees : AuxAgrees x) (whole : sealedLength t h x (length p) ≤ 118) where
+  module _ (fits : HeaderFits h) (afits : AuxFits x) (able : GoodHeaders h (OptionAuxHeader.Present x)) (whole : sealedLength t h x (length p) ≤ 118) where
+    same : SameHeader h (cleared h)
+    same = same-cleared h (able .fields .good)
+
     short : length (headerBytes h ++ (auxBytes (atLevel sentLevel x) ++ sealedPart)) ≤ 118
     short = rw (← in-three, sealed-length) whole
 
     header-part : readHeader (sealedBytes l t key h x p) ≡ record { refusal = 0; length = length (headerBytes h); header = cleared h }
-    header-part = ap readHeader in-three ∙ read-back h _ fits good agrees short
+    header-part = ap readHeader in-three ∙ read-back h _ fits (able .fields) short
 
     behind-header : drop (length (headerBytes h)) (sealedBytes l t key h x p) ≡ auxBytes (atLevel sentLevel x) ++ sealedPart
     behind-header = ap (drop (length (headerBytes h))) in-three ∙ drop-at (headerBytes h) _ (length (headerBytes h)) refl
@@ -106,28 +108,27 @@ module _ (l : NwkSecurityLevel) (t : ℕ) (key : List ℕ) (h : NwkHeader) (x : 
     aux-part =
         ap (λ (r : HeaderRead). readAux (drop (r .length) (sealedBytes l t key h x p))) header-part
         ∙ ap readAux behind-header
-        ∙ aux-read-back (atLevel sentLevel x) sealedPart (level-fits sentLevel sentLevel x afits) (level-agrees sentLevel sentLevel x aagrees) short-behind
+        ∙ aux-read-back (atLevel sentLevel x) sealedPart (level-fits sentLevel sentLevel x afits) (level-agrees sentLevel sentLevel x (able .nonce)) short-behind
+
+    -- the security bit came back with the header
+    back-secured : cleared h .«frame_control» .security ≡ true
+    back-secured = ap (λ (k : NwkFrameControl). k .security) (sym (same .control)) ∙ able .secured
 
     frame-read : readFrame (sealedBytes l t key h x p) ≡ readBack
     unfolding readFrame readBack
     frame-read =
         (λ i. frameBy (sealedBytes l t key h x p) (header-part i) (aux-part i))
-        ∙ secured-frame (sealedBytes l t key h x p) _ _ (ap (λ (k : NwkFrameControl). k .security) (sym (same-cleared h good .control)) ∙ sec) refl refl
-
-    -- the security bit came back with the header
-    back-sealed : isSealed (readBack .header) ≡ true
-    unfolding readBack
-    back-sealed = ap (λ (k : NwkFrameControl). k .security) (sym (same-cleared h good .control)) ∙ sec
+        ∙ secured-frame (sealedBytes l t key h x p) _ _ back-secured refl refl
 
     -- ---- opening them
 
     same-nonce : nonce l (readBack .header) (orBlank (readBack .aux)) ≡ nonce l h x
     unfolding readBack
-    same-nonce = level-nonce l sentLevel x h (cleared h) (same-cleared h good)
+    same-nonce = level-nonce l sentLevel x h (cleared h) same
 
     same-authenticated : authenticated l (readBack .header) (orBlank (readBack .aux)) ≡ authenticated l h x
     unfolding readBack
-    same-authenticated = level-authenticated l sentLevel x h (cleared h) (same-cleared h good)
+    same-authenticated = level-authenticated l sentLevel x h (cleared h) same
 
     behind-headers : behind (sealedBytes l t key h x p) readBack ≡ sealedPart
     unfolding behind readBack
@@ -159,22 +160,22 @@ module _ (l : NwkSecurityLevel) (t : ℕ) (key : List ℕ) (h : NwkHeader) (x : 
         let o = opened-sealed t _ (nonce l h x) (authenticated l h x) p in
         (ap (λ (v : Verified). v .valid) opened-back ∙ o .0, ap (λ (v : Verified). v .payload) opened-back ∙ o .1)
 
-    openable-back : (room : ℕ) → noIeee h x ≡ false → length p ≤ room
+    openable-back : (room : ℕ) → length p ≤ room
         → Openable l t (ciphOf key) (sealedBytes l t key h x p) readBack room
     unfolding readBack
-    openable-back room ieee fits-room =
+    openable-back room fits-room =
         let size : length (behind (sealedBytes l t key h x p) readBack) ≡ length p + t = ap length behind-headers ∙ part-length in
         record {
           reads = refl;
-          on = back-sealed;
-          ieee = level-ieee l sentLevel x h (cleared h) (same-cleared h good) ∙ ieee;
+          on = back-secured;
+          ieee = level-ieee l sentLevel x h (cleared h) same ∙ able .ieee;
           tagged = omega (arith, size);
           fits = omega (arith, size);
           valid = made .0;
         }
 
     -- opening the sealed bytes gives exactly this
-    pub reopened : (out : List ℕ) → noIeee h x ≡ false → length p ≤ length out
+    pub reopened : (out : List ℕ) → length p ≤ length out
         → openBy l t (ciphOf key) (sealedBytes l t key h x p) (readFrame (sealedBytes l t key h x p)) out
         ≡ record {
           answer = record {
@@ -188,9 +189,9 @@ module _ (l : NwkSecurityLevel) (t : ℕ) (key : List ℕ) (h : NwkHeader) (x : 
           out = over out 0 p;
         }
     unfolding readBack
-    reopened out ieee room =
+    reopened out room =
         ap (λ (r : FrameRead). openBy l t (ciphOf key) (sealedBytes l t key h x p) r out) frame-read
-        ∙ sealed-run l t (ciphOf key) (sealedBytes l t key h x p) readBack out (openable-back (length out) ieee room)
+        ∙ sealed-run l t (ciphOf key) (sealedBytes l t key h x p) readBack out (openable-back (length out) room)
         ∙ (λ i. record {
           answer = record {
             refusal = 0;

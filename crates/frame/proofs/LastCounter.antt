@@ -17,7 +17,6 @@ use Rattle.header.specs.declared.nwk.NwkHeader.{NwkHeader}
 use Rattle.header.specs.Reading.{readHeader}
 use Rattle.header.specs.Auxiliary.{auxBy, blankAux}
 use Rattle.header.specs.Writing.{fieldRefusal}
-use Rattle.header.proofs.ReadFacts.{header-facts}
 use Rattle.ccm.specs.Operations.{micLength}
 use Rattle.frame.specs.declared.OptionAuxHeader.{OptionAuxHeader}
 use Rattle.frame.specs.Reading.{auxBehind}
@@ -27,7 +26,7 @@ use Rattle.frame.specs.Sealing.{sealedBytes, headersRefusal, sealRefusal
 use Rattle.frame.specs.Opening as opening
 use Rattle.frame.specs.LastCounter.{sealWithout21, SealableCounters, NothingElseChanged, LastRefused, OnlyTheLast, StillOpened, LeftOut}
 use Rattle.frame.proofs.Accepted.{headers-accepted, sealable, seal-refused, sealed-number, bytes-sealed}
-use Rattle.frame.proofs.SecondHalf.{secured-facts}
+use Rattle.frame.proofs.SecondHalf.{secured-facts, good-again}
 use Rattle.frame.proofs.SealingLaw.{seal-number, seal-able, opened-again, opened-sealed, opened-run}
 
 -- ---- other counters
@@ -80,10 +79,10 @@ only-the-last key h a p o e =
 
 pub still-opened : StillOpened
 unfolding sealWithout21
-still-opened key h a p out out₂ fits agree accepted within =
+still-opened key h a p out out₂ fits accepted within =
     let e = sym (sealed-number _ _ out) ∙ accepted in
     rw (bytes-sealed _ (sealedBytes networkLevel micLength key h (orBlank a) p) out e)
-    (opened-again key h a p false (length out) out₂ fits agree (sealable false micLength h a (length p) (length out) e) within)
+    (opened-again key h a p false (length out) out₂ fits (sealable false micLength h a (length p) (length out) e) within)
 
 -- ---- sealing afresh
 
@@ -94,6 +93,6 @@ left-out key f out out₂ bytes marked last =
     let run = opened-run key f out w s in
     let h = readHeader f .header in
     let x = OptionAuxHeader.Present (auxBehind f (readHeader f) .aux) in
-    let good = headers-accepted h x (record { good = header-facts f bytes (s .header) .good; present = refl; ieee = rw (s .read) at (w .ieee) }) in
+    let good = headers-accepted h x (good-again f bytes s (rw (s .read) at (w .on)) (rw (s .read) at (w .ieee))) in
     rw run (last-refused key h x _ out₂ (sym (ap (λ (r : opening.Run). counterOf (r .answer .aux)) run) ∙ last)
     ∙ ap (λ (n : ℕ). sealNothing n out₂) (skip-by _ _ good ∙ stop-by 21 [] (λ z. omega arith)))

@@ -10,3 +10,4 @@ pub mod ClearFrames
 pub mod Marks
 pub mod LastCounter
 pub mod NonceIeee
+pub mod PresenceBits

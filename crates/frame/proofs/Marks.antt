@@ -10,6 +10,7 @@ use lib.ListN.{length, take, drop, length-append, take-append-drop}
 use lib.Seq.{drop-at}
 use lib.Dec.{ltb}
 use Rattle.octets.specs.Refusals.{unless, Condition, on, by, firstOf}
+use Rattle.octets.specs.Writing.{writtenBytes}
 use Rattle.octets.proofs.Strings.{take-over}
 use Rattle.octets.proofs.Conditions.{accepted, in-parts, gives}
 use Rattle.header.specs.declared.control.NwkFrameControl.{NwkFrameControl}
@@ -21,7 +22,7 @@ use Rattle.frame.specs.declared.{FrameRead.FrameRead, FrameOpened.FrameO
 use Rattle.frame.specs.Reading.{secured, auxBehind, frameRefusal, frameNumber, frameGiven, frameBy, readFrame}
 use Rattle.frame.specs.Security.{networkLevel, orBlank, noIeee}
 use Rattle.frame.specs.Opening.{isSealed, lastOf, behind, openRefusals, openRefusal, openRefused, Run, clearGiven, openWith, openFrame, payloadIn}
-use Rattle.frame.specs.Writing.{writeFrame, frameWritten}
+use Rattle.frame.specs.Writing.{writeFrame}
 use Rattle.frame.specs.Marks.{IsClear, ClearAccepted, ClearOnly, ccmOf, SealedAccepted, SealedOnly, SecuredNumbers, MarkedIfAccepted, PayloadOfClear, PayloadOfSealed, PayloadOfRefused, PayloadLength, NoFourteen, WrittenOpensClear}
 use Rattle.frame.proofs.Accepted.{frame-refusal, readable, counts, run-either, sealed-run, clear-run, marked-sealed, marked-clear, marked, unmarked}
 use Rattle.frame.proofs.ClearFrames.{clear-facts, clear-back}
@@ -157,9 +158,9 @@ no-fourteen key f o e =
 -- ---- what was written without a key
 
 pub written-opens-clear : WrittenOpensClear
-written-opens-clear key h p out o fits accepted off agrees =
-    let f = frameWritten (writeFrame h p out) in
-    let back = clear-back h p out fits accepted off agrees in
+written-opens-clear key h p out o fits accepted off =
+    let f = writtenBytes (writeFrame h p out) in
+    let back = clear-back h p out fits accepted off in
     let clear : IsClear f = record { reads = back .accepted; off = ap (λ (c : NwkFrameControl). c .security) (sym (back .header .control)) ∙ off } in
     let run = run-of-clear key f o clear in
     let marked = ap (λ (r : Run). r .answer .mark) run in

@@ -41,8 +41,8 @@ level-address h k OptionAuxHeader.Absent e = ap (λ (s : OptionEui64). ieeeOf (o
 level-address h k (OptionAuxHeader.Present x) e = ap (λ (s : OptionEui64). ieeeOf (x .«extended_source») s) (sym e)
 
 pub address-comes-back : AddressComesBack
-address-comes-back key h a p out out₂ fits agree accepted within =
-    let back = first-half key h a p out out₂ fits agree accepted within in
+address-comes-back key h a p out out₂ fits accepted within =
+    let back = first-half key h a p out out₂ fits accepted within in
     let n = sealed-gives-address key _ out₂ (back .marked) in
     let r = sealThenOpen key h a p out out₂ .answer in
     n .given

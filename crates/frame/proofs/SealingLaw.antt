@@ -24,7 +24,7 @@ use Rattle.frame.specs.Sealing.{counterOf, headersRefusal, sealRefusals,
 use Rattle.frame.specs.Opening as opening
 use Rattle.frame.specs.Opening.{verified, openRefused, sealedGiven, openWith, openFrame, payloadIn}
 use Rattle.frame.specs.Marks.{Openable}
-use Rattle.frame.specs.SealingLaw.{InRange, BitsAgree, FirstHalf, SecondHalf, sealThenOpen, openThenSeal, Reopened, Resealed, bytesWritten, payloadGiven}
+use Rattle.frame.specs.SealingLaw.{InRange, FirstHalf, SecondHalf, sealThenOpen, openThenSeal, Reopened, Resealed, bytesWritten, payloadGiven}
 use Rattle.frame.proofs.Accepted.{Sealable, good-headers, sealable, seal-accepts, seal-accepted, seal-refused, sealed-number, bytes-sealed, run-either, sealed-run, marked-sealed}
 use Rattle.frame.proofs.ClearFrames.{clear-facts}
 use Rattle.frame.proofs.FirstHalf.{sealed-length, reopened}
@@ -61,28 +61,25 @@ seal-within key h a p o =
 
 -- opening the bytes sealed of headers and payload that no condition but 21's refuses
 pub opened-again : (key : List ℕ) (h : NwkHeader) (a : OptionAuxHeader) (p : List ℕ) (isLast : Bool) (room : ℕ) (out : List ℕ)
-    → InRange h a → BitsAgree h a → Sealable isLast micLength h a (length p) room
+    → InRange h a → Sealable isLast micLength h a (length p) room
     → length p ≤ length out → Reopened h a p (openFrame key (sealedBytes networkLevel micLength key h (orBlank a) p) out)
 unfolding openWith
-opened-again key h OptionAuxHeader.Absent p isLast room out fits agree s within = absurd (true≢false (s .headers .present))
-opened-again key h (OptionAuxHeader.Present x) p isLast room out fits agree s within =
-    let good = s .headers .good in
-    let run =
-    reopened networkLevel micLength key h x p (fits .header) (fits .auxiliary) good (agree .security) (agree .header) (agree .auxiliary) (s .whole) out
-    (s .headers .ieee) within in
+opened-again key h OptionAuxHeader.Absent p isLast room out fits s within = absurd (true≢false (s .headers .present))
+opened-again key h (OptionAuxHeader.Present x) p isLast room out fits s within =
+    let run = reopened networkLevel micLength key h x p (fits .header) (fits .auxiliary) (s .headers) (s .whole) out within in
     record {
       accepted = ap (λ (r : opening.Run). r .answer .refusal) run;
       marked = ap (λ (r : opening.Run). r .answer .mark) run;
-      header = rw run (same-cleared h good);
+      header = rw run (same-cleared h (s .headers .fields .good));
       auxiliary = ap (λ (r : opening.Run). r .answer .aux) run;
       length = ap (λ (r : opening.Run). r .answer .length) run;
       payload = ap payloadGiven run ∙ take-over out p;
     }
 
 pub first-half : FirstHalf
-first-half key h a p out out₂ fits agree accepted within =
+first-half key h a p out out₂ fits accepted within =
     let e = sym (seal-number key h a p out) ∙ accepted in
-    rw (seal-bytes key h a p out e) (opened-again key h a p _ (length out) out₂ fits agree (seal-able h a (length p) (length out) e) within)
+    rw (seal-bytes key h a p out e) (opened-again key h a p _ (length out) out₂ fits (seal-able h a (length p) (length out) e) within)
 
 pub opened-sealed : (key f o : List ℕ) → openFrame key f o .answer .mark ≡ Mark.Sealed → Openable networkLevel micLength (ciphOf key) f (readFrame f) (length o)
 unfolding openWith

@@ -19,15 +19,16 @@ use Rattle.header.specs.AuxiliaryControl.{withLevel}
 use Rattle.header.specs.Writing.{headerBytes}
 use Rattle.header.proofs.ReadFacts.{HeaderFacts, header-facts, AuxFacts, aux-facts}
 use Rattle.header.proofs.AuxiliaryLaws.{aux-length}
+use Rattle.header.proofs.PresenceBits.{reading-agrees}
 use Rattle.ccm.specs.Operations.{ciphOf}
 use Rattle.ccm.proofs.Opening.{length-payload, sealed-opened}
 use Rattle.frame.specs.declared.{OptionAuxHeader.OptionAuxHeader, FrameRead.FrameRead}
 use Rattle.frame.specs.Reading.{secured, auxBehind, frameRefused, frameGiven, frameNumber, frameBy, readFrame}
-use Rattle.frame.specs.Security.{sentLevel, atLevel, orBlank, nonce, authenticated}
+use Rattle.frame.specs.Security.{sentLevel, atLevel, orBlank, noIeee, nonce, authenticated}
 use Rattle.frame.specs.Sealing.{generated, sealedBytes, sealedLength}
 use Rattle.frame.specs.Opening.{isSealed, behind, ciphertextOf, micOf, verified}
 use Rattle.frame.specs.Marks.{Openable}
-use Rattle.frame.proofs.Accepted.{Sealable, frame-refusal, readable}
+use Rattle.frame.proofs.Accepted.{GoodHeaders, Sealable, frame-refusal, readable}
 use Rattle.frame.proofs.FirstHalf.{secured-frame}
 
 -- ---- a frame that was read and has an auxiliary header
@@ -59,6 +60,18 @@ secured-facts f e sealed =
     record { header = r .header; aux = aux; read = secured-frame f h a s (r .header) aux }
 
 -- ---- sealing again
+
+-- the headers of a sealed frame that was read meet every condition of sealing's
+pub good-again : (f : List ℕ) → Below 256 f → SecuredFacts f → isSealed (wholeRead f .header) ≡ true
+    → noIeee (wholeRead f .header) (orBlank (wholeRead f .aux)) ≡ false → GoodHeaders (wholeRead f .header) (wholeRead f .aux)
+good-again f u s on ieee =
+    record {
+      fields = header-facts f u (s .header) .fields;
+      secured = on;
+      present = refl;
+      nonce = reading-agrees (drop (readHeader f .length) f) .1;
+      ieee = ieee;
+    }
 
 -- a header at level 0 is the one that is sent
 sent-already : (a : NwkAuxHeader) → a .«security_control» .«security_level» ≡ NwkSecurityLevel.NoSecurity → atLevel sentLevel a ≡ a
@@ -148,7 +161,7 @@ module _ (l : NwkSecurityLevel) (t : ℕ) (key f : List ℕ) (u : Below 256 f) (
       let b = size-behind in
       let p = size-part in
       record {
-        headers = record { good = hf .good; present = refl; ieee = o .ieee };
+        headers = good-again f u s (o .on) (o .ieee);
         counter = other;
         payload = omega arith;
         whole = omega arith;

@@ -16,9 +16,9 @@ use Rattle.frame.specs.Security.{networkLevel, orBlank}
 use Rattle.frame.specs.Sealing as sealing
 use Rattle.frame.specs.Sealing.{sealedBytes, headersRefusal, sealRefusals, counterOf, sealNothing, sealBy, sealFrame}
 use Rattle.frame.specs.Opening.{openFrame}
-use Rattle.frame.specs.SealingLaw.{bytesWritten, AuxOptionFits, BitsAgree, InRange, Reopened, openThenSeal}
+use Rattle.frame.specs.SealingLaw.{bytesWritten, AuxOptionFits, InRange, Reopened, openThenSeal}
 
--- sealing by its list without 21, as document 01 has it
+-- sealing by its list without 21
 unfoldable pub sealWithout21 : List ℕ → NwkHeader → OptionAuxHeader → List ℕ → List ℕ → sealing.Run
 sealWithout21 key h a p o =
     sealBy (firstOf (sealRefusals false micLength h a (length p) (length o))) (sealedBytes networkLevel micLength key h (orBlank a) p) o
@@ -55,12 +55,12 @@ OnlyTheLast =
 
 -- ---- "opening still accepts the old one"
 
--- whatever the list without 21 accepts, under the last counter too, opens again to its headers and its payload; the other premises
--- are those of the sealing law's first half
+-- whatever the list without 21 accepts, under the last counter too, opens again to its headers and its payload, as the
+-- sealing law's first half says it
 abbrev pub StillOpened : Type 0
 StillOpened =
     (key : List ℕ) (h : NwkHeader) (a : OptionAuxHeader) (p out out₂ : List ℕ)
-    → InRange h a → BitsAgree h a
+    → InRange h a
     → sealWithout21 key h a p out .answer .refusal ≡ 0
     → length p ≤ length out₂
     → Reopened h a p (openFrame key (bytesWritten (sealWithout21 key h a p out)) out₂)

@@ -1,5 +1,5 @@
--- NWK frames: reading, writing without a key, sealing and opening, the sealing law, the marks, the last counter, and the address that the
--- nonce used.
+-- NWK frames: reading, writing without a key, sealing and opening, the sealing law, the marks, the last counter, the address that the nonce
+-- used, and the presence bits.
 pub mod Reading
 pub mod Writing
 pub mod Security
@@ -9,3 +9,4 @@ pub mod SealingLaw
 pub mod Marks
 pub mod LastCounter
 pub mod NonceIeee
+pub mod PresenceBits

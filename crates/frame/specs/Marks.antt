@@ -9,15 +9,16 @@ use Prim.Native.Nat.{ℕ, _-_, _≤_}
 use lib.ListN.{length, drop}
 use lib.Dec.{ltb}
 use Rattle.octets.specs.Refusals.{on, by, firstOf}
+use Rattle.octets.specs.Writing.{writtenBytes}
 use Rattle.header.specs.declared.{auxiliary.NwkSecurityLevel.NwkSecurityLevel, nwk.NwkHeader.NwkHeader}
 use Rattle.header.specs.Reading.{control}
-use Rattle.header.specs.Same.{Agrees, SameHeader, HeaderFits}
+use Rattle.header.specs.Same.{SameHeader, HeaderFits}
 use Rattle.ccm.specs.Verification.{Verified}
 use Rattle.ccm.specs.Operations.{micLength, ciphOf}
 use Rattle.frame.specs.declared.{OptionAuxHeader.OptionAuxHeader, FrameRead.FrameRead, Mark.Mark}
 use Rattle.frame.specs.Reading.{readFrame}
 use Rattle.frame.specs.Security.{networkLevel, orBlank, noIeee}
-use Rattle.frame.specs.Writing.{writeFrame, frameWritten}
+use Rattle.frame.specs.Writing.{writeFrame}
 use Rattle.frame.specs.Opening.{isSealed, behind, verified, sealedGiven, clearGiven, openFrame, payloadIn}
 
 -- the payload handed back of the frame f, opened under key into o
@@ -125,10 +126,9 @@ pub record WrittenBack (h : NwkHeader) (p key f o : List ℕ) : Type 0 where
   pub header : SameHeader h (openFrame key f o .answer .header)
   pub payload : handedBack key f o ≡ p
 
--- where writing accepts the header, which is within its types' ranges, its security bit is off and each presence bit agrees with
--- its field
+-- where writing accepts the header, which is within its types' ranges, and its security bit is off
 abbrev pub WrittenOpensClear : Type 0
 WrittenOpensClear =
     (key : List ℕ) (h : NwkHeader) (p out o : List ℕ) → HeaderFits h → writeFrame h p out .answer .refusal ≡ 0
-    → h .«frame_control» .security ≡ false → Agrees h
-    → WrittenBack h p key (frameWritten (writeFrame h p out)) o
+    → h .«frame_control» .security ≡ false
+    → WrittenBack h p key (writtenBytes (writeFrame h p out)) o

@@ -16,7 +16,7 @@ use Rattle.frame.specs.Reading.{readFrame}
 use Rattle.frame.specs.Security.{networkLevel, orBlank, ieeeOf, authenticated}
 use Rattle.frame.specs.Sealing.{sealFrame}
 use Rattle.frame.specs.Opening.{behind, ciphertextOf, micOf, openFrame}
-use Rattle.frame.specs.SealingLaw.{BitsAgree, InRange, sealThenOpen}
+use Rattle.frame.specs.SealingLaw.{InRange, sealThenOpen}
 use Rattle.frame.specs.Marks.{ccmOf}
 
 -- the address that the nonce of two headers uses
@@ -56,7 +56,7 @@ RefusedGivesNone = (key f o : List ℕ) → (openFrame key f o .answer .refusal 
 abbrev pub AddressComesBack : Type 0
 AddressComesBack =
     (key : List ℕ) (h : NwkHeader) (a : OptionAuxHeader) (p out out₂ : List ℕ)
-    → InRange h a → BitsAgree h a
+    → InRange h a
     → sealFrame key h a p out .answer .refusal ≡ 0
     → length p ≤ length out₂
     → sealThenOpen key h a p out out₂ .answer .«nonce_ieee» ≡ OptionEui64.Present (addressOf h a)

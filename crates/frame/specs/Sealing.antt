@@ -1,7 +1,7 @@
 -- Sealing a frame (Zigbee Specification 4.3.1.1; `NwkFrame::serialize` with a key).
 -- Assumes nothing.
 use Prim.Native.Nat.{ℕ, _+_}
-use mathlib.Core.Bool.{Bool}
+use mathlib.Core.Bool.{Bool, not}
 use mathlib.Core.List.{List, [], _∷_, _++_}
 use lib.ListN.{length}
 use lib.Dec.{eqb}
@@ -11,6 +11,7 @@ use Rattle.types.specs.Counters.{lastCounter}
 use Rattle.header.specs.declared.{auxiliary.NwkSecurityLevel.NwkSecurityLevel, auxiliary.NwkAuxHeader.NwkAuxHeader, nwk.NwkHeader.NwkHeader}
 use Rattle.header.specs.Auxiliary.{auxBytes}
 use Rattle.header.specs.Writing.{headerBytes, fieldRefusal}
+use Rattle.header.specs.Same.{auxAgrees}
 use Rattle.ccm.specs.Generation.{Generated}
 use Rattle.ccm.specs.Operations.{micLength, sealedBy}
 use Rattle.frame.specs.declared.{OptionAuxHeader.OptionAuxHeader, FrameSealed.FrameSealed}
@@ -32,9 +33,15 @@ sealedBytes l t key h a p =
 unfoldable pub sealedLength : ℕ → NwkHeader → NwkAuxHeader → ℕ → ℕ
 sealedLength t h a n = length (headerBytes h) + length (auxBytes a) + t + n
 
--- those of the two headers: document 01's numbers 13, 14 and 15
+-- those of the two headers: the fields' 13 and 28, to which bit 9 belongs here; 14; 28 where the extended nonce bit disagrees; 15
 unfoldable pub headersRefusal : NwkHeader → OptionAuxHeader → ℕ
-headersRefusal h a = firstOf (by (fieldRefusal h) ∷ on 14 (isAbsent a) ∷ on 15 (noIeee h (orBlank a)) ∷ [])
+headersRefusal h a =
+    firstOf (by (fieldRefusal h)
+    ∷ on 28 (not (h .«frame_control» .security))
+    ∷ on 14 (isAbsent a)
+    ∷ on 28 (not (auxAgrees (orBlank a)))
+    ∷ on 15 (noIeee h (orBlank a))
+    ∷ [])
 
 -- the counter to be sealed
 abbrev pub counterOf : OptionAuxHeader → ℕ

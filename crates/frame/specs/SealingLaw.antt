@@ -1,8 +1,8 @@
 -- The sealing law (document 01, demand 3 and e), as two statements.
 --
--- First half. Whatever sealing accepts, if the security bit is set and each presence bit agrees with its field, opening
--- exactly the bytes written, under the same key, into any output at least as long as the payload, is accepted and marked
--- sealed, and gives the same two headers, only the level now 0, and the same payload bytes, no more and no fewer.
+-- First half. Whatever sealing accepts, opening exactly the bytes written, under the same key, into any output at least as
+-- long as the payload, is accepted and marked sealed, and gives the same two headers, only the level now 0, and the same payload
+-- bytes, no more and no fewer.
 --
 -- Second half. Whatever frame opening accepts and marks sealed, if its security control byte arrived with level and bit 7 zero
 -- and its counter is not the last one, sealing afresh the two headers and payload bytes it returned, under that key into 118
@@ -14,14 +14,13 @@
 -- Assumes nothing.
 use mathlib.Core.Path.{_≡_}
 use Prim.Native.Nat.{ℕ, _≤_, _/_, _%_}
-use mathlib.Core.Bool.{true}
 use mathlib.Core.List.{List}
 use lib.ListN.{length, getD, take}
 use Rattle.octets.specs.Strings.{Below}
 use Rattle.types.specs.Counters.{lastCounter}
 use Rattle.header.specs.declared.nwk.NwkHeader.{NwkHeader}
 use Rattle.header.specs.Reading.{readHeader}
-use Rattle.header.specs.Same.{Agrees, AuxAgrees, SameHeader, HeaderFits, AuxFits}
+use Rattle.header.specs.Same.{SameHeader, HeaderFits, AuxFits}
 use Rattle.frame.specs.declared.{OptionAuxHeader.OptionAuxHeader, Mark.Mark}
 use Rattle.frame.specs.Security.{sentLevel, atLevel}
 use Rattle.frame.specs.Sealing as sealing
@@ -36,20 +35,10 @@ bytesWritten r = take (r .answer .length) (r .out)
 abbrev pub payloadGiven : opening.Run → List ℕ
 payloadGiven r = take (r .answer .length) (r .out)
 
--- an auxiliary header or none: its presence bit agrees with its field; it is within its types' ranges
-abbrev pub AuxOptionAgrees : OptionAuxHeader → Type 0
-AuxOptionAgrees OptionAuxHeader.Absent = Unit {0}
-AuxOptionAgrees (OptionAuxHeader.Present a) = AuxAgrees a
-
+-- an auxiliary header or none is within its types' ranges
 abbrev pub AuxOptionFits : OptionAuxHeader → Type 0
 AuxOptionFits OptionAuxHeader.Absent = Unit {0}
 AuxOptionFits (OptionAuxHeader.Present a) = AuxFits a
-
--- what the first half asks of the headers handed over: the security bit is set, and each presence bit agrees with its field
-pub record BitsAgree (h : NwkHeader) (a : OptionAuxHeader) : Type 0 where
-  pub security : h .«frame_control» .security ≡ true
-  pub header : Agrees h
-  pub auxiliary : AuxOptionAgrees a
 
 -- what every pair of headers has
 pub record InRange (h : NwkHeader) (a : OptionAuxHeader) : Type 0 where
@@ -79,7 +68,7 @@ pub record Reopened (h : NwkHeader) (a : OptionAuxHeader) (p : List ℕ) (r : op
 abbrev pub FirstHalf : Type 0
 FirstHalf =
     (key : List ℕ) (h : NwkHeader) (a : OptionAuxHeader) (p out out₂ : List ℕ)
-    → InRange h a → BitsAgree h a
+    → InRange h a
     → sealFrame key h a p out .answer .refusal ≡ 0
     → length p ≤ length out₂
     → Reopened h a p (sealThenOpen key h a p out out₂)

@@ -3,7 +3,7 @@
 use Prim.Native.Nat.{ℕ, _+_}
 use mathlib.Core.Bool.{_||_}
 use mathlib.Core.List.{List, [], _∷_, _++_}
-use lib.ListN.{length, take}
+use lib.ListN.{length}
 use lib.Dec.{ltb}
 use Rattle.octets.specs.Refusals.{Condition, on, by, firstOf}
 use Rattle.octets.specs.Writing.{Run, written}
@@ -18,13 +18,9 @@ frameBytes h p = headerBytes h ++ p
 unfoldable pub lengthRefusals : ℕ → ℕ → ℕ → List Condition
 lengthRefusals n whole room = on 17 (ltb 108 n || ltb 118 whole) ∷ on 18 (ltb room whole) ∷ []
 
--- 13, then those, for n bytes of payload
+-- the fields' 13 and 28, then those, for n bytes of payload
 unfoldable pub frameWriteRefusal : NwkHeader → ℕ → ℕ → ℕ
 frameWriteRefusal h n room = firstOf (by (fieldRefusal h) ∷ lengthRefusals n (length (headerBytes h) + n) room)
 
 unfoldable pub writeFrame : NwkHeader → List ℕ → List ℕ → Run
 writeFrame h p o = written (frameWriteRefusal h (length p) (length o)) (frameBytes h p) o
-
--- the frame that was written: the output's first n bytes, n being the length given
-abbrev pub frameWritten : Run → List ℕ
-frameWritten r = take (r .answer .length) (r .out)

@@ -15,10 +15,10 @@ ghost use Rattle.types.specs.Counters.{lastCounter};
 ghost use Rattle.frame.specs.declared.Mark.{Mark};
 ghost use Rattle.frame.specs.Sealing.{counterOf, sealFrame};
 ghost use Rattle.frame.specs.Opening.{openFrame};
-ghost use Rattle.frame.specs.SealingLaw.{BitsAgree, sealThenOpen, Reopened, PlainControl, openThenSeal, Resealed};
+ghost use Rattle.frame.specs.SealingLaw.{sealThenOpen, Reopened, PlainControl, openThenSeal, Resealed};
 
-// Seal a frame and open the bytes written. Where sealing accepts and the bits agree with the fields, the headers and the
-// payload come back; where it refuses, nothing was written, and opening no bytes is refused by 2.
+// Seal a frame and open the bytes written. Where sealing accepts, the headers and the payload come back; where it refuses,
+// nothing was written, and opening no bytes is refused by 2.
 pub fn seal_then_open(
     key: Key,
     h: NwkHeader,
@@ -30,7 +30,7 @@ pub fn seal_then_open(
     ensures answer { λ r. ⌜ r ≡ sealThenOpen (key .0) h aux (now (payload .entry)) (now (frame .entry)) (now (out .entry)) .answer ⌝ }
     ensures frame { λ _. ⌜ now (frame .exit) ≡ sealFrame (key .0) h aux (now (payload .entry)) (now (frame .entry)) .out ⌝ }
     ensures out { λ _. ⌜ now (out .exit) ≡ sealThenOpen (key .0) h aux (now (payload .entry)) (now (frame .entry)) (now (out .entry)) .out ⌝ }
-    ensures law { λ r. ⌜ (sealFrame (key .0) h aux (now (payload .entry)) (now (frame .entry)) .answer .refusal ≡ 0 → BitsAgree h aux → length (now (payload .entry)) ≤ length (now (out .entry)) → Reopened h aux (now (payload .entry)) (record { answer = r; out = now (out .exit) })) ⌝ }
+    ensures law { λ r. ⌜ (sealFrame (key .0) h aux (now (payload .entry)) (now (frame .entry)) .answer .refusal ≡ 0 → length (now (payload .entry)) ≤ length (now (out .entry)) → Reopened h aux (now (payload .entry)) (record { answer = r; out = now (out .exit) })) ⌝ }
 {
     in_range(h, aux);
     let sealed = sealing::seal(key, h, aux, payload, frame);
@@ -40,7 +40,7 @@ pub fn seal_then_open(
 
 // Open a frame and seal afresh what it gave. Where opening accepts a sealed frame whose security control byte has level and
 // bit 7 zero and whose counter is not the last one, and 118 bytes are lent, exactly the frame's bytes are written again. The
-// last counter is refused by 21, and a clear frame by 14.
+// last counter is refused by 21, and a clear frame by 28, its security bit being off.
 pub fn open_then_seal(key: Key, frame: &[u8], out: &mut [u8], again: &mut [u8]) -> FrameSealed
     ensures answer { λ r. ⌜ r ≡ openThenSeal (key .0) (now (frame .entry)) (now (out .entry)) (now (again .entry)) .answer ⌝ }
     ensures out { λ _. ⌜ now (out .exit) ≡ openFrame (key .0) (now (frame .entry)) (now (out .entry)) .out ⌝ }

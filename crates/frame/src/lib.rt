@@ -194,14 +194,14 @@ fn length_refusal(before: u8, front: usize, n: usize, room: usize) -> u8
     octets::refuse(r, refusals::NO_ROOM, octets::exceeds(room, front, n))
 }
 
-// The first of the refusals 13, 17 and 18 that holds for a frame without a key and n bytes of payload, or 0.
+// The first of the refusals 13, 28, 17 and 18 that holds for a frame without a key and n bytes of payload, or 0.
 fn write_refusal(h: NwkHeader, n: usize, room: usize) -> u8
     ensures { λ r. ⌜ r ≡ frameWriteRefusal h n room ⌝ }
 {
     length_refusal(h.field_refusal(), h.size(), n, room)
 }
 
-// Write a frame without a key: header and payload only; refusals 13, 17 and 18, which change nothing.
+// Write a frame without a key: header and payload only; refusals 13, 28, 17 and 18, which change nothing.
 pub fn write_frame(h: NwkHeader, payload: &[u8], out: &mut [u8]) -> Written
     ensures answer { λ r. ⌜ r ≡ writeFrame h (now (payload .entry)) (now (out .entry)) .answer ⌝ }
     ensures buffer { λ _. ⌜ now (out .exit) ≡ writeFrame h (now (payload .entry)) (now (out .entry)) .out ⌝ }

@@ -27,16 +27,20 @@ fn sealed_length(h: NwkHeader, aux: NwkAuxHeader, n: usize) -> usize
     h.size() + aux.size() + ccm::MIC_LENGTH + n
 }
 
-// The first of the two headers' refusals, 13, 14 and 15, that holds, or 0.
+// The first of the two headers' refusals, 13, 28, 14, 28 and 15, that holds, or 0. The first 28 is for the header's bits, bit 9
+// among them, the second for the extended nonce bit.
 fn headers_refusal(h: NwkHeader, aux: OptionAuxHeader) -> u8
     ensures { λ r. ⌜ r ≡ headersRefusal h aux ⌝ }
 {
+    let present = aux.or_blank();
     let r = h.field_refusal();
+    let r = octets::refuse(r, refusals::PRESENCE_BITS, !h.frame_control.security);
     let r = octets::refuse(r, refusals::NO_AUXILIARY, aux.is_absent());
-    octets::refuse(r, refusals::NO_IEEE, security::no_ieee(h, aux.or_blank()))
+    let r = octets::refuse(r, refusals::PRESENCE_BITS, !present.agrees());
+    octets::refuse(r, refusals::NO_IEEE, security::no_ieee(h, present))
 }
 
-// The first of the refusals 13, 14, 15, 21, 17 and 18 that holds for n bytes of payload, or 0.
+// The first of the refusals 13, 28, 14, 28, 15, 21, 17 and 18 that holds for n bytes of payload, or 0.
 fn seal_refusal(h: NwkHeader, aux: OptionAuxHeader, n: usize, room: usize) -> u8
     ensures { λ r. ⌜ r ≡ sealRefusal micLength h aux n room ⌝ }
 {
@@ -88,7 +92,8 @@ fn seal_frame(key: [u8; 16], h: NwkHeader, aux: NwkAuxHeader, payload: &[u8], ou
     put_sealed(key, nonce, &auth[..start], payload, out, start);
 }
 
-// Seal a frame (`NwkFrame::serialize` with a key); refusals 13, 14, 15, 21, 17 and 18, which change nothing.
+// Seal a frame (`NwkFrame::serialize` with a key); refusals 13, 28, 14, 28, 15, 21, 17 and 18, which change
+// nothing.
 pub fn seal(
     key: Key,
     h: NwkHeader,

@@ -10,7 +10,6 @@ ghost use Prim.Native.Nat.{_+_, _≤_};
 ghost use lib.ListN.{length, take};
 ghost use Rattle.octets.specs.Strings.{over};
 ghost use Rattle.octets.specs.Numbers.{le};
-ghost use Rattle.types.specs.Optional.{hasIeee};
 ghost use Rattle.header.specs.Auxiliary.{auxBytes};
 ghost use Rattle.header.specs.Writing.{badHeader, headerBytes};
 ghost use Rattle.frame.specs.Security.{atLevel, ieeeOf, noIeee, nonce};
@@ -42,26 +41,13 @@ pub fn source_ieee(aux: OptionEui64, header: OptionEui64) -> u64
     }
 }
 
-// Whether a long address is there.
-fn has_ieee(o: OptionEui64) -> bool
-    ensures { λ r. ⌜ r ≡ hasIeee o ⌝ }
-{
-    match o {
-        OptionEui64::Present(_) => true,
-        OptionEui64::Absent => false,
-    }
-}
-
 // Whether neither header has the long address that the nonce needs (refusal 15).
 pub fn no_ieee(h: NwkHeader, aux: NwkAuxHeader) -> bool
     ensures { λ r. ⌜ r ≡ noIeee h aux ⌝ }
 {
     let extended_source = aux.extended_source;
     let source_ieee = h.source_ieee;
-    if has_ieee(extended_source) {
-        return false;
-    }
-    !has_ieee(source_ieee)
+    !octets::either(extended_source.is_present(), source_ieee.is_present())
 }
 
 // Address, counter and control, one behind the other.

@@ -69,4 +69,5 @@ fn run_file(name: &[u8]) {
 fn main() {
     run_file(b"headers.txt");
     run_file(b"frames.txt");
+    run_file(b"presence_bits.txt");
 }

@@ -154,6 +154,6 @@ aux-write-exact f u e h =
     ∙ ap (λ (b : ℕ). b ∷ take (keySequenceAt (security f)) (drop 1 f)) (mod-eq-of-lt h)
     ∙ sym (rw (add-one (keySequenceAt (security f))) (ap (take (suc (keySequenceAt (security f)))) (drop-cons f 0 0 (omega arith))))
 
-pub aux-agrees : (f : List ℕ) → AuxAgrees (auxBy f (security f))
+pub aux-agrees : (f : List ℕ) (c : NwkSecurityHeaderControlField) → AuxAgrees (auxBy f c)
 unfolding auxBy
-aux-agrees f = sym (ieee-has (security f .«extended_nonce») (leAt 8 f 5))
+aux-agrees f c = sym (ieee-has (c .«extended_nonce») (leAt 8 f 5))

@@ -2,9 +2,10 @@
 pub mod Codes
 pub mod ControlFields
 pub mod OptionalFields
+pub mod Writable
 pub mod ReadBack
 pub mod WriteBack
 pub mod AuxiliaryLaws
-pub mod Writable
 pub mod ReadFits
 pub mod ReadFacts
+pub mod PresenceBits

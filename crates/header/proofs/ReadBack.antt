@@ -1,5 +1,5 @@
--- Reading undoes writing: a header that writing accepts and whose presence bits agree with its fields, with any bytes
--- behind it, is read back, the places past the relay count cleared. Each field is found behind the bytes before it.
+-- Reading undoes writing: a header that writing accepts, with any bytes behind it, is read back, the places past the relay
+-- count cleared. Each field is found behind the bytes before it.
 -- Assumes nothing.
 use mathlib.Core.Path.{_≡_, refl, sym, ap, _∙_}
 use mathlib.Core.Bool.{Bool, true, false, cond}
@@ -26,6 +26,7 @@ use Rattle.header.specs.Reading.{control, sourceAt, multicastAt, routeAt
 use Rattle.header.specs.Writing.{fixedBytes, optionalBytes, headerBytes, badControl, badHeader}
 use Rattle.header.specs.Same.{Agrees, SameHeader, cleared, HeaderFits}
 use Rattle.header.proofs.ControlFields.{control-back, controlWord-lt, word-type, word-discovery}
+use Rattle.header.proofs.Writable.{FieldsGood}
 use Rattle.header.proofs.OptionalFields.{le-byte, ieee-length, ieee-back, multicast-length, multicast-back, route-same, route-length, route-back, route-relays, route-count}
 
 -- ---- a field behind the bytes before it
@@ -251,11 +252,12 @@ record-read h rest fits good agrees =
       relays = relays-read h rest fits agrees i;
     }
 
-pub read-back : (h : NwkHeader) (rest : List ℕ) → HeaderFits h → badHeader h ≡ false → Agrees h → length (headerBytes h ++ rest) ≤ 118
+pub read-back : (h : NwkHeader) (rest : List ℕ) → HeaderFits h → FieldsGood h → length (headerBytes h ++ rest) ≤ 118
     → readHeader (headerBytes h ++ rest) ≡ record { refusal = 0; length = length (headerBytes h); header = cleared h }
 unfolding readHeader badHeader
-read-back h rest fits good agrees short =
-    let good′ = or-false (badControl (h .«frame_control»)) (ltb 54 (relayCount (h .«source_route»))) good .0 in
+read-back h rest fits fields short =
+    let agrees = fields .agree in
+    let good′ = or-false (badControl (h .«frame_control»)) (ltb 54 (relayCount (h .«source_route»))) (fields .good) .0 in
     let c-read : control (headerBytes h ++ rest) ≡ h .«frame_control» = control-read h rest fits good′ in
     let ends : headerEnd (headerBytes h ++ rest) (control (headerBytes h ++ rest)) ≡ length (headerBytes h) =
     ap (headerEnd (headerBytes h ++ rest)) c-read ∙ end-read h rest fits agrees in

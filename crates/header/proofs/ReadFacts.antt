@@ -2,7 +2,7 @@
 -- two headers stay shut above this crate.
 -- Assumes nothing.
 use mathlib.Core.Path.{_≡_, refl, sym, ap, _∙_}
-use mathlib.Core.Bool.{Bool, false}
+use mathlib.Core.Bool.{Bool}
 use mathlib.Core.List.{List}
 use Prim.Native.Nat.{ℕ, _+_, _*_, _%_, _≤_, _<_}
 use native.Mathlib.Omega.{arith}
@@ -13,13 +13,14 @@ use Rattle.octets.proofs.Strings.{length-tab}
 use Rattle.octets.proofs.Conditions.{accepted, answer-number, unless-either}
 use Rattle.header.specs.declared.{auxiliary.NwkSecurityLevel.NwkSecurityLevel, control.NwkFrameControl.NwkFrameControl, nwk.HeaderRead.HeaderRead, auxiliary.AuxRead.AuxRead}
 use Rattle.header.specs.Reading.{control, relaysOf, headerBy, headerRefusal, headerGiven, headerRefused, readHeader}
-use Rattle.header.specs.Writing.{headerBytes, badHeader}
+use Rattle.header.specs.Writing.{headerBytes}
 use Rattle.header.specs.Auxiliary.{security, keySequenceAt, auxRefusal, auxBy, auxGiven, auxRefused, readAux, auxBytes}
 use Rattle.header.specs.AuxiliaryControl.{levelOf, securityOf}
-use Rattle.header.specs.Same.{Agrees, AuxAgrees, HeaderFits, AuxFits}
+use Rattle.header.specs.Same.{AuxAgrees, HeaderFits, AuxFits}
 use Rattle.header.proofs.Codes.{bit-lt}
 use Rattle.header.proofs.OptionalFields.{ieee-has}
 use Rattle.header.proofs.ReadFits.{read-fits, aux-read-fits}
+use Rattle.header.proofs.Writable.{FieldsGood}
 use Rattle.header.proofs.ReadBack.{places}
 use Rattle.header.proofs.WriteBack.{header-read, write-back, read-good, read-agrees}
 use Rattle.header.proofs.AuxiliaryLaws.{aux-read, aux-length, aux-write-exact, aux-agrees}
@@ -35,8 +36,7 @@ pub record HeaderFacts (f : List ℕ) (r : HeaderRead) : Type 0 where
   pub short : length f ≤ 118
   pub least : 8 ≤ r .length
   pub within : r .length ≤ length f
-  pub good : badHeader (r .header) ≡ false
-  pub agrees : Agrees (r .header)
+  pub fields : FieldsGood (r .header)
   pub fits : HeaderFits (r .header)
   pub places : length (r .header .relays) ≡ 54
   pub bytes : headerBytes (r .header) ≡ take (r .length) f
@@ -54,8 +54,7 @@ read-facts f u none =
       short = r .short;
       least = omega arith;
       within = ends;
-      good = read-good f none;
-      agrees = read-agrees f;
+      fields = record { good = read-good f none; agree = read-agrees f (control f) };
       fits = read-fits f (control f) u;
       places = relay-places f (control f);
       bytes = write-back f u none;
@@ -109,7 +108,7 @@ read-aux-facts f u none =
     let ends = aux-read f none .ends in
     record {
       within = ends;
-      agrees = aux-agrees f;
+      agrees = aux-agrees f (security f);
       fits = aux-read-fits f (security f) u;
       size = aux-size f;
       exact = λ h. aux-write-exact f u none h;

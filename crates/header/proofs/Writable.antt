@@ -1,28 +1,80 @@
 -- What a header meets that writing does not refuse.
 -- Assumes nothing.
-use mathlib.Core.Path.{_≡_}
-use mathlib.Core.Bool.{false}
+use mathlib.Core.Path.{_≡_, refl, ap}
+use mathlib.Core.Bool.{Bool, Bool·beq, true, false, true≢false, false≢true, not, _&&_, and-eq-true-iff}
+use mathlib.Core.Logic.{_↔_}
 use Prim.Native.Nat.{ℕ, _≤_, _<_}
 use native.Mathlib.Omega.{arith}
 use lib.ListN.{length}
 use lib.Dec.{ltb}
-use borrow.Author.Tests.{ltb-false}
-use Rattle.octets.proofs.Conditions.{none, or-false}
-use Rattle.header.specs.declared.nwk.NwkHeader.{NwkHeader}
-use Rattle.header.specs.Optional.{relayCount}
+use borrow.Author.Tests.{ltb-false, not-false}
+use Rattle.octets.proofs.Conditions.{none, none-refuse, or-false}
+use Rattle.types.specs.Optional.{hasIeee}
+use Rattle.header.specs.declared.{nwk.NwkHeader.NwkHeader, auxiliary.NwkAuxHeader.NwkAuxHeader}
+use Rattle.header.specs.Optional.{hasMulticast, hasRoute, relayCount}
 use Rattle.header.specs.Writing.{headerBytes, badControl, badHeader, fieldRefusal, headerWriteRefusal}
+use Rattle.header.specs.Same.{Agrees, AuxAgrees, agrees, auxAgrees}
+
+-- ---- the presence bits
+
+same-bit : (a b : Bool) → (Bool·beq a b ≡ true) ↔ (a ≡ b)
+same-bit true true = (λ e. refl, λ e. refl)
+same-bit true false = (λ e. absurd (false≢true e), λ e. absurd (true≢false e))
+same-bit false true = (λ e. absurd (false≢true e), λ e. absurd (false≢true e))
+same-bit false false = (λ e. refl, λ e. refl)
+
+-- the test of a header says that it agrees
+pub header-agrees : (h : NwkHeader) → (agrees h ≡ true) ↔ Agrees h
+unfolding agrees
+header-agrees h =
+    let c = h .«frame_control» in
+    let d = same-bit (c .destination) (hasIeee (h .«destination_ieee»)) in
+    let s = same-bit (c .«extended_source») (hasIeee (h .«source_ieee»)) in
+    let m = same-bit (c .multicast) (hasMulticast (h .«multicast_control»)) in
+    let r = same-bit (c .«source_route») (hasRoute (h .«source_route»)) in
+    let ieees = and-eq-true-iff (Bool·beq (c .destination) (hasIeee (h .«destination_ieee»))) (Bool·beq (c .«extended_source») (hasIeee (h .«source_ieee»))) in
+    let others = and-eq-true-iff (Bool·beq (c .multicast) (hasMulticast (h .«multicast_control»))) (Bool·beq (c .«source_route») (hasRoute (h .«source_route»))) in
+    let all = and-eq-true-iff (Bool·beq (c .destination) (hasIeee (h .«destination_ieee»)) && Bool·beq (c .«extended_source») (hasIeee (h .«source_ieee»)))
+    (Bool·beq (c .multicast) (hasMulticast (h .«multicast_control»)) && Bool·beq (c .«source_route») (hasRoute (h .«source_route»))) in (
+      λ e.
+          let i = ieees .0 (all .0 e .0) in
+          let o = others .0 (all .0 e .1) in
+          record { destination = d .0 (i .0); source = s .0 (i .1); multicast = m .0 (o .0); route = r .0 (o .1) },
+      λ a. all .1 (ieees .1 (d .1 (a .destination), s .1 (a .source)), others .1 (m .1 (a .multicast), r .1 (a .route))),
+    )
+
+pub aux-test : (a : NwkAuxHeader) → (auxAgrees a ≡ true) ↔ AuxAgrees a
+unfolding auxAgrees
+aux-test a = same-bit (a .«security_control» .«extended_nonce») (hasIeee (a .«extended_source»))
+
+-- ---- the fields
+
+-- what a header has that neither 13 nor 28 refuses
+pub record FieldsGood (h : NwkHeader) : Type 0 where
+  pub good : badHeader h ≡ false
+  pub agree : Agrees h
+
+pub fields-good : (h : NwkHeader) → fieldRefusal h ≡ 0 → FieldsGood h
+unfolding fieldRefusal
+fields-good h e =
+    let n = none _ e in
+    record { good = n .0; agree = header-agrees h .0 (not-false (agrees h) (n .1 .0)) }
+
+pub fields-accepted : (h : NwkHeader) → FieldsGood h → fieldRefusal h ≡ 0
+unfolding fieldRefusal
+fields-accepted h g = none-refuse _ (g .good, (ap not (header-agrees h .1 (g .agree)), tt))
 
 pub record Writable (h : NwkHeader) (room : ℕ) : Type 0 where
-  pub good : badHeader h ≡ false
+  pub fields : FieldsGood h
   pub short : length (headerBytes h) ≤ 118
   pub fits : length (headerBytes h) ≤ room
 
 pub header-writable : (h : NwkHeader) (room : ℕ) → headerWriteRefusal h room ≡ 0 → Writable h room
-unfolding headerWriteRefusal fieldRefusal
+unfolding headerWriteRefusal
 header-writable h room e =
     let n = none _ e in
     record {
-      good = none _ (n .0) .0;
+      fields = fields-good h (n .0);
       short = ltb-false 118 (length (headerBytes h)) (n .1 .0);
       fits = ltb-false room (length (headerBytes h)) (n .1 .1 .0);
     }

@@ -107,10 +107,9 @@ read-good f e =
     let n = route-count (control f .«source_route») (getD f (routeAt (control f)) 0) (getD f (routeAt (control f) + 1) 0) in
     rw (control-good (leAt 2 f 0)) (ap (ltb 54) n ∙ le-ltb 54 _ (few f (header-read f e)))
 
-pub read-agrees : (f : List ℕ) → Agrees (headerBy f (control f))
+pub read-agrees : (f : List ℕ) (c : NwkFrameControl) → Agrees (headerBy f c)
 unfolding headerBy
-read-agrees f =
-    let c : NwkFrameControl = control f in
+read-agrees f c =
     record {
       destination = sym (ieee-has (c .destination) _);
       source = sym (ieee-has (c .«extended_source») _);

@@ -1,4 +1,4 @@
--- The NWK header and the auxiliary header: what reading and writing them is.
+-- The NWK header and the auxiliary header: what reading and writing them is, and that presence bits agree.
 pub mod Optional
 pub mod Control
 pub mod Reading
@@ -6,3 +6,4 @@ pub mod Writing
 pub mod AuxiliaryControl
 pub mod Auxiliary
 pub mod Same
+pub mod PresenceBits

@@ -1,9 +1,9 @@
--- Document 01's e, on headers: when a presence bit agrees with its field, and when two headers are the same. Apart from
--- these, what every value of the two types has: each number is within its type's range.
+-- Document 01's e, on headers: when a presence bit agrees with its field, as a statement and as the test that the writers make,
+-- and when two headers are the same. Apart from these, what every value of the two types has: each number is within its type's range.
 -- Assumes nothing.
 use mathlib.Core.Path.{_≡_}
 use Prim.Native.Nat.{ℕ, _<_, _^_}
-use mathlib.Core.Bool.{cond}
+use mathlib.Core.Bool.{Bool, Bool·beq, cond, _&&_}
 use mathlib.Core.List.{List}
 use lib.ListN.{getD}
 use lib.Dec.{ltb}
@@ -24,6 +24,17 @@ pub record Agrees (h : NwkHeader) : Type 0 where
 -- bit 5 of the security control is set exactly when the auxiliary header has an IEEE
 abbrev pub AuxAgrees : NwkAuxHeader → Type 0
 AuxAgrees a = a .«security_control» .«extended_nonce» ≡ hasIeee (a .«extended_source»)
+
+-- the same as tests
+unfoldable pub agrees : NwkHeader → Bool
+agrees h =
+    (Bool·beq (h .«frame_control» .destination) (hasIeee (h .«destination_ieee»))
+    && Bool·beq (h .«frame_control» .«extended_source») (hasIeee (h .«source_ieee»)))
+    && (Bool·beq (h .«frame_control» .multicast) (hasMulticast (h .«multicast_control»))
+    && Bool·beq (h .«frame_control» .«source_route») (hasRoute (h .«source_route»)))
+
+unfoldable pub auxAgrees : NwkAuxHeader → Bool
+auxAgrees a = Bool·beq (a .«security_control» .«extended_nonce») (hasIeee (a .«extended_source»))
 
 -- the same fields are present and each is equal, a source route by its count, index and the addresses below the count
 pub record SameHeader (h k : NwkHeader) : Type 0 where

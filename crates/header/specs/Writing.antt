@@ -1,8 +1,8 @@
 -- Writing a NWK header (Zigbee Specification 3.3.1): its bytes, by the fields present and not by the bits, and the
--- refusals 13, 17 and 18.
+-- refusals 13, 28, 17 and 18.
 -- Assumes nothing.
 use Prim.Native.Nat.{ℕ}
-use mathlib.Core.Bool.{Bool, _||_}
+use mathlib.Core.Bool.{Bool, not, _||_}
 use mathlib.Core.List.{List, [], _∷_, _++_}
 use lib.ListN.{length}
 use lib.Dec.{ltb}
@@ -13,6 +13,7 @@ use Rattle.header.specs.declared.{control.NwkFrameControl.NwkFrameContro
 use Rattle.header.specs.Optional.{multicastBytes, routeBytes, relayCount}
 use Rattle.types.specs.Optional.{ieeeBytes}
 use Rattle.header.specs.Control.{controlWord}
+use Rattle.header.specs.Same.{agrees}
 
 -- the eight bytes that every header has
 unfoldable pub fixedBytes : NwkHeader → List ℕ
@@ -34,9 +35,9 @@ badControl c = ltb 15 (c .«protocol_version») || ltb 3 (c .reserved1)
 unfoldable pub badHeader : NwkHeader → Bool
 badHeader h = badControl (h .«frame_control») || ltb 54 (relayCount (h .«source_route»))
 
--- the refusal of the fields, the first entry of every writer's list
+-- the refusal of the fields, the first entry of every writer's list: 13, then document 02's 28 where a presence bit disagrees
 unfoldable pub fieldRefusal : NwkHeader → ℕ
-fieldRefusal h = firstOf (on 13 (badHeader h) ∷ [])
+fieldRefusal h = firstOf (on 13 (badHeader h) ∷ on 28 (not (agrees h)) ∷ [])
 
 -- the refusals of writing a header into room places
 unfoldable pub headerWriteRefusal : NwkHeader → ℕ → ℕ

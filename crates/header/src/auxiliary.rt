@@ -10,6 +10,7 @@ ghost use lib.ListN.{length};
 ghost use Rattle.octets.specs.Strings.{over};
 ghost use Rattle.header.specs.AuxiliaryControl.{levelCode, levelOf, keyIdCode, keyIdOf, securityByte, securityOf, withLevel};
 ghost use Rattle.header.specs.Auxiliary.{keySequenceAt, auxRefusal, auxBy, blankAux, readAux, auxBytes, writeAux};
+ghost use Rattle.header.specs.Same.{auxAgrees};
 
 // Which key secured the frame.
 pub enum NwkSecurityHeaderKeyId {
@@ -219,6 +220,14 @@ impl NwkAuxHeader {
             length: key_sequence_at(c) + 1,
             aux: NwkAuxHeader::fields(bytes, c),
         }
+    }
+
+    // Whether the extended nonce bit is set exactly when there is an IEEE. Writing does not look at it, sealing does.
+    pub fn agrees(self) -> bool
+        ensures { λ r. ⌜ r ≡ auxAgrees self ⌝ }
+    {
+        let extended_source = self.extended_source;
+        self.security_control.extended_nonce == extended_source.is_present()
     }
 
     // How many bytes the auxiliary header takes.

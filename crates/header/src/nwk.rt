@@ -21,6 +21,7 @@ ghost use Rattle.header.specs.Optional.{multicastBytes, routeBytes, rela
 ghost use Rattle.types.specs.Addresses.{nwk, noNwk};
 ghost use Rattle.types.specs.Optional.{ieeeBytes};
 ghost use Rattle.header.specs.Reading.{optionalRefusals, sourceAt, multicastAt, routeAt, relaysAnnounced, headerEnd, headerRefusal, relaysOf, headerBy, blankHeader, readHeader};
+ghost use Rattle.header.specs.Same.{agrees};
 ghost use Rattle.header.specs.Writing.{headerBytes, badHeader, fieldRefusal, headerWriteRefusal, writeHeader};
 
 // The largest MAC payload, and so the largest NWK frame.
@@ -256,14 +257,34 @@ impl NwkHeader {
         )
     }
 
-    // The refusal of the fields: 13 where one exceeds its bits or the relays exceed their places, else 0.
+    // Whether each of bits 11, 12, 8 and 10 is set exactly when its field is present.
+    fn agrees(self) -> bool
+        ensures { λ r. ⌜ r ≡ agrees self ⌝ }
+    {
+        let destination_ieee = self.destination_ieee;
+        let source_ieee = self.source_ieee;
+        let multicast_control = self.multicast_control;
+        let source_route = self.source_route;
+        let destination = self.frame_control.destination == destination_ieee.is_present();
+        let source = self.frame_control.extended_source == source_ieee.is_present();
+        let multicast = self.frame_control.multicast == multicast_control.is_present();
+        let route = self.frame_control.source_route == source_route.is_present();
+        octets::both(
+            octets::both(destination, source),
+            octets::both(multicast, route),
+        )
+    }
+
+    // The refusal of the fields: 13 where one exceeds its bits or the relays exceed their places, then 28 where a presence bit
+    // disagrees with its field, else 0.
     pub fn field_refusal(self) -> u8
         ensures { λ r. ⌜ r ≡ fieldRefusal self ⌝ }
     {
-        octets::refuse(0, refusals::FIELD, self.is_bad())
+        let r = octets::refuse(0, refusals::FIELD, self.is_bad());
+        octets::refuse(r, refusals::PRESENCE_BITS, !self.agrees())
     }
 
-    // The first of the refusals 13, 17 and 18 that holds when the output has the room given, or 0.
+    // The first of the refusals 13, 28, 17 and 18 that holds when the output has the room given, or 0.
     fn write_refusal(self, room: usize) -> u8
         ensures { λ r. ⌜ r ≡ headerWriteRefusal self room ⌝ }
     {
@@ -302,7 +323,7 @@ impl NwkHeader {
         );
     }
 
-    // Write the header to the front of the output; refusals 13, 17 and 18, which change nothing.
+    // Write the header to the front of the output; refusals 13, 28, 17 and 18, which change nothing.
     pub fn serialize(self, out: &mut [u8]) -> Written
         ensures answer { λ r. ⌜ r ≡ writeHeader self (now (out .entry)) .answer ⌝ }
         ensures buffer { λ _. ⌜ now (out .exit) ≡ writeHeader self (now (out .entry)) .out ⌝ }

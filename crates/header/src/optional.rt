@@ -4,7 +4,7 @@ ghost use mathlib.Core.Path.{_≡_};
 ghost use Prim.Native.Nat.{_+_, _≤_};
 ghost use lib.ListN.{length};
 ghost use Rattle.octets.specs.Strings.{over};
-ghost use Rattle.header.specs.Optional.{multicastIf, multicastBytes, routeIf, routeBytes, relayCount, relayBytes};
+ghost use Rattle.header.specs.Optional.{hasMulticast, multicastIf, multicastBytes, hasRoute, routeIf, routeBytes, relayCount, relayBytes};
 
 // An optional multicast control byte.
 pub enum OptionMulticast {
@@ -27,6 +27,16 @@ impl OptionMulticast {
             OptionMulticast::Present(x)
         } else {
             OptionMulticast::Absent
+        }
+    }
+
+    // Whether it is there.
+    pub fn is_present(self) -> bool
+        ensures { λ r. ⌜ r ≡ hasMulticast self ⌝ }
+    {
+        match self {
+            OptionMulticast::Absent => false,
+            OptionMulticast::Present(_) => true,
         }
     }
 
@@ -67,6 +77,19 @@ impl NwkSourceRoute {
             }
         } else {
             NwkSourceRoute::Absent
+        }
+    }
+
+    // Whether it is there.
+    pub fn is_present(self) -> bool
+        ensures { λ r. ⌜ r ≡ hasRoute self ⌝ }
+    {
+        match self {
+            NwkSourceRoute::Absent => false,
+            NwkSourceRoute::Present {
+                relay_count: _,
+                relay_index: _,
+            } => true,
         }
     }
 

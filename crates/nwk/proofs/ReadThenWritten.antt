@@ -13,12 +13,13 @@ use lib.ListN.{length}
 use lib.Seq.{length-take-le}
 use Rattle.octets.specs.Strings.{Below}
 use Rattle.octets.specs.Refusals.{on, firstOf}
-use Rattle.octets.proofs.Conditions.{skip, skip-by, empty}
+use Rattle.octets.proofs.Conditions.{skip, skip-by}
 use Rattle.header.specs.declared.{nwk.NwkHeader.NwkHeader, auxiliary.NwkAuxHeader.NwkAuxHeader}
 use Rattle.header.specs.Reading.{readHeader}
 use Rattle.header.specs.Writing.{headerBytes, fieldRefusal, headerWriteRefusal}
 use Rattle.header.specs.Auxiliary.{readAux, auxWriteRefusal}
 use Rattle.header.proofs.ReadFacts.{header-facts, aux-facts}
+use Rattle.header.proofs.Writable.{fields-accepted}
 use Rattle.records.specs.HeaderRecord.{headerRecord}
 use Rattle.records.specs.AuxiliaryRecord.{auxRecord}
 use Rattle.records.proofs.RoundTrip.{header-back, aux-back, present-back}
@@ -28,7 +29,7 @@ use Rattle.nwk.proofs.Refusals.{single}
 
 pub header-record-read-is-refused-by-18-alone : (f : List ℕ) (room : ℕ) → Below 256 f → readHeader f .refusal ≡ 0
     → writeHeaderRefusal (headerRecord (readHeader f .header)) room ≡ firstOf (on 18 (ltb room (readHeader f .length)) ∷ [])
-unfolding writeHeaderRefusal headerWriteRefusal fieldRefusal
+unfolding writeHeaderRefusal headerWriteRefusal
 header-record-read-is-refused-by-18-alone f room u e =
     let h = readHeader f .header in
     let facts = header-facts f u e in
@@ -36,7 +37,7 @@ header-record-read-is-refused-by-18-alone f room u e =
     let short : length (headerBytes h) ≤ 118 = omega (arith, size, facts .within, facts .short) in
     skip 13 _ _ (read-header-taken f u e) ∙ sym (single _)
     ∙ ap (λ (k : NwkHeader). headerWriteRefusal k room) (header-back h (facts .fits) (facts .places))
-    ∙ skip-by (fieldRefusal h) _ (skip 13 _ _ (facts .good) ∙ empty) ∙ skip 17 _ _ (le-ltb 118 (length (headerBytes h)) short)
+    ∙ skip-by (fieldRefusal h) _ (fields-accepted h (facts .fields)) ∙ skip 17 _ _ (le-ltb 118 (length (headerBytes h)) short)
     ∙ ap (λ (n : ℕ). firstOf (on 18 (ltb room n) ∷ [])) size
 
 pub aux-record-read-is-refused-by-18-alone : (f : List ℕ) (room : ℕ) → Below 256 f → readAux f .refusal ≡ 0

@@ -64,7 +64,8 @@ use Rattle.nwk.proofs.FrameRefusals.{open-number, opened-number}
 
 headers-below : (h : NwkHeader) (a : OptionAuxHeader) → headersRefusal h a < 256
 unfolding headersRefusal fieldRefusal
-headers-below h a = number-below 256 _ (omega arith) (number-below 256 _ (omega arith) (refl, tt), (refl, (refl, tt)))
+headers-below h a =
+    number-below 256 _ (omega arith) (number-below 256 _ (omega arith) (refl, (refl, tt)), (refl, (refl, (refl, (refl, tt)))))
 
 seal-below : (r x : List ℕ) (n room : ℕ) → sealRecordsRefusal r x n room < 256
 unfolding sealRecordsRefusal sealRefusal sealRefusals lengthRefusals
@@ -258,16 +259,14 @@ sealed-over key r x p o e short =
 
 -- nwk_open of a frame that was sealed from the headers h and a and the payload p
 sealed-then-opened : (key : List ℕ) (h : NwkHeader) (a : OptionAuxHeader) (p : List ℕ) (isLast : Bool) (room : ℕ) (out : List ℕ)
-    → frames.InRange h a → frames.BitsAgree h a → Sealable isLast micLength h a (length p) room → length p ≤ length out
+    → frames.InRange h a → Sealable isLast micLength h a (length p) room → length p ≤ length out
     → let r = openFrame key (sealedBytes networkLevel micLength key h (orBlank a) p) out in
     (r .answer .refusal ≡ 0) × ((r .answer .mark ≡ Mark.Sealed) × ((r .answer .length ≡ length p)
     × ((r .answer .header ≡ cleared h) × ((r .answer .aux ≡ frames.levelZero a) × (r .out ≡ over out 0 p)))))
 unfolding openWith
-sealed-then-opened key h OptionAuxHeader.Absent p isLast room out fits agree s within = absurd (true≢false (s .headers .present))
-sealed-then-opened key h (OptionAuxHeader.Present x) p isLast room out fits agree s within =
-    let run =
-    first-half-proofs.reopened networkLevel micLength key h x p (fits .header) (fits .auxiliary) (s .headers .good) (agree .security) (agree .header) (agree .auxiliary)
-    (s .whole) out (s .headers .ieee) within in (
+sealed-then-opened key h OptionAuxHeader.Absent p isLast room out fits s within = absurd (true≢false (s .headers .present))
+sealed-then-opened key h (OptionAuxHeader.Present x) p isLast room out fits s within =
+    let run = first-half-proofs.reopened networkLevel micLength key h x p (fits .header) (fits .auxiliary) (s .headers) (s .whole) out within in (
       ap (λ (r : opening.Run). r .answer .refusal) run,
       (
         ap (λ (r : opening.Run). r .answer .mark) run,
@@ -280,7 +279,7 @@ sealed-then-opened key h (OptionAuxHeader.Present x) p isLast room out fits agre
 
 pub first-half : FirstHalf
 unfolding sealRecordsRefusal sealedRecords
-first-half first second r x p o w out br bx accepted agree room within =
+first-half first second r x p o w out br bx accepted room within =
     let key = keyBytes first second in
     let h = headerOf r in
     let a = optionOf x in
@@ -291,7 +290,7 @@ first-half first second r x p o w out br bx accepted agree room within =
     let able = frame-law.seal-able h a (length p) (length o) e in
     let fits : frames.InRange h a = record { header = header-of-fits r br; auxiliary = option-of-fits x bx } in
     let f = sealedRecords key r x p in
-    let back = sealed-then-opened key h a p _ (length o) out fits agree able within in
+    let back = sealed-then-opened key h a p _ (length o) out fits able within in
     let over-it = opened-over key f w out (open-accepts key f w out room (back .0)) in
     let answered : openAnswer key f w out ≡ openedAnswer Mark.Sealed (length p) = over-it .answered ∙ (λ i. openedAnswer (back .1 .0 i) (back .1 .1 .0 i)) in
     let size : lengthIn (openAnswer key f w out) ≡ length p = ap lengthIn answered ∙ opened-length Mark.Sealed (length p) (omega (arith, able .payload)) in
@@ -305,7 +304,7 @@ first-half first second r x p o w out br bx accepted agree room within =
     (record {
       accepted = ap refusalIn answered ∙ opened-refusal Mark.Sealed (length p);
       marked = ap clearIn answered ∙ clear-in Mark.Sealed (length p);
-      header = rw header (same-cleared h (able .headers .good));
+      header = rw header (same-cleared h (able .headers .fields .good));
       auxiliary = auxiliary;
       length = size;
       payload = (λ i. take (size i) ((over-it .left ∙ back .1 .1 .1 .1 .1) i)) ∙ take-over out p;
@@ -332,7 +331,7 @@ seals-again key f h a p out fits places afits again =
     let own : sealRefusal micLength h a (length p) (length out) ≡ 0 = sym (frame-law.seal-number key h a p out) ∙ again .accepted in
     let e : sealRefusal micLength (headerOf r) (optionOf x) (length p) (length out) ≡ 0 =
     (λ i. sealRefusal micLength (eh i) (ea i) (length p) (length out)) ∙ own in
-    let good = frame-law.seal-able h a (length p) (length out) own .headers .good in
+    let good = frame-law.seal-able h a (length p) (length out) own .headers .fields .good in
     let number = seal-good r x (length p) (length out) (header-taken h good) (aux-taken _ (orBlank a)) ∙ e in
     let s = sealed-over key r x p out number (sealed-short key r x p (length out) e) in
     let same : sealedRecords key r x p ≡ f =

@@ -37,7 +37,7 @@ readFrameHeader f h x = given (readFrameRefusal f (length h) (length x)) (header
 abbrev pub readFrameAuxiliary : List ℕ → List ℕ → List ℕ → List ℕ
 readFrameAuxiliary f h x = given (readFrameRefusal f (length h) (length x)) (optionRecord (readFrame f .aux)) x
 
--- ---- writing without a key: 13 for the record, then the frame's own 13, 17 and 18, for n bytes of payload
+-- ---- writing without a key: 13 for the record, then the frame's own 13, 28, 17 and 18, for n bytes of payload
 
 unfoldable pub writeFrameRefusal : List ℕ → ℕ → ℕ → ℕ
 writeFrameRefusal r n room = firstOf (on 13 (badHeaderRecord r) ∷ by (frameWriteRefusal (headerOf r) n room) ∷ [])
@@ -49,7 +49,7 @@ writeFrameAnswer r p o = answerBy (writeFrameRefusal r (length p) (length o)) (l
 abbrev pub writeFrameOutput : List ℕ → List ℕ → List ℕ → List ℕ
 writeFrameOutput r p o = given (writeFrameRefusal r (length p) (length o)) (frameBytes (headerOf r) p) o
 
--- ---- sealing: 13 for a record, then the frame's own 13, 14, 15, 21, 17 and 18, for n bytes of payload
+-- ---- sealing: 13 for a record, then the frame's own 13, 28, 14, 28, 15, 21, 17 and 18, for n bytes of payload
 
 unfoldable pub sealRecordsRefusal : List ℕ → List ℕ → ℕ → ℕ → ℕ
 sealRecordsRefusal r x n room =

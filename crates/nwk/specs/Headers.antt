@@ -15,7 +15,7 @@ use Rattle.records.specs.AuxiliaryRecord.{auxRecordSize, auxOf, auxPresent, bad
 unfoldable pub readHeaderRefusal : List ℕ → ℕ → ℕ
 readHeaderRefusal f room = firstOf (by (headerRefusal f) ∷ on 18 (ltb room headerRecordSize) ∷ [])
 
--- 13 for the record, then the header's own 13, 17 and 18
+-- 13 for the record, then the header's own 13, 28, 17 and 18
 unfoldable pub writeHeaderRefusal : List ℕ → ℕ → ℕ
 writeHeaderRefusal r room = firstOf (on 13 (badHeaderRecord r) ∷ by (headerWriteRefusal (headerOf r) room) ∷ [])
 

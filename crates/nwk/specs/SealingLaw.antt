@@ -1,9 +1,8 @@
 -- The sealing law over the C functions (document 01, demand 3 and e), as two statements over key numbers, records and bytes.
 --
--- First half. Whatever nwk_seal accepts, if the records have the security bit set and each presence bit agreeing with its field,
--- nwk_open of exactly the bytes written, under the same key, into any opened record of 182 bytes or more and any output at least
--- as long as the payload, is accepted as sealed; the opened record has the same two headers, only the level now 0, and the output
--- begins with the same payload bytes, no more and no fewer.
+-- First half. Whatever nwk_seal accepts, nwk_open of exactly the bytes written, under the same key, into any opened record of 182
+-- bytes or more and any output at least as long as the payload, is accepted as sealed; the opened record has the same two headers,
+-- only the level now 0, and the output begins with the same payload bytes, no more and no fewer.
 --
 -- Second half. Whatever frame nwk_open accepts as sealed, if its security control byte arrived with level and bit 7 zero and its
 -- counter is not the last one, nwk_seal of the header record and the auxiliary record in the opened record and of the payload at
@@ -25,7 +24,7 @@ use Rattle.types.specs.Keys.{keyBytes}
 use Rattle.header.specs.Same.{SameHeader}
 use Rattle.frame.specs.Opening.{openFrame}
 use Rattle.frame.specs.Marks.{handedBack}
-use Rattle.frame.specs.SealingLaw.{levelZero, BitsAgree, PlainControl}
+use Rattle.frame.specs.SealingLaw.{levelZero, PlainControl}
 use Rattle.records.specs.HeaderRecord.{headerOf}
 use Rattle.records.specs.OpenedRecord.{optionOf, openedRecordSize, markCode}
 use Rattle.nwk.specs.Answer.{refusalIn, lengthIn, clearIn, firstIn}
@@ -61,7 +60,6 @@ FirstHalf =
     (first second : ℕ) (r x p o w out : List ℕ)
     → Below 256 r → Below 256 x
     → refusalIn (sealAnswer (keyBytes first second) r x p o) ≡ 0
-    → BitsAgree (headerOf r) (optionOf x)
     → openedRecordSize ≤ length w → length p ≤ length out
     → reopened (keyBytes first second) r x p (bytesSealed (keyBytes first second) r x p o) w out
 

@@ -45,8 +45,8 @@ pub extern "C" fn nwk_read_frame(bytes: &[u8], header: &mut [u8], auxiliary: &mu
     answer(0, read.length)
 }
 
-// Write a frame without a key, the header of a record and the payload, to the front of the output; refusals 13, 17
-// and 18.
+// Write a frame without a key, the header of a record and the payload, to the front of the output; refusals 13, 28,
+// 17 and 18.
 #[no_mangle]
 pub extern "C" fn nwk_write_frame(header: &[u8], payload: &[u8], out: &mut [u8]) -> u64
     ensures answer { λ r. ⌜ r ≡ writeFrameAnswer (now (header .entry)) (now (payload .entry)) (now (out .entry)) ⌝ }
@@ -60,8 +60,8 @@ pub extern "C" fn nwk_write_frame(header: &[u8], payload: &[u8], out: &mut [u8])
     answer(written.refusal, written.length)
 }
 
-// Seal a frame from the headers of two records and the payload, to the front of the output; refusals 13, 14, 15, 21,
-// 17 and 18.
+// Seal a frame from the headers of two records and the payload, to the front of the output; refusals 13, 28, 14,
+// 28, 15, 21, 17 and 18.
 #[no_mangle]
 pub extern "C" fn nwk_seal(
     key_first: u64,

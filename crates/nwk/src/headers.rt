@@ -34,7 +34,7 @@ pub extern "C" fn nwk_read_header(bytes: &[u8], header: &mut [u8]) -> u64
     answer(0, read.length)
 }
 
-// Write the header of a record to the front of the output; refusals 13, 17 and 18.
+// Write the header of a record to the front of the output; refusals 13, 28, 17 and 18.
 #[no_mangle]
 pub extern "C" fn nwk_write_header(header: &[u8], out: &mut [u8]) -> u64
     ensures answer { λ r. ⌜ r ≡ answerBy (writeHeaderRefusal (now (header .entry)) (length (now (out .entry)))) (length (headerBytes (headerOf (now (header .entry))))) ⌝ }

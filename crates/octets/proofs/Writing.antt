@@ -1,11 +1,12 @@
 -- What a writer leaves, by its refusal's number.
 -- Assumes nothing.
-use mathlib.Core.Path.{_≡_, refl}
+use mathlib.Core.Path.{_≡_, refl, sym, ap, _∙_}
 use mathlib.Core.List.{List}
 use Prim.Native.Nat.{ℕ, _≤_}
 use native.Mathlib.Omega.{arith}
 use lib.ListN.{length}
-use Rattle.octets.specs.Writing.{Run, wrote, wroteNothing, written}
+use Rattle.octets.specs.Writing.{Run, wrote, wroteNothing, written, writtenBytes}
+use Rattle.octets.proofs.Strings.{take-over}
 use Rattle.octets.proofs.Conditions.{accepted-by, refused-by, unless-either, answer-number}
 
 pub write-accepted : (k n : ℕ) (bs o : List ℕ) → n ≡ k → n ≡ 0 → wrote bs o ≡ written k bs o
@@ -20,6 +21,10 @@ write-refused k n bs o e h = refused-by k n (wrote bs o) (λ (m : ℕ). wroteNot
 pub written-number : (n : ℕ) (bs o : List ℕ) → written n bs o .answer .refusal ≡ n
 unfolding written
 written-number n bs o = answer-number (λ (r : Run). r .answer .refusal) n (wrote bs o) (λ (m : ℕ). wroteNothing m o) refl refl
+
+-- the bytes of a writer that was not refused
+pub bytes-written : (n : ℕ) (bs o : List ℕ) → n ≡ 0 → writtenBytes (written n bs o) ≡ bs
+bytes-written n bs o e = ap writtenBytes (sym (write-accepted n n bs o refl e)) ∙ take-over o bs
 
 -- a writer's length is within the output, if its bytes are where it accepts
 pub written-within : (n : ℕ) (bs o : List ℕ) → (n ≡ 0 → length bs ≤ length o) → written n bs o .answer .length ≤ length o

@@ -2,7 +2,7 @@
 -- Assumes nothing.
 use Prim.Native.Nat.{ℕ}
 use mathlib.Core.List.{List}
-use lib.ListN.{length}
+use lib.ListN.{length, take}
 use Rattle.octets.specs.declared.Written.{Written}
 use Rattle.octets.specs.Strings.{over}
 use Rattle.octets.specs.Refusals.{unless}
@@ -22,3 +22,7 @@ wroteNothing n o = record { answer = record { refusal = n; length = 0 }; out = o
 
 unfoldable pub written : ℕ → List ℕ → List ℕ → Run
 written n bs o = unless n (wrote bs o) (wroteNothing n o)
+
+-- the bytes that were written: the output's first n, n being the length given
+abbrev pub writtenBytes : Run → List ℕ
+writtenBytes r = take (r .answer .length) (r .out)

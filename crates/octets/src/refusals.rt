@@ -80,3 +80,6 @@ pub const COUNTERS_USED_UP: u8 = 26;
 
 // 27: no complete ceiling record of the journal covers the next counter
 pub const NO_CEILING: u8 = 27;
+
+// 28: one of bits 8, 10, 11 and 12 of frame control disagrees with its field, or in sealing bit 9 is off or the extended nonce bit disagrees with the auxiliary IEEE
+pub const PRESENCE_BITS: u8 = 28;

@@ -88,4 +88,4 @@ aux-taken present a =
 
 -- what was read
 pub read-header-taken : (f : List ℕ) → Below 256 f → readHeader f .refusal ≡ 0 → badHeaderRecord (headerRecord (readHeader f .header)) ≡ false
-read-header-taken f b e = header-taken (readHeader f .header) (header-facts f b e .good)
+read-header-taken f b e = header-taken (readHeader f .header) (header-facts f b e .fields .good)

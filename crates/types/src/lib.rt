@@ -9,7 +9,7 @@ ghost use Rattle.octets.specs.Strings.{over};
 ghost use Rattle.octets.specs.Numbers.{le};
 ghost use Rattle.types.specs.Addresses.{readNwk, readPanId, readEui64, reversed};
 ghost use Rattle.types.specs.Keys.{readKey, keyBytes};
-ghost use Rattle.types.specs.Optional.{ieeeIf, ieeeBytes};
+ghost use Rattle.types.specs.Optional.{hasIeee, ieeeIf, ieeeBytes};
 
 pub mod ranges;
 
@@ -181,6 +181,16 @@ impl OptionEui64 {
             OptionEui64::Present(x)
         } else {
             OptionEui64::Absent
+        }
+    }
+
+    // Whether it is there.
+    pub fn is_present(self) -> bool
+        ensures { λ r. ⌜ r ≡ hasIeee self ⌝ }
+    {
+        match self {
+            OptionEui64::Absent => false,
+            OptionEui64::Present(_) => true,
         }
     }
 

@@ -20,6 +20,7 @@ use Rattle.header.specs.Control.{controlWord, controlOf}
 use Rattle.header.specs.Optional.{relayBytes}
 use Rattle.header.specs.Reading.{sourceAt, multicastAt, routeAt, relaysAnnounced, headerEnd, optionalRefusals, headerRefusal, relaysOf, headerBy, blankHeader, readHeader}
 use Rattle.header.specs.Writing.{fixedBytes, optionalBytes, headerBytes, badControl, badHeader, fieldRefusal}
+use Rattle.header.specs.Same.{agrees, auxAgrees}
 use Rattle.header.specs.AuxiliaryControl.{securityByte, securityOf, withLevel}
 use Rattle.header.specs.Auxiliary.{keySequenceAt, auxRefusal, auxBy, blankAux, readAux, auxBytes}
 use Rattle.frame.specs.Reading.{frameRefusal, frameRefused, frameNumber, frameBy, readFrame}
@@ -91,7 +92,7 @@ opened =
 -- ---- the rows
 
 seals-before : Holds (seals (counted probeIeee 0xFFFFFFFE) (0xAA ∷ []) sealedBefore)
-unfolding over unless firstOf tab le packed controlWord relayBytes fixedBytes optionalBytes headerBytes badControl badHeader fieldRefusal
+unfolding over unless firstOf tab le packed controlWord relayBytes fixedBytes optionalBytes headerBytes badControl badHeader agrees auxAgrees fieldRefusal
     securityByte withLevel auxBytes atLevel sealedBytes sealedLength headersRefusal lengthRefusals sealRefusals sealRefusal sealBy sealFrame fromProbe probe counted probeIeee hex sealedBefore
 seals-before =
     ap (λ (g : Generated). sealBy 0 ((headerBytes probe ++ auxBytes (atLevel sentLevel (orBlank (counted probeIeee 0xFFFFFFFE)))) ++ (g .ciphertext ++ g .tag)) lent) sealed
@@ -105,7 +106,7 @@ opens-last =
     ap (λ (v : Verified). unless (cond (not (v .valid)) 19 0) (sealedGiven (readFrame sealedLast) v lent) (openNothing (cond (not (v .valid)) 19 0) lent)) opened
 
 pub cases-hold : All Holds cases
-unfolding unless firstOf tab le packed controlWord relayBytes fixedBytes optionalBytes headerBytes badControl badHeader fieldRefusal
+unfolding unless firstOf tab le packed controlWord relayBytes fixedBytes optionalBytes headerBytes badControl badHeader agrees auxAgrees fieldRefusal
     securityByte withLevel auxBytes blankAux sealedLength headersRefusal lengthRefusals sealRefusals sealRefusal sealRefused sealBy sealFrame
     fromProbe probe counted probeIeee cases
 cases-hold = (seals-before, (refl, (refl, (refl, (refl, (refl, (opens-last, tt)))))))

@@ -24,7 +24,7 @@ put-requires : tie.Need-put-requires
 put-requires c κs =
     let passed = c .before .before in
     let w = clear-writable _ _ _ (sym (passed .before .write-refusal .ensures) ∙ passed .if1 .left) in
-    (w .good, omega (arith, w .fits))
+    (w .fields .good, omega (arith, w .fits))
 
 copy-at-requires : tie.Need-copy-at-requires
 copy-at-requires c κs =

@@ -34,7 +34,7 @@ returns c =
         s .1,
         (
           ap (λ (r : Run). r .out) run,
-          λ accepted agree room. rw run (first-half _ _ _ _ _ _ (ranges .in-range .ensures) agree accepted room),
+          λ accepted room. rw run (first-half _ _ _ _ _ _ (ranges .in-range .ensures) accepted room),
         ),
       ),
     )

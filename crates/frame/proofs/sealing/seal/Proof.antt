@@ -31,7 +31,7 @@ seal-frame-requires c κs =
     let a = passed .before .before .before .before .args in
     let s = seal-able _ _ _ _ (sym (passed .before .seal-refusal .ensures) ∙ passed .if1 .left) in
     let e = ap (λ (x : NwkAuxHeader). sealedLength 4 (a .h) x (length (a .payload .now))) (blank .or-blank .ensures) in
-    (s .headers .good, s .payload, omega (arith, e, s .whole), omega (arith, e, s .fits))
+    (s .headers .fields .good, s .payload, omega (arith, e, s .whole), omega (arith, e, s .fits))
 
 returns-2 : tie.Need-returns-2
 unfolding sealFrame

@@ -1,4 +1,4 @@
--- `field_refusal` meets its contract: one entry. Assumes nothing.
+-- `field_refusal` meets its contract: the list, a line a number. Assumes nothing.
 use borrow.Author.Needs.{needs}
 use mathlib.Core.Path.{_∙_}
 use Rattle.octets.proofs.Conditions.{in-order}
@@ -11,4 +11,6 @@ unfolding fieldRefusal
 returns c = (cc) ∙ in-order _ tt
 
 pub field-refusal-spec : {M : Type 1} → statement M
-field-refusal-spec = tie.close (tie.spec (λ c κs. search needs) (λ c κs. search needs) returns)
+field-refusal-spec =
+    tie.close
+    (tie.spec (λ c κs. search needs) (λ c κs. search needs) (λ c κs. search needs) (λ c κs. search needs) returns)

@@ -20,7 +20,7 @@ put-requires : tie.Need-put-requires
 put-requires c κs =
     let a = c .before .before .before .before .args in
     let w = header-writable (a .self) (length (a .out .now)) (sym (c .before .before .write-refusal .ensures) ∙ c .before .if1 .left) in
-    (w .good, w .fits)
+    (w .fields .good, w .fits)
 
 returns-2 : tie.Need-returns-2
 unfolding writeHeader
