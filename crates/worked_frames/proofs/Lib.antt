@@ -1,3 +1,4 @@
 -- The worked cases hold.
 pub mod Blocks
 pub mod LastCounter
+pub mod PresenceBits
