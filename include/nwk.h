@@ -23,8 +23,8 @@
 extern "C" {
 #endif
 
-#define NWK_VERSION "0.9.0"
-#define NWK_VERSION_NUMBER 0x000900
+#define NWK_VERSION "0.10.0"
+#define NWK_VERSION_NUMBER 0x000A00
 
 #ifdef __cplusplus
 #define NWK_CAST(type, value) static_cast<type>(value)
@@ -82,7 +82,8 @@ enum nwk_refusal {
   NWK_REFUSED_NO_PLACE = 24,
   NWK_REFUSED_JOURNAL_KIND = 25,
   NWK_REFUSED_COUNTERS_USED_UP = 26,
-  NWK_REFUSED_NO_CEILING = 27
+  NWK_REFUSED_NO_CEILING = 27,
+  NWK_REFUSED_PRESENCE_BITS = 28
 };
 
 /* ---- records
@@ -91,7 +92,8 @@ enum nwk_refusal {
  * presence byte (0 or 1) before each optional field. Absent fields are 0 when a record is filled and ignored when it is written. An
  * input record has exactly its size and no byte that its field cannot take, else 13; an output record has at least its size, else 18.
  *
- * A field's offset is a macro, with its bytes beside it. Writing goes by the fields present (HAS_) and writes the bits as given. */
+ * A field's offset is a macro, with its bytes beside it. Writing goes by the fields present (HAS_), and the multicast, source route and
+ * IEEE bits must agree with them, else 28: nwk_set_presence_bits sets them. */
 
 /* What reading a header gives */
 #define NWK_HEADER_RECORD 147
@@ -194,15 +196,16 @@ enum nwk_refusal {
  * source IEEE, multicast control, source route; 18 header shorter than 147. */
 uint64_t nwk_read_header(const uint8_t *bytes, size_t bytes_len, uint8_t *header, size_t header_len);
 
-/* Write the header of a record to out. Length: the bytes written. Refusals: 13 the record; 17 more than 118 bytes; 18 out shorter. */
+/* Write the header of a record to out. Length: the bytes written. Refusals: 13 the record; 28 a presence bit that disagrees with its
+ * field (nwk_set_presence_bits); 17 more than 118 bytes; 18 out shorter. */
 uint64_t nwk_write_header(const uint8_t *header, size_t header_len, uint8_t *out, size_t out_len);
 
 /* Read an auxiliary header from the front of bytes into an auxiliary record, its presence byte 1. Length: its bytes. Refusals: 1 bytes
  * over 118; 9 fewer than 6; 10 and 11 too few bytes with extended nonce, below 13 and exactly 13; 18 auxiliary shorter than 19. */
 uint64_t nwk_read_auxiliary(const uint8_t *bytes, size_t bytes_len, uint8_t *auxiliary, size_t auxiliary_len);
 
-/* Write the auxiliary header of a record to out. Length: the bytes written. Refusals: 13 the record, also where its presence byte is 0;
- * 18 out shorter. */
+/* Write the auxiliary header of a record to out, its extended nonce bit as it is. Length: the bytes written. Refusals: 13 the record, also
+ * where its presence byte is 0; 18 out shorter. */
 uint64_t nwk_write_auxiliary(const uint8_t *auxiliary, size_t auxiliary_len, uint8_t *out, size_t out_len);
 
 /* ---- frames */
@@ -215,16 +218,21 @@ uint64_t nwk_read_frame(const uint8_t *bytes, size_t bytes_len, uint8_t *header,
     size_t auxiliary_len);
 
 /* Write a frame without a key to out: the header of a record, then the payload; no auxiliary header. Length: the frame's bytes.
- * Refusals: 13 the record; 17 a payload over 108 or a frame over 118; 18 out shorter. */
+ * The security bit is written as it is. Refusals: 13 the record; 28 as nwk_write_header; 17 a payload over 108 or a frame over 118; 18
+ * out shorter. */
 uint64_t nwk_write_frame(const uint8_t *header, size_t header_len, const uint8_t *payload, size_t payload_len, uint8_t *out,
     size_t out_len);
 
-/* Seal a frame to out. Length: the frame's bytes. Bits are sent as the records have them, so for a frame that opens again set
- * NWK_HEADER_SECURITY_BIT, the multicast, source route and IEEE bits (3, 5, 6, 7) exactly where their fields are present, and
- * NWK_AUXILIARY_EXTENDED_NONCE_BIT where the auxiliary IEEE is. The level does not matter: 5 is authenticated and 0 is sent.
- * Refusals: 13 a record; 14 the auxiliary record's presence byte is 0; 15 neither record has an IEEE for the nonce (the auxiliary one,
- * else the header's source); 21 the counter is FFFFFFFF, which receivers throw away; 17 a payload over 108 or a frame over 118; 18 out
- * shorter. */
+/* Seal a frame to out. Length: the frame's bytes. The level does not matter: 5 is authenticated and 0 is sent. When the fields are filled
+ * in, three lines set the bits:
+ *
+ *   nwk_set_presence_bits(header);
+ *   header[NWK_HEADER_SECURITY_BIT] = 1;
+ *   auxiliary[NWK_AUXILIARY_EXTENDED_NONCE_BIT] = auxiliary[NWK_AUXILIARY_HAS_IEEE];
+ *
+ * Refusals: 13 a record; 28 as nwk_write_header, or the security bit is off; 14 the auxiliary record's presence byte is 0; 28 the extended
+ * nonce bit disagrees with the auxiliary IEEE; 15 neither record has an IEEE for the nonce (the auxiliary one, else the header's source);
+ * 21 the counter is FFFFFFFF, which receivers throw away; 17 a payload over 108 or a frame over 118; 18 out shorter. */
 uint64_t nwk_seal(uint64_t key_first, uint64_t key_second, const uint8_t *header, size_t header_len, const uint8_t *auxiliary,
     size_t auxiliary_len, const uint8_t *payload, size_t payload_len, uint8_t *out, size_t out_len);
 
@@ -440,6 +448,8 @@ static inline const char *nwk_refusal_text(uint8_t refusal) {
       "a record of a journal, or the one to be written, has a kind that is not 1 to 3",
       "the last counter is FFFFFFFE or above",
       "no complete ceiling record of the journal covers the next counter",
+      "one of bits 8, 10, 11 and 12 of frame control disagrees with its field, or in sealing bit 9 is off or the "
+      "extended nonce bit disagrees with the auxiliary IEEE",
   };
   return refusal < sizeof texts / sizeof texts[0] ? texts[refusal] : "a number that the list does not have";
 }
@@ -456,6 +466,14 @@ static inline struct nwk_key nwk_key_of(const uint8_t bytes[16]) {
     key.second = key.second << 8 | bytes[8 + i];
   }
   return key;
+}
+
+/* Sets the multicast, source route and IEEE bits of a header record, each exactly where its field is present (28). */
+static inline void nwk_set_presence_bits(uint8_t *header) {
+  header[NWK_HEADER_MULTICAST_BIT] = header[NWK_HEADER_HAS_MULTICAST];
+  header[NWK_HEADER_SOURCE_ROUTE_BIT] = header[NWK_HEADER_HAS_SOURCE_ROUTE];
+  header[NWK_HEADER_DESTINATION_IEEE_BIT] = header[NWK_HEADER_HAS_DESTINATION_IEEE];
+  header[NWK_HEADER_SOURCE_IEEE_BIT] = header[NWK_HEADER_HAS_SOURCE_IEEE];
 }
 
 /* Where the payload is that an answer of nwk_open speaks of, NWK_LENGTH(answer) bytes: in bytes if the frame was clear, in out if it
