@@ -22,13 +22,13 @@ use core::slice::{ChunksExact, Iter};
 /// };
 ///
 /// let key: Key = "C0C1C2C3C4C5C6C7C8C9CACBCCCDCECF".parse().unwrap();
-/// let mut header = NwkHeader::new(NwkFrameType::Data, Nwk(0x1234), Nwk(0x0000));
+/// let header = NwkHeader::new(NwkFrameType::Data, Nwk(0x1234), Nwk(0x0000));
 /// let probe = Eui64([1, 2, 3, 4, 5, 6, 7, 8]);
 ///
 /// // Three frames end to end: a clear one, a sealed one whose last bit is damaged, and a sealed one.
 /// let mut frames = [0; 3 * MAX_FRAME];
 /// let m = write(&header, b"new here", &mut frames)?;
-/// header.frame_control.security = true;
+/// let header = header.secured();
 /// let n = seal(&key, &header, Some(&NwkAuxHeader::new(1, probe)), b"21.5 C", &mut frames[m..])?;
 /// let end = m + n + seal(&key, &header, Some(&NwkAuxHeader::new(2, probe)), b"21.7 C", &mut frames[m + n..])?;
 /// frames[m + n - 1] ^= 1;

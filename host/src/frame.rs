@@ -62,7 +62,7 @@ pub fn read(frame: &[u8]) -> Result<NwkFrame<'_>, Refusal> {
 ///
 /// # Errors
 ///
-/// Refusals 13, 17, 18.
+/// Refusals 13, 28, 17, 18. The security bit is not looked at; of 28 [`NwkHeader::disagreement`] tells the bit.
 pub fn write(header: &NwkHeader, payload: &[u8], out: &mut [u8]) -> Result<usize, Refusal> {
     let record = header.record();
     // SAFETY: each pointer goes with the length of its slice, and no two slices overlap.
@@ -78,8 +78,9 @@ pub fn write(header: &NwkHeader, payload: &[u8], out: &mut [u8]) -> Result<usize
     })
 }
 
-/// Seals a frame to the front of the output, and gives its length. The caller sees to it that no frame counter is sealed twice
-/// under one key by one device: two such frames repeat the key stream.
+/// Seals a frame to the front of the output, and gives its length. The header has its security bit set ([`NwkHeader::secured`]) and
+/// its presence bits agree with its fields. The caller sees to it that no frame counter is sealed twice under one key by one
+/// device: two such frames repeat the key stream.
 ///
 /// ```
 /// use store_reader::{
@@ -87,8 +88,7 @@ pub fn write(header: &NwkHeader, payload: &[u8], out: &mut [u8]) -> Result<usize
 /// };
 ///
 /// let key: Key = "C0C1C2C3C4C5C6C7C8C9CACBCCCDCECF".parse().unwrap();
-/// let mut header = NwkHeader::new(NwkFrameType::Data, Nwk(0x1234), Nwk(0x0000));
-/// header.frame_control.security = true;
+/// let header = NwkHeader::new(NwkFrameType::Data, Nwk(0x1234), Nwk(0x0000)).secured();
 /// let auxiliary = NwkAuxHeader::new(0x12345, Eui64([1, 2, 3, 4, 5, 6, 7, 8]));
 ///
 /// let mut frame = [0; MAX_FRAME];
@@ -109,7 +109,8 @@ pub fn write(header: &NwkHeader, payload: &[u8], out: &mut [u8]) -> Result<usize
 ///
 /// # Errors
 ///
-/// Refusals 13, 14, 15, 21, 17, 18, in this order: a counter of [`u32::MAX`] is not sealed, however long the payload.
+/// Refusals 13, 28, 14, 15, 21, 17, 18, in this order: a counter of [`u32::MAX`] is not sealed, however long the payload. 28 for
+/// the extended nonce bit comes between 14 and 15; [`NwkHeader::disagreement_in_sealing`] tells the bit.
 pub fn seal(
     key: &Key,
     header: &NwkHeader,
@@ -152,12 +153,11 @@ pub fn seal(
 /// };
 ///
 /// let key: Key = "C0C1C2C3C4C5C6C7C8C9CACBCCCDCECF".parse().unwrap();
-/// let mut header = NwkHeader::new(NwkFrameType::Data, Nwk(0x1234), Nwk(0x0000));
+/// let header = NwkHeader::new(NwkFrameType::Data, Nwk(0x1234), Nwk(0x0000));
 /// let (mut sealed, mut clear) = ([0; MAX_FRAME], [0; MAX_FRAME]);
 /// let m = write(&header, b"new here", &mut clear)?;
-/// header.frame_control.security = true;
 /// let auxiliary = NwkAuxHeader::new(1, Eui64([1, 2, 3, 4, 5, 6, 7, 8]));
-/// let n = seal(&key, &header, Some(&auxiliary), b"21.5 C", &mut sealed)?;
+/// let n = seal(&key, &header.secured(), Some(&auxiliary), b"21.5 C", &mut sealed)?;
 ///
 /// let mut out = [0; MAX_PAYLOAD];
 /// match open(&key, &sealed[..n], &mut out)? {

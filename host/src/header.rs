@@ -117,7 +117,8 @@ codes! {
     }
 }
 
-/// Frame control. Writing writes the presence bits as they are here, and goes by the fields present.
+/// Frame control. Writing goes by the fields present, and is refused by 28 where a presence bit disagrees with its field;
+/// [`NwkHeader::set_presence_bits`] sets all four.
 #[derive(Debug, Clone, Copy, PartialEq, Eq)]
 pub struct NwkFrameControl {
     /// What the frame carries.
@@ -128,7 +129,8 @@ pub struct NwkFrameControl {
     pub discover_route: NwkRouteDiscovery,
     /// The presence bit of the multicast control.
     pub multicast: bool,
-    /// Whether the frame is sealed: an auxiliary header follows.
+    /// Whether the frame is sealed: an auxiliary header follows. Sealing refuses a header without it (28), and writing without a
+    /// key writes it as it is.
     pub security: bool,
     /// The presence bit of the source route.
     pub source_route: bool,
@@ -187,7 +189,8 @@ pub struct NwkHeader {
 }
 
 impl NwkHeader {
-    /// A header of version 2 without optional fields, every bit off.
+    /// A header of version 2 without optional fields, every bit off. [`with_source_ieee`](Self::with_source_ieee) and the like add
+    /// a field with its bit.
     #[must_use]
     pub fn new(frame_type: NwkFrameType, source: Nwk, destination: Nwk) -> Self {
         Self {
@@ -231,7 +234,7 @@ impl NwkHeader {
     ///
     /// # Errors
     ///
-    /// Refusals 13, 17, 18.
+    /// Refusals 13, 28, 17, 18; of 28 [`disagreement`](Self::disagreement) tells the bit.
     pub fn write(&self, out: &mut [u8]) -> Result<usize, Refusal> {
         let record = self.record();
         // SAFETY: each pointer goes with the length of its slice, and no two slices overlap.
@@ -312,7 +315,8 @@ pub struct NwkSecurityHeaderControlField {
     pub security_level: NwkSecurityLevel,
     /// Which key sealed the frame.
     pub key_id: NwkSecurityHeaderKeyId,
-    /// The presence bit of the long address; written as it is here.
+    /// The presence bit of the long address. Sealing refuses one that disagrees (28); an auxiliary header written alone has it as
+    /// it is here.
     pub extended_nonce: bool,
     /// Whether the receiver is to have verified the counter.
     pub require_verified_frame_counter: bool,
@@ -344,15 +348,25 @@ impl NwkAuxHeader {
     /// The auxiliary header of a frame under the network key, with its sender's long address for the nonce.
     #[must_use]
     pub fn new(frame_counter: u32, extended_source: Eui64) -> Self {
+        Self::with(frame_counter, Some(extended_source))
+    }
+
+    /// The same without the long address, the extended nonce bit off: the nonce has the header's source IEEE.
+    #[must_use]
+    pub fn without_ieee(frame_counter: u32) -> Self {
+        Self::with(frame_counter, None)
+    }
+
+    fn with(frame_counter: u32, extended_source: Option<Eui64>) -> Self {
         Self {
             security_control: NwkSecurityHeaderControlField {
                 security_level: NwkSecurityLevel::NoSecurity,
                 key_id: NwkSecurityHeaderKeyId::NetworkKey,
-                extended_nonce: true,
+                extended_nonce: extended_source.is_some(),
                 require_verified_frame_counter: false,
             },
             frame_counter,
-            extended_source: Some(extended_source),
+            extended_source,
             key_sequence_number: 0,
         }
     }

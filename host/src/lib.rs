@@ -11,8 +11,7 @@
 //! };
 //!
 //! let key: Key = "C0C1C2C3C4C5C6C7C8C9CACBCCCDCECF".parse().unwrap();
-//! let mut header = NwkHeader::new(NwkFrameType::Data, Nwk(0x1234), Nwk(0x0000));
-//! header.frame_control.security = true;
+//! let header = NwkHeader::new(NwkFrameType::Data, Nwk(0x1234), Nwk(0x0000)).secured();
 //! let probe: Eui64 = "00:12:4B:00:1C:A1:B2:C3".parse().unwrap();
 //!
 //! let mut frame = [0; MAX_FRAME];
@@ -33,6 +32,25 @@
 //! [`Senders`] keeps the counters of up to [`MAX_SENDERS`] senders, so that no frame is taken twice. A journal keeps outgoing counters
 //! from being used twice, also after a power cut: [`recover`], [`write_record`], [`next_counter`] and [`shrink`] over bytes, and
 //! `JournalFile` over a file.
+//!
+//! # Presence bits
+//!
+//! Each optional field of a header has a bit that says whether it is there, and writing and sealing refuse a header whose bits
+//! disagree by 28. [`NwkHeader::with_source_ieee`] and the like set both. Where fields were filled in by hand, three lines set the
+//! bits for sealing:
+//!
+//! ```
+//! # use store_reader::{Eui64, Nwk, NwkAuxHeader, NwkFrameType, NwkHeader, PresenceBit};
+//! # let mut header = NwkHeader::new(NwkFrameType::Data, Nwk(0x1234), Nwk(0x0000));
+//! # let mut auxiliary = NwkAuxHeader::without_ieee(1);
+//! header.source_ieee = Some(Eui64([1, 2, 3, 4, 5, 6, 7, 8]));
+//! assert_eq!(header.disagreement_in_sealing(Some(&auxiliary)), Some(PresenceBit::SourceIeee));
+//!
+//! header.set_presence_bits();
+//! header.frame_control.security = true;
+//! auxiliary.security_control.extended_nonce = auxiliary.extended_source.is_some();
+//! assert_eq!(header.disagreement_in_sealing(Some(&auxiliary)), None);
+//! ```
 //!
 //! # The order for frames that arrive
 //!
@@ -66,6 +84,7 @@ mod journal;
 mod journal_file;
 mod list;
 mod opened;
+mod presence;
 mod record;
 mod refusal;
 mod senders;
@@ -96,6 +115,7 @@ pub use journal_file::{keep_owner, open_journal_to_copy, JournalReading};
 pub use journal_file::{JournalError, JournalFile};
 pub use list::{Full, List};
 pub use opened::{ClearFrame, Opened, OpenedFrame};
+pub use presence::PresenceBit;
 pub use refusal::Refusal;
 pub use senders::{SenderRecord, Senders};
 

@@ -45,6 +45,7 @@ refusals! {
     JOURNAL_KIND = 25, "a record of a journal, or the one to be written, has a kind that is not 1 to 3";
     COUNTERS_USED_UP = 26, "the last counter is FFFFFFFE or above";
     NO_CEILING = 27, "no complete ceiling record of the journal covers the next counter";
+    PRESENCE_BITS = 28, "one of bits 8, 10, 11 and 12 of frame control disagrees with its field, or in sealing bit 9 is off or the extended nonce bit disagrees with the auxiliary IEEE";
 }
 
 /// A refusal. Nothing that was lent to the operation has changed.
@@ -55,7 +56,7 @@ refusals! {
 /// let refusal = read(&[0x08, 0x00, 0x00]).unwrap_err();
 /// assert_eq!(refusal.number(), 2);
 /// assert_eq!(refusal.to_string(), "refused by 2: a header has fewer than 8 bytes");
-/// assert_eq!(Refusal::all().count(), 27);
+/// assert_eq!(Refusal::all().count(), 28);
 ///
 /// let why = match refusal {
 ///     Refusal::WRONG_MIC => "damaged, or another key",

@@ -74,8 +74,7 @@ impl Eq for SenderRecord {}
 ///
 /// let key: Key = "C0C1C2C3C4C5C6C7C8C9CACBCCCDCECF".parse().unwrap();
 /// let probe: Eui64 = "00:12:4B:00:1C:A1:B2:C3".parse().unwrap();
-/// let mut header = NwkHeader::new(NwkFrameType::Data, Nwk(0x7A10), Nwk(0x0000));
-/// header.frame_control.security = true;
+/// let header = NwkHeader::new(NwkFrameType::Data, Nwk(0x7A10), Nwk(0x0000)).secured();
 /// let mut frame = [0; MAX_FRAME];
 /// let n = seal(&key, &header, Some(&NwkAuxHeader::new(74565, probe)), b"21.5 C", &mut frame)?;
 ///

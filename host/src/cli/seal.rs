@@ -69,22 +69,20 @@ fn sealed(entry: &Entry, sealing: &Sealing, counter: u32) -> Result<Vec<u8>, Not
     }
 }
 
-/// The sealed form of a clear frame: its security bit set, and an auxiliary header behind its header.
+/// The sealed form of a clear frame: its security bit set, and an auxiliary header behind its header. What was read has presence bits
+/// that agree, so it is never refused by 28.
 fn seal_frame(bytes: &[u8], sealing: &Sealing, counter: u32) -> Result<Vec<u8>, NotSealed> {
     let frame = read(bytes)?;
     if frame.auxiliary.is_some() {
         return Err(NotSealed::Because("the frame is sealed already".to_string()));
     }
-    let mut header = frame.header;
-    header.frame_control.security = true;
-    let mut auxiliary = NwkAuxHeader::new(counter, sealing.ieee.unwrap_or_default());
+    let mut auxiliary = match sealing.ieee {
+        Some(ieee) => NwkAuxHeader::new(counter, ieee),
+        None => NwkAuxHeader::without_ieee(counter),
+    };
     auxiliary.key_sequence_number = sealing.key_sequence;
-    if sealing.ieee.is_none() {
-        auxiliary.extended_source = None;
-        auxiliary.security_control.extended_nonce = false;
-    }
     let mut out = vec![0; MAX_FRAME];
-    let n = seal(&sealing.key.key, &header, Some(&auxiliary), frame.rest, &mut out)?;
+    let n = seal(&sealing.key.key, &frame.header.secured(), Some(&auxiliary), frame.rest, &mut out)?;
     out.truncate(n);
     Ok(out)
 }
