@@ -257,7 +257,7 @@ static void call_and_print(struct call *c) {
 
 /* ---- inputs */
 
-/* A header record whose bits mostly agree with its fields. */
+/* A header record whose bits mostly agree with its fields: each of the four presence bits is turned in some. */
 static void header_record(struct buffer *b) {
   uint8_t *r = b->bytes;
   random_bytes(b, NWK_HEADER_RECORD);
@@ -267,12 +267,12 @@ static void header_record(struct buffer *b) {
   for (size_t i = 3; i < 9; i++) {
     r[i] %= 2;
   }
-  r[4] = percent(85) ? 1 : 0;
+  r[4] = percent(92) ? 1 : 0;
   r[9] %= 4;
-  r[16] = percent(10) ? r[6] ^ 1 : r[6];
-  r[25] = percent(10) ? r[7] ^ 1 : r[7];
-  r[34] = percent(10) ? r[3] ^ 1 : r[3];
-  r[36] = percent(10) ? r[5] ^ 1 : r[5];
+  r[16] = percent(4) ? r[6] ^ 1 : r[6];
+  r[25] = percent(4) ? r[7] ^ 1 : r[7];
+  r[34] = percent(4) ? r[3] ^ 1 : r[3];
+  r[36] = percent(4) ? r[5] ^ 1 : r[5];
   r[37] = (uint8_t)below(percent(80) ? 6 : 60);
 }
 
@@ -287,7 +287,7 @@ static void auxiliary_record(struct buffer *b) {
   if (percent(8)) {
     memset(r + NWK_AUXILIARY_COUNTER, 0xFF, 4);
   }
-  r[9] = percent(10) ? r[3] ^ 1 : r[3];
+  r[9] = percent(6) ? r[3] ^ 1 : r[3];
 }
 
 /* The greatest value of the bytes from 1 on, by identifier; 255 behind them. */
@@ -364,16 +364,18 @@ static void result(struct call *c, struct buffer *to) {
   to->n = NWK_REFUSAL(answer) == 0 ? NWK_LENGTH(answer) : 0;
 }
 
-/* A frame sealed under the call's key, or one without security. */
+/* A frame sealed under the call's key, or one without an auxiliary header, which is clear where its security bit is off. */
 static void frame(const struct call *c, struct buffer *to) {
   static struct call writing;
   writing.key_first = c->key_first;
   writing.key_second = c->key_second;
-  writing.operation = percent(80) ? SEAL : WRITE_FRAME;
+  writing.operation = percent(70) ? SEAL : WRITE_FRAME;
   do {
     header_record(&writing.in[0]);
     if (writing.operation == SEAL) {
       auxiliary_record(&writing.in[1]);
+    } else {
+      writing.in[0].bytes[4] = percent(50) ? 1 : 0;
     }
     random_bytes(&writing.in[writing.operation == SEAL ? 2 : 1], below(percent(90) ? 50 : 112));
     result(&writing, to);

@@ -69,6 +69,7 @@ fn c_and_rust_get_the_same_answers() {
     let printed = String::from_utf8(run.stdout).expect("lines of text");
     let mut calls = [0; OPERATIONS.len()];
     let mut accepted = [0; OPERATIONS.len()];
+    let mut presence_bits = [0; OPERATIONS.len()];
     let (mut clear, mut last_counter) = (0, 0);
     for line in printed.lines() {
         let (call, from_c) = parsed(line).unwrap_or_else(|| panic!("a line that says no call: {line}"));
@@ -79,6 +80,7 @@ fn c_and_rust_get_the_same_answers() {
         calls[call.operation as usize] += 1;
         accepted[call.operation as usize] += usize::from(from_c.refusal() == 0);
         clear += usize::from(from_c.clear());
+        presence_bits[call.operation as usize] += usize::from(from_c.refusal() == 28);
         last_counter += usize::from(from_c.refusal() == 21);
     }
     println!("{} lines, accepted by operation {accepted:?}, {clear} clear frames", printed.lines().count());
@@ -87,5 +89,8 @@ fn c_and_rust_get_the_same_answers() {
     assert!(accepted.iter().all(|&n| n >= ROUNDS / 8), "accepted by operation {accepted:?}");
     let sealed = accepted[Operation::Open as usize] - clear;
     assert!(last_counter >= ROUNDS / 50, "{last_counter} calls refused by 21");
+    for writer in [Operation::WriteHeader, Operation::WriteFrame, Operation::Seal] {
+        assert!(presence_bits[writer as usize] >= ROUNDS / 20, "refused by 28 by operation {presence_bits:?}");
+    }
     assert!(clear >= ROUNDS / 20 && sealed >= ROUNDS / 20, "{clear} clear and {sealed} sealed frames opened");
 }

@@ -11,6 +11,7 @@ use support::counter_tally::CounterTally;
 use support::generate;
 use support::header_comments;
 use support::operations::{Extent, Operation, OPERATIONS};
+use support::presence_tally::PresenceTally;
 use support::random::Random;
 use support::tally::{all_kinds, Tally};
 
@@ -25,6 +26,7 @@ fn every_operation_answers_as_the_model() {
     let mut random = Random::new(SEED);
     let (mut tally, mut bursts) = (Tally::new(), BurstTally::default());
     let (mut clear, mut counters) = (ClearTally::default(), CounterTally::default());
+    let mut presence = PresenceTally::default();
     for number in 0..CALLS_EACH {
         for operation in OPERATIONS {
             let generated = generate::call(operation, number, &mut random);
@@ -32,18 +34,20 @@ fn every_operation_answers_as_the_model() {
             tally.count(&generated.call, &outcome, &generated.exact);
             clear.count(&generated.call, &outcome);
             counters.count(&generated.call, &outcome);
+            presence.count(&generated.call, &outcome);
             if operation == Operation::OpenBurst {
                 bursts.count(&generated.call, &outcome);
             }
         }
     }
     println!("{} calls\n{}\n{}", tally.all_calls(), tally.report(), bursts.report());
-    println!("{}\n{}", clear.report(), counters.report());
+    println!("{}\n{}\n{}", clear.report(), counters.report(), presence.report());
     assert!(tally.all_calls() >= CALLS_IN_ALL);
     OPERATIONS.into_iter().for_each(|operation| check_tally(&tally, operation));
     bursts.check(AT_LEAST);
     clear.check(AT_LEAST);
     counters.check(AT_LEAST);
+    presence.check(AT_LEAST);
     // "Opening no longer gives 14, sealing still does"; of a burst's frames its own tally says so.
     assert_eq!(tally.answers(Operation::Open, 14), 0);
     assert!(tally.answers(Operation::Seal, 14) >= AT_LEAST);

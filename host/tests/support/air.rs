@@ -167,8 +167,7 @@ impl Air {
         if fate == Fate::Lost {
             return;
         }
-        let mut header = NwkHeader::new(NwkFrameType::Data, Nwk(source), Nwk(0));
-        header.frame_control.security = true;
+        let mut header = NwkHeader::new(NwkFrameType::Data, Nwk(source), Nwk(0)).secured();
         header.sequence_number = sequence;
         let auxiliary = NwkAuxHeader::new(counter, Eui64::from(sealer.address));
         let mut frame = [0; MAX_FRAME];

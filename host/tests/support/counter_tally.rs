@@ -78,7 +78,7 @@ fn refused(number: u8, call: &Call) -> Option<&'static str> {
 }
 
 fn behind(call: &Call) -> Option<&'static str> {
-    let length = model::sealed_length(call)?;
+    let length = model::written_length(call)?;
     let too_long = call.inputs[2].len() > MAX_PAYLOAD || length > MAX_FRAME;
     Some(match (too_long, call.rooms[0] < length) {
         (false, false) => "21 and no other",

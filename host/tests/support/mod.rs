@@ -19,6 +19,7 @@ pub mod man;
 pub mod model;
 pub mod nettle;
 pub mod operations;
+pub mod presence_tally;
 pub mod random;
 pub mod sender_tally;
 pub mod senders;

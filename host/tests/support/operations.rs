@@ -136,7 +136,7 @@ const fn shape(
 /// In the order of `OPERATIONS`. The refusals are those of the comments in `include/nwk.h`, which `generated.rs` looks at.
 static SHAPES: [Shape; 17] = [
     shape("nwk_read_header", false, &[("bytes", true)], &[Fixed(HEADER_RECORD)], &[1, 2, 3, 4, 5, 6, 7, 8, 18]),
-    shape("nwk_write_header", false, &[("header", false)], &[Length], &[13, 17, 18]),
+    shape("nwk_write_header", false, &[("header", false)], &[Length], &[13, 28, 17, 18]),
     shape("nwk_read_auxiliary", false, &[("bytes", true)], &[Fixed(AUXILIARY_RECORD)], &[1, 9, 10, 11, 18]),
     shape("nwk_write_auxiliary", false, &[("auxiliary", false)], &[Length], &[13, 18]),
     shape(
@@ -146,13 +146,13 @@ static SHAPES: [Shape; 17] = [
         &[Fixed(HEADER_RECORD), Fixed(AUXILIARY_RECORD)],
         &[1, 2, 3, 4, 5, 6, 7, 8, 9, 10, 11, 12, 18],
     ),
-    shape("nwk_write_frame", false, &[("header", false), ("payload", true)], &[Length], &[13, 17, 18]),
+    shape("nwk_write_frame", false, &[("header", false), ("payload", true)], &[Length], &[13, 28, 17, 18]),
     shape(
         "nwk_seal",
         true,
         &[("header", false), ("auxiliary", false), ("payload", true)],
         &[Length],
-        &[13, 14, 15, 21, 17, 18],
+        &[13, 28, 14, 15, 21, 17, 18],
     ),
     shape(
         "nwk_open",

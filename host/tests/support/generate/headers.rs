@@ -1,7 +1,7 @@
 //! Generated headers and auxiliary headers, as bytes and as records.
 use crate::support::model::auxiliary::{self, Auxiliary};
 use crate::support::model::header::{
-    Header, SourceRoute, DESTINATION_IEEE, MAX_RELAYS, MULTICAST, SECURITY, SOURCE_IEEE, SOURCE_ROUTE,
+    Header, SourceRoute, DESTINATION_IEEE, MAX_RELAYS, MULTICAST, PRESENCE, SECURITY, SOURCE_IEEE, SOURCE_ROUTE,
 };
 use crate::support::model::LAST_COUNTER;
 use crate::support::random::Random;
@@ -37,7 +37,8 @@ pub fn plain_header(random: &mut Random) -> Header {
     header
 }
 
-fn agree(header: &mut Header) {
+/// Sets the four presence bits as the fields are.
+pub fn agree(header: &mut Header) {
     header.bits[MULTICAST] = header.multicast_control.is_some();
     header.bits[SOURCE_ROUTE] = header.source_route.is_some();
     header.bits[DESTINATION_IEEE] = header.destination_ieee.is_some();
@@ -47,8 +48,11 @@ fn agree(header: &mut Header) {
 /// Mostly a few relays, so that a payload fits behind them; sometimes up to all 54.
 fn source_route(random: &mut Random) -> SourceRoute {
     let most = if random.percent(75) { 5 } else { MAX_RELAYS };
-    let n = random.between(0, most);
-    SourceRoute { index: random.byte(), relays: (0..n).map(|_| random.array()).collect() }
+    source_route_of(random.between(0, most), random)
+}
+
+fn source_route_of(relays: usize, random: &mut Random) -> SourceRoute {
+    SourceRoute { index: random.byte(), relays: (0..relays).map(|_| random.array()).collect() }
 }
 
 /// An auxiliary header whose presence bit agrees with its field.
@@ -104,11 +108,18 @@ pub fn sized(mut bytes: Vec<u8>, wanted: Option<usize>, random: &mut Random) -> 
     bytes
 }
 
-/// A header record for writing: its bits need not agree with its fields, and places that are not read may hold anything.
-pub fn any_header_record(random: &mut Random) -> Vec<u8> {
-    let mut header = header(80, random);
-    if random.percent(40) {
-        header.bits = std::array::from_fn(|_| random.bit());
+/// A header record for writing, the security bit set in so many of 100; some headers are too long. The presence bits of most agree
+/// with the fields; in some one of them does not, and a few have any bits. Places that are not read may hold anything.
+pub fn any_header_record(secured: usize, random: &mut Random) -> Vec<u8> {
+    let mut header = header(secured, random);
+    if random.percent(8) {
+        header.source_route = Some(source_route_of(random.between(44, MAX_RELAYS), random));
+        agree(&mut header);
+    }
+    match random.below(25) {
+        0..=3 => header.bits[random.pick(&PRESENCE)] ^= true,
+        4 => header.bits = std::array::from_fn(|_| random.bit()),
+        _ => {}
     }
     let mut record = header.record();
     if random.percent(50) {
@@ -142,8 +153,8 @@ pub fn scatter(places: &mut [u8], random: &mut Random) {
 /// An auxiliary record for writing, sometimes without the auxiliary header or with a bit that does not agree.
 pub fn any_auxiliary_record(random: &mut Random) -> Vec<u8> {
     let mut some = auxiliary(random);
-    if random.percent(30) {
-        some.extended_nonce = random.bit();
+    if random.percent(8) {
+        some.extended_nonce ^= true;
     }
     let mut record = auxiliary::record(&Some(some));
     if record[9] == 0 && random.bit() {

@@ -48,13 +48,13 @@ fn undamaged(operation: Operation, wanted: Option<usize>, random: &mut Random) -
     let key = random.array();
     let inputs = match operation {
         ReadHeader => vec![headers::header_bytes(wanted, random)],
-        WriteHeader => vec![headers::any_header_record(random)],
+        WriteHeader => vec![headers::any_header_record(50, random)],
         ReadAuxiliary => vec![headers::auxiliary_bytes(wanted, random)],
         WriteAuxiliary => vec![headers::any_auxiliary_record(random)],
         ReadFrame | Open => vec![sealed::frame(&key, wanted, random)],
-        WriteFrame => vec![headers::any_header_record(random), payload(wanted, random)],
+        WriteFrame => vec![headers::any_header_record(50, random), payload(wanted, random)],
         Seal => {
-            vec![headers::any_header_record(random), headers::any_auxiliary_record(random), payload(wanted, random)]
+            vec![headers::any_header_record(92, random), headers::any_auxiliary_record(random), payload(wanted, random)]
         }
         OpenBurst => bursts::inputs(&key, random),
         PayloadKind => vec![code(5, random)],
@@ -80,11 +80,13 @@ fn payload(wanted: Option<usize>, random: &mut Random) -> Vec<u8> {
 }
 
 /// What each output needs, none where the call is refused however much is lent. For a burst its lengths' number says it, and for
-/// sealing the two records and the payload, whatever else is refused.
+/// writing and sealing the records and the payload, whatever else is refused.
 fn needed(call: &Call) -> Option<Vec<usize>> {
     match call.operation {
         Operation::OpenBurst => return Some(bursts::needed(call)),
-        Operation::Seal => return Some(vec![model::sealed_length(call)?]),
+        Operation::WriteHeader | Operation::WriteFrame | Operation::Seal => {
+            return Some(vec![model::written_length(call)?]);
+        }
         _ => {}
     }
     let rooms = vec![ROOMY; call.operation.shape().outputs.len()];

@@ -51,6 +51,7 @@ impl Auxiliary {
         Auxiliary { level, ..self.clone() }
     }
 
+    /// The extended nonce bit is set exactly if the IEEE is present.
     pub fn agrees(&self) -> bool {
         self.extended_nonce == self.ieee.is_some()
     }

@@ -30,12 +30,13 @@ pub struct SourceRoute {
     pub relays: Vec<[u8; 2]>,
 }
 
-/// Places in `Header::bits`.
+/// Places in `Header::bits`, and those of them that are presence bits: bits 8, 10, 11 and 12 of frame control.
 pub const MULTICAST: usize = 0;
 pub const SECURITY: usize = 1;
 pub const SOURCE_ROUTE: usize = 2;
 pub const DESTINATION_IEEE: usize = 3;
 pub const SOURCE_IEEE: usize = 4;
+pub const PRESENCE: [usize; 4] = [MULTICAST, SOURCE_ROUTE, DESTINATION_IEEE, SOURCE_IEEE];
 
 /// The bytes not yet read.
 struct Rest<'a>(&'a [u8]);

@@ -99,8 +99,16 @@ fn read_header(bytes: &[u8], rooms: &[usize]) -> Answer {
     Ok(Done::new(length, vec![header.record()]))
 }
 
+/// The header of a record that "the header writer" takes: it "refuses any header where one of bits 8, 10, 11, 12 disagrees with
+/// its field" (document 02, request 8), "after 13". Bit 9 is not one of them.
+fn header_to_write(record: &[u8]) -> Result<header::Header, u8> {
+    let header = header::Header::of_record(record)?;
+    refuse(&[(28, !header.agrees())])?;
+    Ok(header)
+}
+
 fn write_header(record: &[u8], rooms: &[usize]) -> Answer {
-    let bytes = header::Header::of_record(record)?.bytes();
+    let bytes = header_to_write(record)?.bytes();
     refuse(&[(17, bytes.len() > MAX_FRAME), (18, rooms[0] < bytes.len())])?;
     given(bytes)
 }
@@ -125,23 +133,35 @@ fn read_frame(bytes: &[u8], rooms: &[usize]) -> Answer {
 }
 
 fn write_frame(record: &[u8], payload: &[u8], rooms: &[usize]) -> Answer {
-    let mut bytes = header::Header::of_record(record)?.bytes();
+    let mut bytes = header_to_write(record)?.bytes();
     bytes.extend(payload);
     let too_long = payload.len() > MAX_PAYLOAD || bytes.len() > MAX_FRAME;
     refuse(&[(17, too_long), (18, rooms[0] < bytes.len())])?;
     given(bytes)
 }
 
-/// How many bytes a call of sealing would write if nothing were refused; none if a record is, or there is no auxiliary header.
-pub fn sealed_length(call: &Call) -> Option<usize> {
+/// How many bytes a call that writes a header, a frame or a sealed one would write if nothing were refused; none if a record is, or
+/// sealing has no auxiliary header.
+pub fn written_length(call: &Call) -> Option<usize> {
     let header = header::Header::of_record(&call.inputs[0]).ok()?;
-    let auxiliary = auxiliary::of_record(&call.inputs[1]).ok()??;
-    Some(frame::sealed_length(&header, &auxiliary, &call.inputs[2]))
+    match call.operation {
+        Operation::WriteFrame => Some(header.bytes().len() + call.inputs[1].len()),
+        Operation::Seal => {
+            let auxiliary = auxiliary::of_record(&call.inputs[1]).ok()??;
+            Some(frame::sealed_length(&header, &auxiliary, &call.inputs[2]))
+        }
+        _ => Some(header.bytes().len()),
+    }
 }
 
+/// "28 for the header's bits, bit 9 among them when sealing, after 13 and before 14; 28 for the extended nonce bit, after 14 and
+/// before 15" (document 02, request 8).
 fn seal(key: &[u8; 16], header: &[u8], auxiliary: &[u8], payload: &[u8], rooms: &[usize]) -> Answer {
     let header = header::Header::of_record(header)?;
-    let auxiliary = auxiliary::of_record(auxiliary)?.ok_or(14)?;
+    let auxiliary = auxiliary::of_record(auxiliary)?;
+    refuse(&[(28, !header.agrees() || !header.bits[header::SECURITY])])?;
+    let auxiliary = auxiliary.ok_or(14)?;
+    refuse(&[(28, !auxiliary.agrees())])?;
     let ieee = frame::nonce_ieee(&header, &auxiliary).ok_or(15)?;
     let length = frame::sealed_length(&header, &auxiliary, payload);
     let too_long = payload.len() > MAX_PAYLOAD || length > MAX_FRAME;
