@@ -7,34 +7,40 @@
 #include "nwk.h"
 
 #include <stdio.h>
+#include <string.h>
 
 static const uint8_t key_bytes[16] = {
     0xC0, 0xC1, 0xC2, 0xC3, 0xC4, 0xC5, 0xC6, 0xC7, 0xC8, 0xC9, 0xCA, 0xCB, 0xCC, 0xCD, 0xCE, 0xCF,
 };
 
-/* Seals a reading of 6 bytes from 0x1234 under a frame counter, and gives the frame's length, 0 where that is refused. */
-static uint16_t seal(struct nwk_key key, uint32_t counter, const char *reading, uint8_t *frame, size_t room) {
-  uint8_t header[NWK_HEADER_RECORD] = {0};
+/* Fills in a header from 0x1234, with its presence bits. */
+static void fill_header(uint8_t *header) {
+  memset(header, 0, NWK_HEADER_RECORD);
   header[NWK_HEADER_VERSION] = 2;
-  header[NWK_HEADER_SECURITY_BIT] = 1;
   nwk_put16(header + NWK_HEADER_SOURCE, 0x1234);
   header[NWK_HEADER_RADIUS] = 30;
+  nwk_set_presence_bits(header);
+}
+
+/* Seals a reading of 6 bytes under a frame counter, and gives the frame's length, 0 where that is refused. */
+static uint16_t seal(struct nwk_key key, uint32_t counter, const char *reading, uint8_t *frame, size_t room) {
+  uint8_t header[NWK_HEADER_RECORD];
+  fill_header(header);
+  header[NWK_HEADER_SECURITY_BIT] = 1;
   uint8_t auxiliary[NWK_AUXILIARY_RECORD] = {0};
   auxiliary[NWK_AUXILIARY_PRESENT] = 1;
   auxiliary[NWK_AUXILIARY_KEY_ID] = 1;
-  auxiliary[NWK_AUXILIARY_EXTENDED_NONCE_BIT] = 1;
   nwk_put32(auxiliary + NWK_AUXILIARY_COUNTER, counter);
   auxiliary[NWK_AUXILIARY_HAS_IEEE] = 1;
+  auxiliary[NWK_AUXILIARY_EXTENDED_NONCE_BIT] = auxiliary[NWK_AUXILIARY_HAS_IEEE];
   return (uint16_t)NWK_LENGTH(nwk_seal(key.first, key.second, header, sizeof header, auxiliary, sizeof auxiliary,
                                        (const uint8_t *)reading, 6, frame, room));
 }
 
-/* Writes a clear reading of 6 bytes from 0x1234, and gives the frame's length, 0 where that is refused. */
+/* Writes a clear reading of 6 bytes, and gives the frame's length, 0 where that is refused. */
 static uint16_t leave_clear(const char *reading, uint8_t *frame, size_t room) {
-  uint8_t header[NWK_HEADER_RECORD] = {0};
-  header[NWK_HEADER_VERSION] = 2;
-  nwk_put16(header + NWK_HEADER_SOURCE, 0x1234);
-  header[NWK_HEADER_RADIUS] = 30;
+  uint8_t header[NWK_HEADER_RECORD];
+  fill_header(header);
   return (uint16_t)NWK_LENGTH(nwk_write_frame(header, sizeof header, (const uint8_t *)reading, 6, frame, room));
 }
 

@@ -1,5 +1,5 @@
-/* Seals a frame, opens it again, and shows that a damaged one, and one to be sealed with the last counter, are refused with
- * nothing changed.
+/* Seals a frame, opens it again, and shows that a damaged one, one to be sealed with the last counter, and one whose header has an
+ * address without its bit are refused with nothing changed.
  *
  *   rt staticlib nwk
  *   cc -Wall -Wextra -Iinclude examples/seal_open.c target/staticlib/libnwk.a -o seal_open && ./seal_open
@@ -41,24 +41,26 @@ static int untouched(const uint8_t *bytes, size_t n) {
 }
 
 int main(void) {
-  /* A data frame of version 2 from 0x1234 to 0x0000, radius 30, sequence number 7, discovery on, security bit set. */
+  /* A data frame of version 2 from 0x1234 to 0x0000, radius 30, sequence number 7, discovery on. */
   uint8_t header[NWK_HEADER_RECORD] = {0};
   header[NWK_HEADER_VERSION] = 2;
   header[NWK_HEADER_DISCOVERY] = 1;
-  header[NWK_HEADER_SECURITY_BIT] = 1;
   nwk_put16(header + NWK_HEADER_SOURCE, 0x1234);
   header[NWK_HEADER_RADIUS] = 30;
   header[NWK_HEADER_SEQUENCE] = 7;
-  /* The network key, an extended nonce, frame counter 0x00012345, IEEE 01 02 .. 08 in wire order. */
+  /* The network key, frame counter 0x00012345, IEEE 01 02 .. 08 in wire order. */
   uint8_t auxiliary[NWK_AUXILIARY_RECORD] = {0};
   auxiliary[NWK_AUXILIARY_PRESENT] = 1;
   auxiliary[NWK_AUXILIARY_KEY_ID] = 1;
-  auxiliary[NWK_AUXILIARY_EXTENDED_NONCE_BIT] = 1;
   nwk_put32(auxiliary + NWK_AUXILIARY_COUNTER, 0x00012345);
   auxiliary[NWK_AUXILIARY_HAS_IEEE] = 1;
   for (uint8_t i = 0; i < 8; i++) {
     auxiliary[NWK_AUXILIARY_IEEE + i] = i + 1;
   }
+  /* The bits: each presence bit as its field is, and that the frame is sealed. */
+  nwk_set_presence_bits(header);
+  header[NWK_HEADER_SECURITY_BIT] = 1;
+  auxiliary[NWK_AUXILIARY_EXTENDED_NONCE_BIT] = auxiliary[NWK_AUXILIARY_HAS_IEEE];
   const uint8_t payload[] = {'s', 't', 'o', 'r', 'e', ' ', 'r', 'e', 'a', 'd', 'e', 'r'};
   const struct nwk_key key = nwk_key_of(key_bytes);
 
@@ -119,6 +121,15 @@ int main(void) {
                            sizeof payload, frame, sizeof frame);
   printf("last counter: refusal %u, length %u\n", NWK_REFUSAL(last), NWK_LENGTH(last));
   if (NWK_REFUSAL(last) != NWK_REFUSED_LAST_COUNTER || NWK_LENGTH(last) != 0 || !untouched(frame, sizeof frame)) {
+    return 1;
+  }
+
+  /* A long source address without its bit, which a receiver would take for payload: refused by 28. */
+  header[NWK_HEADER_HAS_SOURCE_IEEE] = 1;
+  uint64_t disagreeing = nwk_write_frame(header, sizeof header, payload, sizeof payload, frame, sizeof frame);
+  printf("address without its bit: refusal %u, length %u\n", NWK_REFUSAL(disagreeing), NWK_LENGTH(disagreeing));
+  if (NWK_REFUSAL(disagreeing) != NWK_REFUSED_PRESENCE_BITS || NWK_LENGTH(disagreeing) != 0 ||
+      !untouched(frame, sizeof frame)) {
     return 1;
   }
   return 0;

@@ -1,5 +1,5 @@
-/* What nwk.h adds to the functions: names, texts, the key's two numbers, where a payload is, a list of senders, a journal, and NULL
- * for an empty slice. It is C and C++, and host/tests/c_header.rs compares what it prints.
+/* What nwk.h adds to the functions: names, texts, the key's two numbers, where a payload is, presence bits, a list of senders, a
+ * journal, and NULL for an empty slice. It is C and C++, and host/tests/c_header.rs compares what it prints.
  *
  *   cc -std=c11 -Wall -Wextra -Iinclude tests/header.c target/staticlib/libnwk.a -o header && ./header
  *   g++ -x c++ -Wall -Wextra -Wold-style-cast -Iinclude tests/header.c -x none target/staticlib/libnwk.a -o header && ./header
@@ -11,7 +11,7 @@
 #include <string.h>
 
 static void print_texts(void) {
-  for (unsigned number = 0; number <= 28; number++) {
+  for (unsigned number = 0; number <= 29; number++) {
     printf("%u %s\n", number, nwk_refusal_text(NWK_CAST(uint8_t, number)));
   }
 }
@@ -105,6 +105,61 @@ static void print_payloads(void) {
 
 static void print_answer(const char *name, uint64_t answer) {
   printf("%s %u %u\n", name, NWK_REFUSAL(answer), NWK_LENGTH(answer));
+}
+
+/* The four bits that nwk_set_presence_bits sets for each choice of fields, whatever they were before. */
+static void print_bits(void) {
+  printf("bits");
+  for (unsigned fields = 0; fields < 16; fields++) {
+    uint8_t header[NWK_HEADER_RECORD];
+    memset(header, fields % 2 == 0 ? 1 : 0, sizeof header);
+    header[NWK_HEADER_HAS_MULTICAST] = fields & 1;
+    header[NWK_HEADER_HAS_SOURCE_ROUTE] = fields >> 1 & 1;
+    header[NWK_HEADER_HAS_DESTINATION_IEEE] = fields >> 2 & 1;
+    header[NWK_HEADER_HAS_SOURCE_IEEE] = fields >> 3 & 1;
+    nwk_set_presence_bits(header);
+    printf(" %u%u%u%u", header[NWK_HEADER_MULTICAST_BIT], header[NWK_HEADER_SOURCE_ROUTE_BIT],
+           header[NWK_HEADER_DESTINATION_IEEE_BIT], header[NWK_HEADER_SOURCE_IEEE_BIT]);
+  }
+  printf("\n");
+}
+
+/* Seals one byte and opens it again: the answer, the mark, and how the opened header compares with the one handed over. */
+static void print_sealed(const char *name, const uint8_t *header, const uint8_t *auxiliary) {
+  const uint8_t payload[1] = {0xAA};
+  uint8_t frame[NWK_MAX_FRAME] = {0};
+  uint8_t record[NWK_OPENED_RECORD] = {0};
+  uint8_t out[NWK_MAX_PAYLOAD] = {0};
+  const uint64_t answer = nwk_seal(0, 0, header, NWK_HEADER_RECORD, auxiliary, NWK_AUXILIARY_RECORD, payload, sizeof payload, frame,
+                                   sizeof frame);
+  if (NWK_REFUSAL(answer) != NWK_ACCEPTED) {
+    print_answer(name, answer);
+    return;
+  }
+  nwk_open(0, 0, frame, NWK_LENGTH(answer), record, sizeof record, out, sizeof out);
+  printf("%s %u %u mark %u header %d\n", name, NWK_REFUSAL(answer), NWK_LENGTH(answer), record[NWK_OPENED_MARK],
+         memcmp(record + NWK_OPENED_HEADER, header, NWK_HEADER_RECORD));
+}
+
+/* Records of zeros with an address and an auxiliary header marked as present, then with the bits of nwk_seal's comment one by one. */
+static void print_presence_bits(void) {
+  print_bits();
+  uint8_t header[NWK_HEADER_RECORD] = {0};
+  uint8_t auxiliary[NWK_AUXILIARY_RECORD] = {0};
+  uint8_t out[NWK_MAX_FRAME] = {0};
+  header[NWK_HEADER_HAS_SOURCE_IEEE] = 1;
+  nwk_put32(header + NWK_HEADER_SOURCE_IEEE, 0x1CA1B2C3u);
+  auxiliary[NWK_AUXILIARY_PRESENT] = 1;
+  print_answer("write_without_bit", nwk_write_header(header, sizeof header, out, sizeof out));
+  print_sealed("seal_without_bit", header, auxiliary);
+  nwk_set_presence_bits(header);
+  print_sealed("seal_unsecured", header, auxiliary);
+  header[NWK_HEADER_SECURITY_BIT] = 1;
+  print_sealed("seal_with_bits", header, auxiliary);
+  auxiliary[NWK_AUXILIARY_HAS_IEEE] = 1;
+  print_sealed("seal_without_extended_nonce", header, auxiliary);
+  auxiliary[NWK_AUXILIARY_EXTENDED_NONCE_BIT] = auxiliary[NWK_AUXILIARY_HAS_IEEE];
+  print_sealed("seal_with_extended_nonce", header, auxiliary);
 }
 
 /* An answer about a sender, and the two places of the list afterwards. */
@@ -233,6 +288,8 @@ static void print_empty(void) {
   print_answer("read_frame", nwk_read_frame(NULL, 0, NULL, 0, NULL, 0));
   print_answer("write_frame", nwk_write_frame(header, sizeof header, NULL, 0, out, sizeof out));
   print_answer("seal", nwk_seal(0, 0, header, sizeof header, auxiliary, sizeof auxiliary, NULL, 0, NULL, 0));
+  header[NWK_HEADER_SECURITY_BIT] = 1;
+  print_answer("seal_secured", nwk_seal(0, 0, header, sizeof header, auxiliary, sizeof auxiliary, NULL, 0, NULL, 0));
   print_answer("read_command", nwk_read_command(NULL, 0, command, sizeof command));
   print_answer("write_command", nwk_write_command(command, sizeof command, NULL, 0));
   print_answer("open", nwk_open(0, 0, NULL, 0, NULL, 0, NULL, 0));
@@ -262,6 +319,7 @@ int main(void) {
   print_kinds();
   print_marks();
   print_payloads();
+  print_presence_bits();
   print_inbound();
   print_journal();
   print_empty();

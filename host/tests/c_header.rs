@@ -1,5 +1,5 @@
 //! What `include/nwk.h` adds to the functions, from C and from C++: names, texts, offsets, numbers of a key, marks, where a
-//! payload is, the list of senders, the journal, NULL for an empty slice.
+//! payload is, the presence bits, the list of senders, the journal, NULL for an empty slice.
 #[allow(dead_code)]
 mod support;
 
@@ -53,6 +53,7 @@ fn c_and_cpp_print_the_same() {
         // A plaintext is a command if the type is 1, else opaque; 2 and 4 are no types.
         assert_eq!(lines.next(), Some("payloads opaque command refused opaque refused"));
         check_payloads(&mut lines);
+        check_presence_bits(&mut lines);
         check_senders(&mut lines);
         check_journal(&mut lines);
         check_empty(&mut lines);
@@ -72,6 +73,24 @@ fn check_payloads<'a>(lines: &mut impl Iterator<Item = &'a str>) {
         "sealed 0 clear 0 mark 2 length 3 3 payload in out",
         "sealed_no_room 18 clear 0 mark 0 length 0 0 payload nowhere",
         "damaged 19 clear 0 mark 0 length 0 0 payload nowhere",
+    ] {
+        assert_eq!(lines.next(), Some(expected));
+    }
+}
+
+/// `nwk_set_presence_bits` sets bits 8, 10, 11 and 12 as the fields of each choice are, multicast first. By document 02, request 8: records
+/// of zeros with an address and an auxiliary header marked as present are 28, and with bit 12 too, until the three lines of
+/// `nwk_seal`'s comment have set the bits; an auxiliary IEEE is then 28 until its bit is set. Each sealed frame opens as sealed to the
+/// header that was handed over.
+fn check_presence_bits<'a>(lines: &mut impl Iterator<Item = &'a str>) {
+    for expected in [
+        "bits 0000 1000 0100 1100 0010 1010 0110 1110 0001 1001 0101 1101 0011 1011 0111 1111",
+        "write_without_bit 28 0",
+        "seal_without_bit 28 0",
+        "seal_unsecured 28 0",
+        "seal_with_bits 0 27 mark 2 header 0",
+        "seal_without_extended_nonce 28 0",
+        "seal_with_extended_nonce 0 35 mark 2 header 0",
     ] {
         assert_eq!(lines.next(), Some(expected));
     }
@@ -135,7 +154,8 @@ fn check_journal<'a>(lines: &mut impl Iterator<Item = &'a str>) {
 }
 
 /// The answers to empty slices, by document 01: a header of no bytes 2, an auxiliary header of none 9, no room 18. A
-/// record of no bytes is refused by 13, and one without an auxiliary header by 14. A header of zeros has 8 bytes, no
+/// record of no bytes is refused by 13, a security bit that is off by 28, and with it on a record without an auxiliary
+/// header by 14. A header of zeros has 8 bytes, no
 /// bytes are an unparsed command, and nothing sealed opens again to nothing. By document 02 a burst of no frames is
 /// accepted with 0, and bytes without lengths and lengths without answers are refused by 20; a frame of no bytes is a
 /// frame, whose own answer is 2. A list without places names nobody, and has no place for a new sender. A journal of no
@@ -149,7 +169,8 @@ fn check_empty<'a>(lines: &mut impl Iterator<Item = &'a str>) {
         "write_auxiliary 13 0",
         "read_frame 2 0",
         "write_frame 0 8",
-        "seal 14 0",
+        "seal 28 0",
+        "seal_secured 14 0",
         "read_command 0 535",
         "write_command 0 0",
         "open 2 0",
@@ -179,7 +200,7 @@ fn check_texts<'a>(mut lines: impl Iterator<Item = &'a str>) {
     for refusal in Refusal::all() {
         assert_eq!(lines.next(), Some(format!("{} {}", refusal.number(), refusal.condition()).as_str()));
     }
-    assert_eq!(lines.next(), Some("28 a number that the list does not have"));
+    assert_eq!(lines.next(), Some("29 a number that the list does not have"));
     assert_eq!(lines.next(), None);
 }
 

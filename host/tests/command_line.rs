@@ -623,6 +623,35 @@ fn sealing_without_a_long_address_is_refused_by_15() {
     assert_eq!((ran.out.as_str(), ran.err.as_str(), ran.status), (expected, "", 1));
 }
 
+/// Document 02, 8: with each choice of the optional fields the command sets the bits, so that it is never 28. Only bit 9 of the header
+/// has changed, and every frame opens; without --ieee it takes the header's source IEEE, else it is 15.
+#[test]
+fn sealing_sets_the_presence_bits() {
+    let header = |fields: u8, security: u8| {
+        let ieee = "0102030405060708";
+        let control = 0x08_00 | u16::from(fields & 1 | (fields & 14) << 1 | security << 1);
+        let optional = [(4, ieee), (8, ieee), (1, "5A"), (2, "01003412")];
+        let fields = optional.iter().filter(|(choice, _)| fields & choice != 0);
+        format!("{control:04X}000034121E07{}", fields.map(|(_, digits)| *digits).collect::<String>())
+    };
+    let clear: String = (0..16).map(|fields| header(fields, 0) + "AA\n").collect();
+    for (ieee, sealed_fields) in [(Some("--ieee=0807060504030201"), 0..16), (None, 8..16)] {
+        let arguments: Vec<&str> = ["seal", "--key", KEY, "--counter=1"].into_iter().chain(ieee).collect();
+        let ran = run(&arguments, clear.as_bytes());
+        let refused = ran.err.lines().filter(|line| line.contains(": refused by 15: ")).count();
+        assert_eq!(
+            (refused, ran.err.lines().count()),
+            (16 - sealed_fields.len(), 16 - sealed_fields.len()),
+            "{}",
+            ran.err
+        );
+        let starts = sealed_fields.clone().map(|fields| header(fields, 1));
+        assert!(ran.out.lines().zip(starts).all(|(line, start)| line.starts_with(&start)), "{}", ran.out);
+        let opened = run(&["open", "--key", KEY, "--summary-only"], ran.out.as_bytes()).out;
+        assert_eq!(opened, format!("{0} frames: {0} opened, 0 refused\n", sealed_fields.len()));
+    }
+}
+
 /// A frame of type 3 that is sealed has been authenticated: it opens as any other.
 #[test]
 fn a_sealed_frame_of_type_3_opens() {

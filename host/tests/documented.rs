@@ -1,4 +1,4 @@
-//! The cases that document 01 prints under "At the boundaries", those of document 02's requests 3 and 4, and known answers of
+//! The cases that document 01 prints under "At the boundaries", those of document 02's requests 3, 4 and 8, and known answers of
 //! FIPS 197 and of NIST's CCM validation set: each is asked of the codec and of the model.
 #[allow(dead_code)]
 mod support;
@@ -195,7 +195,7 @@ fn the_last_counter_is_not_sealed() {
     assert_eq!(seal(present, "FE FF FF FF", ieee, 2, 118), 28);
     assert_eq!(seal(present, last, ieee, 2, 118), 21 << 32);
     assert_eq!(seal("00 00 01 01 00", last, ieee, 2, 118), 14 << 32);
-    assert_eq!(seal(present, last, none, 2, 118), 15 << 32);
+    assert_eq!(seal("01 00 01 00 00", last, none, 2, 118), 15 << 32);
     assert_eq!((seal(present, last, ieee, 93, 118), seal(present, "FE FF FF FF", ieee, 93, 118)), (21 << 32, 17 << 32));
     assert_eq!((seal(present, last, ieee, 2, 27), seal(present, "FE FF FF FF", ieee, 2, 27)), (21 << 32, 18 << 32));
 
@@ -206,6 +206,117 @@ fn the_last_counter_is_not_sealed() {
     let key = bytes("01 03 05 07 09 0B 0D 0F 00 02 04 06 08 0A 0C 0D").try_into().expect("a key");
     let opened = asked(Operation::Open, key, vec![frame], vec![OPENED_RECORD, 1]);
     assert_eq!((opened.answer, &opened.outputs[1][..]), (1, &[0xAA][..]));
+}
+
+/// Where the records have the presence bits, the presence bytes of their fields, the security bit and the counter.
+const BITS: [(usize, usize); 4] = [(3, 34), (5, 36), (6, 16), (7, 25)];
+const SECURITY: usize = 4;
+const EXTENDED_NONCE: usize = 3;
+const HAS_IEEE: usize = 9;
+const COUNTER: usize = 5;
+
+/// A record of zeros with these bytes in it.
+fn record(size: usize, bytes: &[(usize, u8)]) -> Vec<u8> {
+    let mut record = vec![0; size];
+    bytes.iter().for_each(|(at, byte)| record[*at] = *byte);
+    record
+}
+
+/// The refusals of `nwk_write_header` and of `nwk_write_frame` with a payload of so many bytes, into so much room.
+fn written(header: &[u8], payload: usize, room: usize) -> [u8; 2] {
+    let alone = asked(Operation::WriteHeader, [0; 16], vec![header.to_vec()], vec![room]);
+    let inputs = vec![header.to_vec(), vec![0x55; payload]];
+    [alone, asked(Operation::WriteFrame, [0; 16], inputs, vec![room])].map(|outcome| outcome.refusal())
+}
+
+fn sealed(header: &[u8], auxiliary: &[u8], payload: usize, room: usize) -> Outcome {
+    let inputs = vec![header.to_vec(), auxiliary.to_vec(), vec![0x55; payload]];
+    asked(Operation::Seal, [0; 16], inputs, vec![room])
+}
+
+/// Document 02, 8, as a new user meets it: records of zeros with an address and an auxiliary header marked as present. They are
+/// not sealed until the bits are set, and then the frame opens as sealed.
+#[test]
+fn a_zeroed_record_with_an_address_is_not_sealed() {
+    let (ieee, payload) = ([1, 2, 3, 4, 5, 6, 7, 8], [0x55; 2]);
+    let mut header = vec![0; HEADER_RECORD];
+    header[25] = 1;
+    header[26..34].copy_from_slice(&ieee);
+    let mut auxiliary = record(AUXILIARY_RECORD, &[(0, 1)]);
+    assert_eq!(written(&header, 2, 118), [28, 28]);
+    assert_eq!(sealed(&header, &auxiliary, 2, 118).answer, 28 << 32);
+    header[7] = 1;
+    assert_eq!(written(&header, 2, 118), [0, 0]);
+    assert_eq!(sealed(&header, &auxiliary, 2, 118).answer, 28 << 32);
+    header[SECURITY] = 1;
+    assert_eq!(sealed(&header, &auxiliary, 2, 118).answer, 16 + 6 + 2 + 4);
+    auxiliary[HAS_IEEE] = 1;
+    assert_eq!(sealed(&header, &auxiliary, 2, 118).answer, 28 << 32);
+    auxiliary[EXTENDED_NONCE] = 1;
+    let frame = sealed(&header, &auxiliary, 2, 118);
+    assert_eq!(frame.answer, 16 + 14 + 2 + 4);
+    let opened = open(frame.outputs[0][..frame.length()].to_vec());
+    assert_eq!((opened.answer, opened.outputs[0][1], &opened.outputs[1][..2]), (2, 2, &payload[..]));
+    assert_eq!(opened.outputs[0][16..16 + HEADER_RECORD], header);
+    assert_eq!(opened.outputs[0][16 + HEADER_RECORD..], auxiliary);
+}
+
+/// Document 02, 8: each of the four bits, on without its field and off with it, is 28 after 13 and before 17 and 18; "bit 9" is looked
+/// at "when sealing" alone. A source route of no relays is present.
+#[test]
+fn a_presence_bit_that_disagrees_is_28() {
+    for ((bit, field), (bit_on, has_field)) in BITS.into_iter().flat_map(|at| [(1, 0), (0, 1)].map(|set| (at, set))) {
+        let mut header = record(HEADER_RECORD, &[(bit, bit_on), (field, has_field)]);
+        assert_eq!(written(&header, 2, 118), [28, 28], "{bit}");
+        assert_eq!(written(&header, 109, 118)[1], 28, "before 17: {bit}");
+        assert_eq!(written(&header, 2, 0), [28, 28], "before 18: {bit}");
+        header[1] = 16;
+        assert_eq!(written(&header, 2, 118), [13, 13], "after 13: {bit}");
+        header[1] = 0;
+        header[bit] = header[field];
+        for security in [0, 1] {
+            header[SECURITY] = security;
+            assert_eq!(written(&header, 2, 118), [0, 0], "{bit}");
+        }
+        header[37] = 54;
+        header[16] = 1;
+        header[6] = 1;
+        let expected = if (field, has_field) == (36, 1) { 17 } else { 0 };
+        assert_eq!(written(&header, 0, 200), [expected; 2], "{bit}");
+    }
+}
+
+/// Document 02, 8: "28 for the header's bits, bit 9 among them when sealing, after 13 and before 14; 28 for the extended nonce bit,
+/// after 14 and before 15." Bit 9 off without an auxiliary header is 28, bits that agree are 14; the extended nonce bit set without
+/// an address anywhere is 28, not set it is 15. Both are before 21, 17 and 18.
+#[test]
+fn sealing_refuses_presence_bits_in_their_places() {
+    let refusal = |header: &[(usize, u8)], auxiliary: &[(usize, u8)], payload: usize, room: usize| {
+        sealed(&record(HEADER_RECORD, header), &record(AUXILIARY_RECORD, auxiliary), payload, room).refusal()
+    };
+    let (secured, present) = ((SECURITY, 1), (0, 1));
+    let last = [COUNTER, COUNTER + 1, COUNTER + 2, COUNTER + 3].map(|at| (at, 0xFF));
+    let with_last = |bytes: &[(usize, u8)]| [bytes, &last].concat();
+    let agreeing = [present, (EXTENDED_NONCE, 1), (HAS_IEEE, 1)];
+    assert_eq!(refusal(&[secured], &agreeing, 2, 118), 0);
+    for off in [vec![], vec![secured, (3, 1)], vec![secured, (36, 1)], vec![secured, (6, 1)], vec![secured, (25, 1)]] {
+        assert_eq!(refusal(&off, &[], 2, 118), 28, "before 14: {off:?}");
+        assert_eq!(refusal(&off, &[present, (1, 8)], 2, 118), 13, "after 13: {off:?}");
+        assert_eq!(refusal(&[&off[..], &[(9, 4)]].concat(), &agreeing, 2, 118), 13, "after 13: {off:?}");
+        assert_eq!(refusal(&off, &[present], 2, 118), 28, "before 15: {off:?}");
+        assert_eq!(refusal(&off, &with_last(&agreeing), 93, 0), 28, "before 21, 17 and 18: {off:?}");
+    }
+    assert_eq!(refusal(&[secured], &[], 2, 118), 14);
+    for bytes in [[present, (EXTENDED_NONCE, 1)], [present, (HAS_IEEE, 1)]] {
+        assert_eq!(refusal(&[secured], &bytes[1..], 2, 118), 14, "after 14: {bytes:?}");
+        assert_eq!(refusal(&[secured], &[&bytes[..], &[(2, 4)]].concat(), 2, 118), 13, "after 13: {bytes:?}");
+        assert_eq!(refusal(&[secured], &with_last(&bytes), 93, 0), 28, "before 15, 21, 17 and 18: {bytes:?}");
+        let auxiliary = record(AUXILIARY_RECORD, &bytes);
+        let alone = asked(Operation::WriteAuxiliary, [0; 16], vec![auxiliary], vec![14]);
+        assert_eq!(alone.refusal(), 0, "the auxiliary header alone: {bytes:?}");
+    }
+    assert_eq!(refusal(&[secured], &[present], 2, 118), 15);
+    assert_eq!(refusal(&[secured], &with_last(&[present]), 93, 0), 15);
 }
 
 #[test]

@@ -234,21 +234,69 @@ fn every_auxiliary_control_at_every_length() {
 #[test]
 fn every_byte_of_a_header_record() {
     let mut random = Random::new(SEED + 2);
-    let full = Header {
+    let mut full = Header {
         destination_ieee: Some(random.array()),
         source_ieee: Some(random.array()),
         multicast_control: Some(random.byte()),
         source_route: Some(SourceRoute { index: 1, relays: vec![random.array(); 3] }),
         ..headers::header(50, &mut random)
     };
+    headers::agree(&mut full);
     let accepted = |at: usize| accepted_values(Operation::WriteHeader, &full.record(), at, 200);
     assert_eq!([0, 1, 2, 9].map(accepted), [3, 16, 3, 4]);
-    assert_eq!((3..9).map(accepted).collect::<Vec<_>>(), [2; 6]);
-    assert_eq!([16, 25, 34, 36].map(accepted), [2; 4]);
+    // bits 8 to 13: a presence bit, or its field's presence byte, has no other value than 1, else it is 28
+    assert_eq!((3..9).map(accepted).collect::<Vec<_>>(), [1, 2, 1, 1, 1, 2]);
+    assert_eq!([16, 25, 34, 36].map(accepted), [1; 4]);
     // 27 bytes stand before the relays: of the 54 places, 45 fit into 118 bytes
     assert_eq!(accepted(37), 46);
     let free = (0..HEADER_RECORD).filter(|&at| accepted(at) == 256).count();
     assert_eq!(free, HEADER_RECORD - 15);
+}
+
+/// A header with the fields of a choice and the bits 8 to 12 of another.
+fn chosen(fields: u8, bits: u8, random: &mut Random) -> Header {
+    let mut header = Header {
+        multicast_control: (fields & 1 != 0).then(|| random.byte()),
+        source_route: (fields & 2 != 0).then(|| SourceRoute { index: 0, relays: vec![[1, 2]; random.below(3)] }),
+        destination_ieee: (fields & 4 != 0).then(|| random.array()),
+        source_ieee: (fields & 8 != 0).then(|| random.array()),
+        ..headers::plain_header(random)
+    };
+    (0..5).for_each(|bit| header.bits[bit] = bits >> bit & 1 == 1);
+    header
+}
+
+/// Each choice of the four fields beside each choice of bits 8 to 12, for the three writers, and sealing with no auxiliary header and
+/// with one with and without its IEEE and its bit (document 02, request 8).
+#[test]
+fn every_presence_bit_beside_every_field() {
+    let mut random = Random::new(SEED + 12);
+    for (fields, bits) in (0..16).flat_map(|fields| (0..32).map(move |bits| (fields, bits))) {
+        let record = chosen(fields, bits, &mut random).record();
+        // without bit 9, which only sealing looks at
+        let agrees = fields == (bits & 1 | bits >> 1 & 14);
+        let written = if agrees { 0 } else { 28 };
+        assert_eq!(asked(Operation::WriteHeader, record.clone(), 118).refusal(), written, "{fields:X} {bits:02X}");
+        let call = |operation, inputs| Call { operation, key: KEY, inputs, rooms: vec![118] };
+        let frame = compare(&call(Operation::WriteFrame, vec![record.clone(), vec![7]]), FILL, 0x5A);
+        assert_eq!(frame.refusal(), written, "{fields:X} {bits:02X}");
+        for choice in [None, Some((false, false)), Some((false, true)), Some((true, false)), Some((true, true))] {
+            let auxiliary = choice.map(|(extended_nonce, with_ieee)| {
+                let ieee = with_ieee.then(|| random.array());
+                Auxiliary { extended_nonce, ieee, counter: [1, 0, 0, 0], ..headers::auxiliary(&mut random) }
+            });
+            let expected = match choice {
+                _ if !agrees || bits & 2 == 0 => 28,
+                None => 14,
+                Some((bit, ieee)) if bit != ieee => 28,
+                Some((_, ieee)) if !ieee && fields & 8 == 0 => 15,
+                Some(_) => 0,
+            };
+            let inputs = vec![record.clone(), auxiliary_record(&auxiliary), vec![7]];
+            let sealed = compare(&call(Operation::Seal, inputs), FILL, 0x5A);
+            assert_eq!(sealed.refusal(), expected, "{fields:X} {bits:02X} {choice:?}");
+        }
+    }
 }
 
 #[test]

@@ -226,24 +226,24 @@ fn a_clear_frame_with_every_field() {
     assert_eq!(NwkCommand::read(clear.payload), Ok(leave));
 }
 
-/// Each bit of frame control that no field depends on, alone.
+/// Each bit of frame control alone, a presence bit with its field.
 #[test]
 fn the_bits_of_frame_control() {
     for bit in 8..16 {
         let mut header = NwkHeader::new(NwkFrameType::Data, Nwk(0), Nwk(0));
-        let control = &mut header.frame_control;
         match bit {
-            8 => control.multicast = true,
-            9 => control.security = true,
-            10 => control.source_route = true,
-            11 => control.destination = true,
-            12 => control.extended_source = true,
-            13 => control.end_device_initiator = true,
-            14 => control.reserved1 = 1,
-            _ => control.reserved1 = 2,
+            8 => header = header.with_multicast_control(0),
+            9 => header = header.secured(),
+            10 => header = header.with_source_route(NwkSourceRoute { relay_index: 0, relays: list(&[]) }),
+            11 => header = header.with_destination_ieee(IEEE_1),
+            12 => header = header.with_source_ieee(IEEE_1),
+            13 => header.frame_control.end_device_initiator = true,
+            14 => header.frame_control.reserved1 = 1,
+            _ => header.frame_control.reserved1 = 2,
         }
-        let mut out = [0; 8];
-        assert_eq!(header.write(&mut out), Ok(8));
+        let mut out = [0; MAX_FRAME];
+        let field = [1, 0, 2, 8, 8, 0, 0, 0][bit - 8];
+        assert_eq!(header.write(&mut out), Ok(8 + field));
         assert_eq!(u16::from_le_bytes([out[0], out[1]]), 0x0008 | 1 << bit);
     }
 }
@@ -279,7 +279,7 @@ fn fields_that_do_not_fit() {
     header.frame_control.reserved1 = 4;
     assert_eq!(header.write(&mut out), Err(Refusal::FIELD));
     header.frame_control.reserved1 = 0;
-    header.source_route = Some(NwkSourceRoute { relay_index: 0, relays: list(&[Nwk(1); 54]) });
+    let header = header.with_source_route(NwkSourceRoute { relay_index: 0, relays: list(&[Nwk(1); 54]) });
     assert_eq!(header.write(&mut out), Ok(8 + 2 + 2 * 54));
     out.fill(0xA5);
     assert_eq!(write(&header, &[0], &mut out), Err(Refusal::LENGTH));

@@ -37,16 +37,15 @@ fn allocations() -> u64 {
 fn everything() -> Result<(), Refusal> {
     let key: Key = "C0C1C2C3C4C5C6C7C8C9CACBCCCDCECF".parse().map_err(|_| Refusal::INTERNAL)?;
     let probe: Eui64 = "00:12:4B:00:1C:A1:B2:C3".parse().map_err(|_| Refusal::INTERNAL)?;
-    let mut header = NwkHeader::new(NwkFrameType::Command, Nwk(1), Nwk(2));
-    header.frame_control.security = true;
-    header.frame_control.source_route = true;
-    header.source_route =
-        Some(NwkSourceRoute { relay_index: 0, relays: [Nwk(3); 9][..].try_into().unwrap_or_default() });
+    let route = NwkSourceRoute { relay_index: 0, relays: [Nwk(3); 9][..].try_into().unwrap_or_default() };
+    let mut header = NwkHeader::new(NwkFrameType::Command, Nwk(1), Nwk(2)).with_source_route(route).secured();
     let (mut frame, mut out) = ([0; MAX_FRAME], [0; MAX_PAYLOAD]);
     let mut record = [0; MAX_PAYLOAD];
     let relays = [Nwk(4); 20][..].try_into().unwrap_or_default();
     let length = NwkCommand::RouteRecord { relays }.write(&mut record)?;
-    let n = seal(&key, &header, Some(&NwkAuxHeader::new(1, probe)), &record[..length], &mut frame)?;
+    let auxiliary = NwkAuxHeader::new(1, probe);
+    assert_eq!(header.disagreement_in_sealing(Some(&auxiliary)), None);
+    let n = seal(&key, &header, Some(&auxiliary), &record[..length], &mut frame)?;
     let opened = open(&key, &frame[..n], &mut out)?.sealed().ok_or(Refusal::INTERNAL)?;
     opened.header.frame_control.frame_type.payload()?;
     NwkCommand::read(opened.payload)?;

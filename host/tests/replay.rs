@@ -31,20 +31,13 @@ impl Frame {
 
     /// The same with the sender's address in the header alone, so that the nonce has it from there.
     fn line_without_extended_nonce(self) -> String {
-        let mut header = self.header();
-        header.frame_control.extended_source = true;
-        header.source_ieee = Some(Eui64::from(self.sender));
-        let mut auxiliary = NwkAuxHeader::new(self.counter, Eui64::from(self.sender));
-        auxiliary.security_control.extended_nonce = false;
-        auxiliary.extended_source = None;
-        auxiliary.key_sequence_number = self.number;
-        self.sealed(header, auxiliary)
+        let header = self.header().with_source_ieee(Eui64::from(self.sender));
+        let auxiliary = NwkAuxHeader::without_ieee(self.counter);
+        self.sealed(header, NwkAuxHeader { key_sequence_number: self.number, ..auxiliary })
     }
 
     fn header(self) -> NwkHeader {
-        let mut header = NwkHeader::new(NwkFrameType::Data, Nwk(self.sender as u16), Nwk(0));
-        header.frame_control.security = true;
-        header
+        NwkHeader::new(NwkFrameType::Data, Nwk(self.sender as u16), Nwk(0)).secured()
     }
 
     fn sealed(self, header: NwkHeader, auxiliary: NwkAuxHeader) -> String {

@@ -239,8 +239,7 @@ fn clear_bytes(payload: usize) -> Vec<u8> {
 
 /// A sealed frame around a payload, under this key.
 fn sealed_bytes(key: &Key, counter: u32, payload: &[u8]) -> Vec<u8> {
-    let mut header = NwkHeader::new(NwkFrameType::Data, Nwk(0x1234), Nwk(0));
-    header.frame_control.security = true;
+    let header = NwkHeader::new(NwkFrameType::Data, Nwk(0x1234), Nwk(0)).secured();
     let mut frame = vec![0; MAX_FRAME];
     let auxiliary = NwkAuxHeader::new(counter, Eui64([1, 2, 3, 4, 5, 6, 7, 8]));
     let n = seal(key, &header, Some(&auxiliary), payload, &mut frame).expect("a frame");
