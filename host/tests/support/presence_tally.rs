@@ -4,7 +4,7 @@ use super::calls::{Call, Outcome};
 use super::model::auxiliary::{self, Auxiliary};
 use super::model::header::Header;
 use super::model::{self, frame, LAST_COUNTER, MAX_FRAME, MAX_PAYLOAD};
-use super::operations::{Operation, AUXILIARY_RECORD, HEADER_RECORD};
+use super::operations::Operation;
 use std::collections::BTreeMap;
 
 /// The presence bits of a header record: the bit's place, and that of the field's presence byte.
@@ -99,12 +99,12 @@ fn bits_of(operation: Operation) -> Vec<(&'static str, &'static [bool])> {
     bits
 }
 
-/// The bits that disagree, and whether each is on; none where a bit or presence byte is neither 0 nor 1. In an auxiliary record the
-/// bytes are looked at also where there is no auxiliary header.
+/// The bits that disagree, and whether each is on; none where a bit or presence byte is missing or neither 0 nor 1. A record of
+/// another length has them too, and so has an auxiliary record without an auxiliary header.
 fn disagreeing(call: &Call) -> Vec<(&'static str, bool)> {
     let record = &call.inputs[0];
-    let places = || HEADER_BITS.iter().flat_map(|&(_, bit, field)| [bit, field]).chain([SECURITY.1]);
-    if record.len() != HEADER_RECORD || places().any(|place| record[place] > 1) {
+    let mut places = HEADER_BITS.iter().flat_map(|&(_, bit, field)| [bit, field]).chain([SECURITY.1]);
+    if !places.all(|place| is_bit(record, place)) {
         return Vec::new();
     }
     let of_fields = HEADER_BITS.iter().filter(|(_, bit, field)| record[*bit] != record[*field]);
@@ -118,8 +118,12 @@ fn disagreeing(call: &Call) -> Vec<(&'static str, bool)> {
 
 fn extended_nonce(record: &[u8]) -> Option<(&'static str, bool)> {
     let (name, bit, field) = EXTENDED_NONCE;
-    let bits = record.len() == AUXILIARY_RECORD && record[bit] <= 1 && record[field] <= 1;
-    (bits && record[bit] != record[field]).then(|| (name, record[bit] == 1))
+    let disagrees = is_bit(record, bit) && is_bit(record, field) && record[bit] != record[field];
+    disagrees.then(|| (name, record[bit] == 1))
+}
+
+fn is_bit(record: &[u8], place: usize) -> bool {
+    record.get(place).is_some_and(|&byte| byte <= 1)
 }
 
 /// The number that is answered where one bit disagrees and the conditions of these numbers hold.

@@ -160,12 +160,12 @@ pub fn any_auxiliary_record(random: &mut Random) -> Vec<u8> {
     if record[9] == 0 && random.bit() {
         scatter(&mut record[10..18], random);
     }
-    if random.percent(6) {
-        // absent, with the rest 0, left as it was, or anything
-        match random.below(3) {
+    if random.percent(7) {
+        // absent, with the rest mostly left as it was, else 0 or anything
+        match random.below(4) {
             0 => record.fill(0),
-            1 => {}
-            _ => scatter(&mut record, random),
+            1 => scatter(&mut record, random),
+            _ => {}
         }
         record[0] = 0;
     }
