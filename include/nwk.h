@@ -468,7 +468,7 @@ static inline struct nwk_key nwk_key_of(const uint8_t bytes[16]) {
   return key;
 }
 
-/* Sets the multicast, source route and IEEE bits of a header record, each exactly where its field is present (28). */
+/* Set the multicast, source route and IEEE bits of a header record, each exactly where its field is present (28). */
 static inline void nwk_set_presence_bits(uint8_t *header) {
   header[NWK_HEADER_MULTICAST_BIT] = header[NWK_HEADER_HAS_MULTICAST];
   header[NWK_HEADER_SOURCE_ROUTE_BIT] = header[NWK_HEADER_HAS_SOURCE_ROUTE];

@@ -53,9 +53,11 @@ fn safe_operations_take_any_bytes() {
         if let Ok(frame) = read(&input).map_err(number) {
             headers += 1;
             let auxiliary = frame.auxiliary.unwrap_or(NwkAuxHeader::new(1, Eui64(random.array())));
+            // What was read has presence bits that agree: with the security bit it is not refused by 28.
             let _ = write(&frame.header, frame.rest, &mut out).map_err(number);
-            let _ = seal(&key, &frame.header, Some(&auxiliary), frame.rest, &mut out).map_err(number);
-            let _ = seal(&key, &frame.header, None, frame.rest, &mut out).map_err(number);
+            let header = frame.header.secured();
+            let _ = seal(&key, &header, Some(&auxiliary), frame.rest, &mut out).map_err(number);
+            let _ = seal(&key, &header, None, frame.rest, &mut out).map_err(number);
         }
         out.fill(0xA5);
         clear += usize::from(is_clear(open(&key, &input, &mut out), &input));

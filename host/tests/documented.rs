@@ -261,28 +261,23 @@ fn a_zeroed_record_with_an_address_is_not_sealed() {
     assert_eq!(opened.outputs[0][16 + HEADER_RECORD..], auxiliary);
 }
 
-/// Document 02, 8: each of the four bits, on without its field and off with it, is 28 after 13 and before 17 and 18; "bit 9" is looked
-/// at "when sealing" alone. A source route of no relays is present.
+/// Document 02, 8: each of the four bits, on without its field and off with it, is 28, after 13 and before 17 and 18. A source route of
+/// no relays is present, and only sealing looks at bit 9.
 #[test]
 fn a_presence_bit_that_disagrees_is_28() {
-    for ((bit, field), (bit_on, has_field)) in BITS.into_iter().flat_map(|at| [(1, 0), (0, 1)].map(|set| (at, set))) {
-        let mut header = record(HEADER_RECORD, &[(bit, bit_on), (field, has_field)]);
-        assert_eq!(written(&header, 2, 118), [28, 28], "{bit}");
-        assert_eq!(written(&header, 109, 118)[1], 28, "before 17: {bit}");
-        assert_eq!(written(&header, 2, 0), [28, 28], "before 18: {bit}");
-        header[1] = 16;
-        assert_eq!(written(&header, 2, 118), [13, 13], "after 13: {bit}");
-        header[1] = 0;
-        header[bit] = header[field];
+    let too_long = [(5, 1), (36, 1), (37, 54), (6, 1), (16, 1)];
+    assert_eq!(written(&record(HEADER_RECORD, &too_long), 0, 200), [17, 17]);
+    assert_eq!(written(&record(HEADER_RECORD, &[&too_long[..], &[(3, 1)]].concat()), 0, 200), [28, 28]);
+    for ((bit, field), on) in BITS.into_iter().flat_map(|places| [0, 1].map(|on| (places, on))) {
+        let refusals = |has_field: u8, more: (usize, u8), payload: usize, room: usize| {
+            written(&record(HEADER_RECORD, &[(bit, on), (field, has_field), more]), payload, room)
+        };
         for security in [0, 1] {
-            header[SECURITY] = security;
-            assert_eq!(written(&header, 2, 118), [0, 0], "{bit}");
+            assert_eq!(refusals(1 - on, (SECURITY, security), 2, 118), [28, 28], "byte {bit}: {on}");
+            assert_eq!(refusals(on, (SECURITY, security), 2, 118), [0, 0], "byte {bit}: {on}");
         }
-        header[37] = 54;
-        header[16] = 1;
-        header[6] = 1;
-        let expected = if (field, has_field) == (36, 1) { 17 } else { 0 };
-        assert_eq!(written(&header, 0, 200), [expected; 2], "{bit}");
+        assert_eq!(refusals(1 - on, (1, 2), 109, 0), [28, 28], "before 17 and 18, byte {bit}: {on}");
+        assert_eq!(refusals(1 - on, (1, 16), 2, 118), [13, 13], "after 13, byte {bit}: {on}");
     }
 }
 
