@@ -13,13 +13,14 @@ struct File {
     things: &'static str,
 }
 
-const FILES: [File; 7] = [
+const FILES: [File; 8] = [
     File { program: "vectors", name: "aes128_ecb.txt", things: "blocks" },
     File { program: "vectors", name: "ccm_13_4.txt", things: "entries" },
     File { program: "vectors", name: "ccm_limits.txt", things: "entries" },
     File { program: "vectors", name: "types_rs.txt", things: "calls" },
     File { program: "frame_cases", name: "headers.txt", things: "cases" },
     File { program: "frame_cases", name: "frames.txt", things: "cases" },
+    File { program: "frame_cases", name: "presence_bits.txt", things: "cases" },
     File { program: "command_cases", name: "commands.txt", things: "cases" },
 ];
 
