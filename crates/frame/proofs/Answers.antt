@@ -5,7 +5,7 @@ use mathlib.Core.Bool.{Bool, true, false, cond, not, _&&_}
 use mathlib.Core.List.{List, [], _∷_, _++_}
 use Prim.Native.Nat.{ℕ, zero, suc, _+_, _-_, _≤_}
 use lib.ListN.{length, drop, take, length-append, length-drop}
-use lib.Seq.{length-take-le}
+use lib.Seq.{length-take-le, take-take, take-at}
 use native.Mathlib.Nat.{zero-add}
 use native.Mathlib.Omega.{arith}
 use borrow.Author.Tests.{le-ltb}
@@ -74,6 +74,13 @@ auth-taken l h x y b n e made size =
     ap (λ (k : ℕ). take k b) (size ∙ ap (λ (k : ℕ). length (headerBytes h) + k) (sym same)) ∙ made
     ∙ ap (λ (z : NwkAuxHeader). headerBytes h ++ auxBytes z) e
 
+-- and its first bytes, those of the header alone
+pub header-taken : (h : NwkHeader) (y : NwkAuxHeader) (b : List ℕ) (n : ℕ)
+    → take (length (headerBytes h) + length (auxBytes y)) b ≡ headerBytes h ++ auxBytes y → n ≡ length (headerBytes h) → take n b ≡ headerBytes h
+header-taken h y b n made size =
+    ap (λ (k : ℕ). take k b) size ∙ sym (take-take (length (headerBytes h)) (length (headerBytes h) + length (auxBytes y)) b (omega arith))
+    ∙ ap (take (length (headerBytes h))) made ∙ take-at (headerBytes h) (auxBytes y) (length (headerBytes h)) refl
+
 -- ---- splitting and opening
 
 pub mic-split : (s : List ℕ) (r : Split) → r ≡ splitMic s → 4 ≤ length s → r .mic ≡ micOf 4 s
@@ -135,17 +142,17 @@ module _ (ciph : List ℕ → List ℕ) (f part o : List ℕ) (r : FrameRead) (n
 -- ---- sealing
 
 -- headers, then ciphertext and MIC right behind them
-pub sealed-done : (key : List ℕ) (h : NwkHeader) (x y : NwkAuxHeader) (p o o₁ o₂ : List ℕ) (start : ℕ) (n a : List ℕ)
-    → start ≡ length (headerBytes h) + length (auxBytes x) → y ≡ atLevel sentLevel x → o₁ ≡ over o 0 (headerBytes h ++ auxBytes y)
+pub sealed-done : (key : List ℕ) (h : NwkHeader) (x y : NwkAuxHeader) (p o o₁ o₂ : List ℕ) (start : ℕ) (bs n a : List ℕ)
+    → start ≡ length (headerBytes h) + length (auxBytes x) → bs ≡ headerBytes h → y ≡ atLevel sentLevel x → o₁ ≡ over o 0 (bs ++ auxBytes y)
     → n ≡ nonce networkLevel h x → a ≡ authenticated networkLevel h x
     → o₂ ≡ over o₁ start (sealedBy 4 key n a p .ciphertext ++ sealedBy 4 key n a p .tag) → o₂ ≡ over o 0 (sealedBytes networkLevel 4 key h x p)
 unfolding sealedBytes generated
-sealed-done key h x y p o o₁ o₂ start n a size sent first en ea second =
+sealed-done key h x y p o o₁ o₂ start bs n a size header sent first en ea second =
     let place : start ≡ 0 + length (headerBytes h ++ auxBytes (atLevel sentLevel x)) =
     size ∙ ap (λ (k : ℕ). length (headerBytes h) + k) (sym (level-length sentLevel sentLevel x))
     ∙ sym (zero-add _ ∙ length-append (headerBytes h) (auxBytes (atLevel sentLevel x))) in
     over-then o o₁ o₂ 0 start (headerBytes h ++ auxBytes (atLevel sentLevel x)) _ (omega arith) place
-    (first ∙ ap (λ (z : NwkAuxHeader). over o 0 (headerBytes h ++ auxBytes z)) sent)
+    (first ∙ (λ i. over o 0 (header i ++ auxBytes (sent i))))
     (second ∙ (λ i. over o₁ start (sealedBy 4 key (en i) (ea i) p .ciphertext ++ sealedBy 4 key (en i) (ea i) p .tag)))
 
 -- ---- opening, by what the calls gave

@@ -83,9 +83,10 @@ fn seal_frame(key: [u8; 16], h: NwkHeader, aux: NwkAuxHeader, payload: &[u8], ou
 {
     let nonce = security::nonce_of(h, aux, NwkSecurityLevel::EncMic32);
     let auth = security::both_headers(h, security::at_level(aux, NwkSecurityLevel::EncMic32));
-    let start = h.size() + aux.size();
-    security::put_headers(
-        h,
+    let header = h.size();
+    let start = header + aux.size();
+    security::put_behind(
+        &auth[..header],
         security::at_level(aux, NwkSecurityLevel::NoSecurity),
         out,
     );

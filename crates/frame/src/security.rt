@@ -83,6 +83,15 @@ pub fn put_headers(h: NwkHeader, aux: NwkAuxHeader, out: &mut [u8])
     aux.put(out, aux_at);
 }
 
+// Write the bytes of a header to the front of an output that has room for them, and an auxiliary header behind them.
+pub fn put_behind(header: &[u8], aux: NwkAuxHeader, out: &mut [u8])
+    requires { ⌜ length (now header) + length (auxBytes aux) ≤ length (now out) ⌝ }
+    ensures { λ _. ⌜ now (out .exit) ≡ over (now (out .entry)) 0 (now (header .entry) ++ auxBytes aux) ⌝ }
+{
+    octets::copy_at(out, 0, header);
+    aux.put(out, header.len());
+}
+
 // The two headers at the front of a frame's places.
 pub fn both_headers(h: NwkHeader, aux: NwkAuxHeader) -> [u8; 118]
     requires { ⌜ (badHeader h ≡ false) × (length (headerBytes h) + length (auxBytes aux) ≤ 118) ⌝ }

@@ -1,7 +1,7 @@
 -- What a header meets that writing does not refuse.
 -- Assumes nothing.
 use mathlib.Core.Path.{_≡_, refl, ap}
-use mathlib.Core.Bool.{Bool, Bool·beq, true, false, true≢false, false≢true, not, _&&_, and-eq-true-iff}
+use mathlib.Core.Bool.{Bool, Bool·beq, true, false, true≢false, false≢true, not, and-eq-true-iff}
 use mathlib.Core.Logic.{_↔_}
 use Prim.Native.Nat.{ℕ, _≤_, _<_}
 use native.Mathlib.Omega.{arith}
@@ -11,7 +11,7 @@ use borrow.Author.Tests.{ltb-false, not-false}
 use Rattle.octets.proofs.Conditions.{none, none-refuse, or-false}
 use Rattle.types.specs.Optional.{hasIeee}
 use Rattle.header.specs.declared.{nwk.NwkHeader.NwkHeader, auxiliary.NwkAuxHeader.NwkAuxHeader}
-use Rattle.header.specs.Optional.{hasMulticast, hasRoute, relayCount}
+use Rattle.header.specs.Optional.{relayCount}
 use Rattle.header.specs.Writing.{headerBytes, badControl, badHeader, fieldRefusal, headerWriteRefusal}
 use Rattle.header.specs.Same.{Agrees, AuxAgrees, agrees, auxAgrees}
 
@@ -26,22 +26,23 @@ same-bit false false = (λ e. refl, λ e. refl)
 -- the test of a header says that it agrees
 pub header-agrees : (h : NwkHeader) → (agrees h ≡ true) ↔ Agrees h
 unfolding agrees
-header-agrees h =
-    let c = h .«frame_control» in
-    let d = same-bit (c .destination) (hasIeee (h .«destination_ieee»)) in
-    let s = same-bit (c .«extended_source») (hasIeee (h .«source_ieee»)) in
-    let m = same-bit (c .multicast) (hasMulticast (h .«multicast_control»)) in
-    let r = same-bit (c .«source_route») (hasRoute (h .«source_route»)) in
-    let ieees = and-eq-true-iff (Bool·beq (c .destination) (hasIeee (h .«destination_ieee»))) (Bool·beq (c .«extended_source») (hasIeee (h .«source_ieee»))) in
-    let others = and-eq-true-iff (Bool·beq (c .multicast) (hasMulticast (h .«multicast_control»))) (Bool·beq (c .«source_route») (hasRoute (h .«source_route»))) in
-    let all = and-eq-true-iff (Bool·beq (c .destination) (hasIeee (h .«destination_ieee»)) && Bool·beq (c .«extended_source») (hasIeee (h .«source_ieee»)))
-    (Bool·beq (c .multicast) (hasMulticast (h .«multicast_control»)) && Bool·beq (c .«source_route») (hasRoute (h .«source_route»))) in (
-      λ e.
-          let i = ieees .0 (all .0 e .0) in
-          let o = others .0 (all .0 e .1) in
-          record { destination = d .0 (i .0); source = s .0 (i .1); multicast = m .0 (o .0); route = r .0 (o .1) },
-      λ a. all .1 (ieees .1 (d .1 (a .destination), s .1 (a .source)), others .1 (m .1 (a .multicast), r .1 (a .route))),
-    )
+header-agrees h = (
+  λ e.
+      let both = and-eq-true-iff _ _ .0 e in
+      let ieees = and-eq-true-iff _ _ .0 (both .0) in
+      let others = and-eq-true-iff _ _ .0 (both .1) in
+      record {
+        destination = same-bit _ _ .0 (ieees .0);
+        source = same-bit _ _ .0 (ieees .1);
+        multicast = same-bit _ _ .0 (others .0);
+        route = same-bit _ _ .0 (others .1);
+      },
+  λ a.
+      and-eq-true-iff _ _ .1 (
+        and-eq-true-iff _ _ .1 (same-bit _ _ .1 (a .destination), same-bit _ _ .1 (a .source)),
+        and-eq-true-iff _ _ .1 (same-bit _ _ .1 (a .multicast), same-bit _ _ .1 (a .route)),
+      ),
+)
 
 pub aux-test : (a : NwkAuxHeader) → (auxAgrees a ≡ true) ↔ AuxAgrees a
 unfolding auxAgrees
