@@ -21,15 +21,14 @@ use Rattle.header.proofs.WriteBack.{read-agrees}
 use Rattle.header.proofs.PresenceBits.{apart, header-disagrees, aux-disagrees, reading-agrees}
 use Rattle.ccm.specs.Operations.{micLength}
 use Rattle.frame.specs.declared.{OptionAuxHeader.OptionAuxHeader, FrameRead.FrameRead}
-use Rattle.frame.specs.Reading.{auxBehind, frameRefused, frameGiven, frameNumber, frameBy, readFrame}
+use Rattle.frame.specs.Reading.{secured, auxIf, auxBehind, frameRefused, frameGiven, frameNumber, frameBy, readFrame}
 use Rattle.frame.specs.Writing.{frameBytes, lengthRefusals, frameWriteRefusal, writeFrame}
 use Rattle.frame.specs.Security.{networkLevel, isAbsent, orBlank, noIeee}
 use Rattle.frame.specs.Sealing.{sealedBytes, headersRefusal, sealRefusals, sealRefusal, sealBy, sealFrame}
 use Rattle.frame.specs.Opening.{isSealed}
 use Rattle.frame.specs.PresenceBits.{SealingDisagrees, TwentyEightExactly, OthersAsBefore, AuxOptionAgrees, SealingEnsures, ReadIsNeverBy28, writeHeaderBefore, writeFrameBefore, sealBefore}
 use Rattle.frame.specs.PresenceBits.SealingDisagrees.{header, bit9, nonce}
-use Rattle.frame.proofs.SealingLaw.{seal-number, seal-able, opened-sealed, opened-run}
-use Rattle.frame.proofs.SecondHalf.{secured-facts}
+use Rattle.frame.proofs.SealingLaw.{seal-number, seal-able}
 
 -- ---- the lists by the values of their conditions
 
@@ -51,26 +50,22 @@ field-28 false false = (λ e. (refl, refl), λ e. refl)
 abbrev Which : Bool → Bool → Bool → Bool → Type 0
 Which ok secured absent nonced = (ok ≡ false) ⊎ ((secured ≡ false) ⊎ ((absent ≡ false) × (nonced ≡ false)))
 
-header-28 : (bad ok secured absent nonced lone : Bool) → firstOf (headerList bad ok secured absent nonced lone) ≡ 28 → (bad ≡ false) × Which ok secured absent nonced
-unfolding firstOf unless
-header-28 true ok secured absent nonced lone e = absurd (omega arith)
-header-28 false false secured absent nonced lone e = (refl, inl refl)
-header-28 false true false absent nonced lone e = (refl, inr (inl refl))
-header-28 false true true true nonced lone e = absurd (omega arith)
-header-28 false true true false false lone e = (refl, inr (inr (refl, refl)))
-header-28 false true true false true true e = absurd (omega arith)
-header-28 false true true false true false e = absurd (omega arith)
+-- none does where the header's bits agree, bit 9 is set, and the extended nonce bit is not looked at or agrees
+settled : (absent nonced : Bool) → (absent ≡ false → nonced ≡ false → ⊥) → Which true true absent nonced → ⊥
+settled absent nonced h (inl e) = true≢false e
+settled absent nonced h (inr (inl e)) = true≢false e
+settled absent nonced h (inr (inr e)) = h (e .0) (e .1)
 
-28-header : (bad ok secured absent nonced lone : Bool) → bad ≡ false → Which ok secured absent nonced → firstOf (headerList bad ok secured absent nonced lone) ≡ 28
+header-28 : (bad ok secured absent nonced lone : Bool)
+    → (firstOf (headerList bad ok secured absent nonced lone) ≡ 28) ↔ ((bad ≡ false) × Which ok secured absent nonced)
 unfolding firstOf unless
-28-header true ok secured absent nonced lone e w = absurd (true≢false e)
-28-header false false secured absent nonced lone e w = refl
-28-header false true false absent nonced lone e w = refl
-28-header false true true absent nonced lone e (inl x) = absurd (true≢false x)
-28-header false true true absent nonced lone e (inr (inl x)) = absurd (true≢false x)
-28-header false true true true nonced lone e (inr (inr x)) = absurd (true≢false (x .0))
-28-header false true true false true lone e (inr (inr x)) = absurd (true≢false (x .1))
-28-header false true true false false lone e (inr (inr x)) = refl
+header-28 true ok secured absent nonced lone = (λ e. absurd (omega arith), λ e. absurd (true≢false (e .0)))
+header-28 false false secured absent nonced lone = (λ e. (refl, inl refl), λ e. refl)
+header-28 false true false absent nonced lone = (λ e. (refl, inr (inl refl)), λ e. refl)
+header-28 false true true true nonced lone = (λ e. absurd (omega arith), λ e. absurd (settled true nonced (λ a n. true≢false a) (e .1)))
+header-28 false true true false false lone = (λ e. (refl, inr (inr (refl, refl))), λ e. refl)
+header-28 false true true false true true = (λ e. absurd (omega arith), λ e. absurd (settled false true (λ a n. true≢false n) (e .1)))
+header-28 false true true false true false = (λ e. absurd (omega arith), λ e. absurd (settled false true (λ a n. true≢false n) (e .1)))
 
 -- a list whose rest never gives 28 gives it where its first number is 28
 first-28 : (n : ℕ) (cs : List Condition) → (firstOf cs ≡ 28 → ⊥) → (firstOf (by n ∷ cs) ≡ 28) ↔ (n ≡ 28)
@@ -131,11 +126,12 @@ pub sealed-exactly : (key : List ℕ) (h : NwkHeader) (a : OptionAuxHeader) (p o
 unfolding sealRefusal sealRefusals headersRefusal fieldRefusal lengthRefusals
 sealed-exactly key h a p o =
     let whole = first-28 (headersRefusal h a) _ (λ e. gives 28 _ not-0 e) in
+    let headers = header-28 (badHeader h) (agrees h) (h .«frame_control» .security) (isAbsent a) (auxAgrees (orBlank a)) (noIeee h (orBlank a)) in
     let number = seal-number key h a p o in (
       λ e.
-          let f = header-28 (badHeader h) (agrees h) _ (isAbsent a) _ (noIeee h (orBlank a)) (whole .0 (sym number ∙ e)) in
+          let f = headers .0 (whole .0 (sym number ∙ e)) in
           (f .0, bits h a (f .1)),
-      λ d. number ∙ whole .1 (28-header (badHeader h) (agrees h) _ (isAbsent a) _ (noIeee h (orBlank a)) (d .0) (tests h a (d .1))),
+      λ d. number ∙ whole .1 (headers .1 (d .0, tests h a (d .1))),
     )
 
 pub twenty-eight-exactly : TwentyEightExactly
@@ -192,23 +188,30 @@ unfolding readFrame frameBy frameRefused blankHeader
 frame-agrees f =
     let h = readHeader f in
     let a = auxBehind f h in
-    unless-either (λ (r : FrameRead). Agrees (r .header)) (frameNumber f h a) (frameGiven h a) (frameRefused (frameNumber f h a)) (λ e. reading-agrees f .0) (read-agrees [] _)
+    unless-either (λ (r : FrameRead). Agrees (r .header)) (frameNumber f h a) (frameGiven h a) (frameRefused (frameNumber f h a)) (λ e. reading-agrees f .0)
+    (read-agrees [] _)
 
--- the headers of a frame that was opened as sealed
-reads-none : (f : List ℕ) → isSealed (readHeader f .header) ≡ true
-    → SealingDisagrees (readHeader f .header) (OptionAuxHeader.Present (auxBehind f (readHeader f) .aux)) → ⊥
-reads-none f set (header d) = apart _ d (reading-agrees f .0)
+given-agrees : (secured : Bool) (a : NwkAuxHeader) → AuxAgrees a → AuxOptionAgrees (auxIf secured a)
+given-agrees true a e = e
+given-agrees false a e = tt
+
+aux-agrees : (f : List ℕ) → AuxOptionAgrees (readFrame f .aux)
+unfolding readFrame frameBy frameRefused
+aux-agrees f =
+    let h = readHeader f in
+    let a = auxBehind f h in
+    unless-either (λ (r : FrameRead). AuxOptionAgrees (r .aux)) (frameNumber f h a) (frameGiven h a) (frameRefused (frameNumber f h a))
+    (λ e. given-agrees (secured h) (a .aux) (reading-agrees (drop (h .length) f) .1)) tt
+
+reads-none : (f : List ℕ) → isSealed (readFrame f .header) ≡ true → SealingDisagrees (readFrame f .header) (readFrame f .aux) → ⊥
+reads-none f set (header d) = apart _ d (frame-agrees f)
 reads-none f set (bit9 e) = true≢false (sym set ∙ e)
-reads-none f set (nonce x e d) = d (subst (λ (o : OptionAuxHeader). AuxAgrees (orBlank o)) e (reading-agrees (drop (readHeader f .length) f) .1))
+reads-none f set (nonce x e d) = d (subst AuxOptionAgrees e (aux-agrees f))
 
 pub read-is-never-by-28 : ReadIsNeverBy28
-read-is-never-by-28 key f p out o =
+read-is-never-by-28 key f p o =
     record {
       header = λ e. apart _ (header-exactly (readHeader f .header) o .0 e .1) (reading-agrees f .0);
       frame = λ e. apart _ (frame-exactly (readFrame f .header) p o .0 e .1) (frame-agrees f);
-      sealed = λ marked e.
-          let w = opened-sealed key f out marked in
-          let s = secured-facts f (w .reads) (w .on) in
-          let again = rw (opened-run key f out w s) at e in
-          reads-none f (rw (s .read) at (w .on)) (sealed-exactly key _ _ _ o .0 again .1);
+      sealed = λ set e. reads-none f set (sealed-exactly key (readFrame f .header) (readFrame f .aux) p o .0 e .1);
     }

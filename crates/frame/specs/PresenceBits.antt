@@ -17,14 +17,13 @@ use Rattle.header.specs.Writing.{headerBytes, badHeader, writeHeader}
 use Rattle.header.specs.Same.{Agrees, AuxAgrees}
 use Rattle.header.specs.PresenceBits.{Disagrees}
 use Rattle.ccm.specs.Operations.{micLength}
-use Rattle.frame.specs.declared.{OptionAuxHeader.OptionAuxHeader, Mark.Mark}
+use Rattle.frame.specs.declared.OptionAuxHeader.{OptionAuxHeader}
 use Rattle.frame.specs.Reading.{readFrame}
 use Rattle.frame.specs.Writing.{frameBytes, lengthRefusals, writeFrame}
 use Rattle.frame.specs.Security.{networkLevel, isAbsent, orBlank, noIeee}
 use Rattle.frame.specs.Sealing as sealing
 use Rattle.frame.specs.Sealing.{sealedBytes, sealedLength, counterOf, sealBy, sealFrame}
-use Rattle.frame.specs.Opening.{openFrame}
-use Rattle.frame.specs.SealingLaw.{openThenSeal}
+use Rattle.frame.specs.Opening.{isSealed}
 
 -- ---- "refuses any header where one of bits 8, 10, 11, 12 disagrees with its field"; "sealing also refuses if bit 9 is off or if the
 -- extended nonce bit disagrees with the auxiliary address"
@@ -93,11 +92,11 @@ SealingEnsures =
 
 -- ---- what was read is never refused by 28 on writing
 
--- a header, a frame without a key, and a sealed frame that was opened
-pub record NeverBy28 (key f p out o : List ℕ) : Type 0 where
+-- a header, a frame without a key, and a secured frame, opened or not
+pub record NeverBy28 (key f p o : List ℕ) : Type 0 where
   pub header : writeHeader (readHeader f .header) o .answer .refusal ≡ 28 → ⊥
   pub frame : writeFrame (readFrame f .header) p o .answer .refusal ≡ 28 → ⊥
-  pub sealed : openFrame key f out .answer .mark ≡ Mark.Sealed → openThenSeal key f out o .answer .refusal ≡ 28 → ⊥
+  pub sealed : isSealed (readFrame f .header) ≡ true → sealFrame key (readFrame f .header) (readFrame f .aux) p o .answer .refusal ≡ 28 → ⊥
 
 abbrev pub ReadIsNeverBy28 : Type 0
-ReadIsNeverBy28 = (key f p out o : List ℕ) → NeverBy28 key f p out o
+ReadIsNeverBy28 = (key f p o : List ℕ) → NeverBy28 key f p o

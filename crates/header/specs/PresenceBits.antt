@@ -45,7 +45,7 @@ pub record ReadAgain (h : NwkHeader) (n : ℕ) (r : HeaderRead) : Type 0 where
   pub length : r .length ≡ n
   pub header : SameHeader h (r .header)
 
--- whatever the writer accepts, with any bytes behind it that leave 118 in all, reads back the same; the premise on ranges is what
+-- whatever the writer accepts reads back the same, with any bytes behind it, 118 at the most in all; the premise on ranges is what
 -- every header has
 abbrev pub WrittenReadsBack : Type 0
 WrittenReadsBack =

@@ -25,7 +25,7 @@ pub record Agrees (h : NwkHeader) : Type 0 where
 abbrev pub AuxAgrees : NwkAuxHeader → Type 0
 AuxAgrees a = a .«security_control» .«extended_nonce» ≡ hasIeee (a .«extended_source»)
 
--- the same as tests
+-- both as tests, for the lists of the writers
 unfoldable pub agrees : NwkHeader → Bool
 agrees h =
     (Bool·beq (h .«frame_control» .destination) (hasIeee (h .«destination_ieee»))

@@ -1,4 +1,4 @@
--- Every row of the table of the presence bits holds, by computing the definitions: one claim, in which a wrong row fails.
+-- Every row of the tables of the presence bits holds, by computing the definitions: one claim, in which a wrong row fails.
 -- Assumes nothing.
 use mathlib.Core.Path.{refl}
 use Rattle.octets.specs.Strings.{tab}
@@ -15,10 +15,26 @@ use Rattle.header.specs.Auxiliary.{blankAux, auxBytes}
 use Rattle.frame.specs.Writing.{lengthRefusals, frameWriteRefusal, writeFrame}
 use Rattle.frame.specs.Sealing.{sealedLength, headersRefusal, sealRefusals, sealRefusal, sealRefused, sealBy, sealFrame}
 use Rattle.boundary.specs.Rows.{All}
-use Rattle.worked_frames.specs.PresenceBits.{Holds, cases, made, auxiliary, agreeing, each}
+use Rattle.worked_frames.specs.PresenceBits.{Holds, made, auxiliary, agreeing, each, writtenBits, sealedBits, inOrder, cases}
 
-pub cases-hold : All Holds cases
+bits-written : All Holds writtenBits
+unfolding unless firstOf tab le packed written controlWord relayBytes fixedBytes optionalBytes headerBytes badControl badHeader agrees fieldRefusal headerWriteRefusal writeHeader
+    lengthRefusals frameWriteRefusal writeFrame made each writtenBits
+bits-written =
+    ((refl, refl), ((refl, refl), ((refl, refl), ((refl, refl), ((refl, refl), ((refl, refl), ((refl, refl), ((refl, refl), ((refl, refl), ((refl, refl), ((refl, refl), ((refl, refl), tt))))))))))))
+
+bits-sealed : All Holds sealedBits
+unfolding unless firstOf tab le packed controlWord relayBytes fixedBytes optionalBytes headerBytes badControl badHeader agrees auxAgrees fieldRefusal securityByte auxBytes
+    lengthRefusals sealedLength headersRefusal sealRefusals sealRefusal sealRefused sealBy sealFrame made auxiliary agreeing each sealedBits
+bits-sealed = (refl, (refl, (refl, (refl, (refl, (refl, (refl, (refl, (refl, (refl, (refl, (refl, tt))))))))))))
+
+order-kept : All Holds inOrder
 unfolding unless firstOf tab le packed written controlWord relayBytes fixedBytes optionalBytes headerBytes badControl badHeader agrees auxAgrees fieldRefusal headerWriteRefusal writeHeader
     securityByte auxBytes blankAux lengthRefusals frameWriteRefusal writeFrame sealedLength headersRefusal sealRefusals sealRefusal sealRefused sealBy sealFrame
-    made auxiliary agreeing each cases
-cases-hold = ((refl, refl), ((refl, refl), ((refl, refl), ((refl, refl), ((refl, refl), ((refl, refl), ((refl, refl), ((refl, refl), ((refl, refl), ((refl, refl), ((refl, refl), ((refl, refl), (refl, (refl, (refl, (refl, (refl, (refl, (refl, (refl, (refl, (refl, (refl, (refl, ((refl, refl), (refl, (refl, (refl, (refl, (refl, (refl, (refl, (refl, (refl, (refl, ((refl, refl), (refl, (refl, (refl, tt)))))))))))))))))))))))))))))))))))))))
+    made auxiliary agreeing each inOrder
+order-kept =
+    ((refl, refl), (refl, (refl, (refl, (refl, (refl, (refl, (refl, (refl, (refl, (refl, (refl, (refl, ((refl, refl), (refl, (refl, (refl, tt)))))))))))))))))
+
+pub cases-hold : All (All Holds) cases
+unfolding cases
+cases-hold = (bits-written, (bits-sealed, (order-kept, tt)))

@@ -1,5 +1,5 @@
--- Document 02, 8, at its edges: which presence bits are refused by 28, and in which order, as one table. What a row says of the
--- definitions is `Holds`; that every row holds is one claim, in proofs/PresenceBits.antt.
+-- Document 02, 8, at its edges: which presence bits are refused by 28, and in which order, as tables. What a row says of the
+-- definitions is `Holds`; that every row of every table holds is one claim, in proofs/PresenceBits.antt.
 -- Assumes nothing.
 use mathlib.Core.Path.{_≡_}
 use mathlib.Core.Bool.{Bool, true, false}
@@ -88,24 +88,31 @@ agreeing = auxiliary true (OptionEui64.Present 1) 1
 unfoldable pub each : (ℕ → Case) → List Case
 each row = row 8 ∷ row 10 ∷ row 11 ∷ row 12 ∷ []
 
--- ---- the table
+-- ---- the tables
 
-unfoldable pub cases : List Case
-cases =
-    -- a bit without its field, a field without its bit (the request's own case: a long source address and bit 12 off), and both
+-- a bit without its field, a field without its bit (the request's own case is a long source address and bit 12 off), and both
+unfoldable pub writtenBits : List Case
+writtenBits =
     each (λ (n : ℕ). writing (made 2 false n 0) 28)
-    ++ (each (λ (n : ℕ). writing (made 2 false 0 n) 28)
-    ++ (each (λ (n : ℕ). writing (made 2 false n n) 0)
-    ++ (each (λ (n : ℕ). sealing (made 2 true n 0) agreeing 28)
-    ++ (each (λ (n : ℕ). sealing (made 2 true 0 n) agreeing 28)
-    ++ (each (λ (n : ℕ). sealing (made 2 true n n) agreeing 0)
+    ++ (each (λ (n : ℕ). writing (made 2 false 0 n) 28) ++ each (λ (n : ℕ). writing (made 2 false n n) 0))
+
+unfoldable pub sealedBits : List Case
+sealedBits =
+    each (λ (n : ℕ). sealing (made 2 true n 0) agreeing 28)
+    ++ (each (λ (n : ℕ). sealing (made 2 true 0 n) agreeing 28) ++ each (λ (n : ℕ). sealing (made 2 true n n) agreeing 0))
+
+unfoldable pub inOrder : List Case
+inOrder =
     -- bit 9: writing does not look at it; sealing does, also where there is no auxiliary header
-    ++ (writing (made 2 true 0 0) 0
+    writing (made 2 true 0 0) 0
     ∷ sealing (made 2 true 0 0) agreeing 0
     ∷ sealing (made 2 false 0 0) agreeing 28
     ∷ sealing (made 2 false 0 0) OptionAuxHeader.Absent 28
     ∷ sealing (made 2 true 0 0) OptionAuxHeader.Absent 14
     ∷ sealing (made 2 true 12 0) OptionAuxHeader.Absent 28
+    -- the header's bits are before 15 too
+    ∷ sealing (made 2 false 0 0) (auxiliary false OptionEui64.Absent 1) 28
+    ∷ sealing (made 2 true 12 0) (auxiliary false OptionEui64.Absent 1) 28
     -- the extended nonce bit, with no address anywhere and with the header's
     ∷ sealing (made 2 true 0 0) (auxiliary true OptionEui64.Absent 1) 28
     ∷ sealing (made 2 true 0 0) (auxiliary false OptionEui64.Absent 1) 15
@@ -117,4 +124,7 @@ cases =
     ∷ sealing (made 16 false 12 0) (auxiliary true OptionEui64.Absent 1) 13
     ∷ sealing (made 2 true 0 0) (auxiliary true OptionEui64.Absent 0xFFFFFFFF) 28
     ∷ sealing (made 2 true 0 0) (auxiliary true (OptionEui64.Present 1) 0xFFFFFFFF) 21
-    ∷ []))))))
+    ∷ []
+
+unfoldable pub cases : List (List Case)
+cases = writtenBits ∷ sealedBits ∷ inOrder ∷ []
