@@ -100,11 +100,11 @@ enum nwk_refusal {
 #define NWK_HEADER_FRAME_TYPE 0            /* 1 byte: 0 data, 1 command, 3 inter-PAN */
 #define NWK_HEADER_VERSION 1               /* 1 byte: protocol version, 0 to 15 */
 #define NWK_HEADER_DISCOVERY 2             /* 1 byte: 0 suppress, 1 enable, 2 with multicast */
-#define NWK_HEADER_MULTICAST_BIT 3         /* 1 byte */
-#define NWK_HEADER_SECURITY_BIT 4          /* 1 byte */
-#define NWK_HEADER_SOURCE_ROUTE_BIT 5      /* 1 byte */
-#define NWK_HEADER_DESTINATION_IEEE_BIT 6  /* 1 byte */
-#define NWK_HEADER_SOURCE_IEEE_BIT 7       /* 1 byte */
+#define NWK_HEADER_MULTICAST_BIT 3         /* 1 byte: bit 8 of frame control */
+#define NWK_HEADER_SECURITY_BIT 4          /* 1 byte: bit 9 of frame control */
+#define NWK_HEADER_SOURCE_ROUTE_BIT 5      /* 1 byte: bit 10 of frame control */
+#define NWK_HEADER_DESTINATION_IEEE_BIT 6  /* 1 byte: bit 11 of frame control */
+#define NWK_HEADER_SOURCE_IEEE_BIT 7       /* 1 byte: bit 12 of frame control */
 #define NWK_HEADER_END_DEVICE_BIT 8        /* 1 byte: end device initiator */
 #define NWK_HEADER_BITS_14_15 9            /* 1 byte: of frame control, 0 to 3 */
 #define NWK_HEADER_DESTINATION 10          /* 2 bytes */

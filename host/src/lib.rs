@@ -35,9 +35,9 @@
 //!
 //! # Presence bits
 //!
-//! Each optional field of a header has a bit that says whether it is there, and writing and sealing refuse a header whose bits
-//! disagree by 28. [`NwkHeader::with_source_ieee`] and the like set both. Where fields were filled in by hand, three lines set the
-//! bits for sealing:
+//! Each optional field of a header has a bit that says whether it is there. Writing and sealing refuse by 28 a header whose bits
+//! disagree with its fields. [`NwkHeader::with_source_ieee`] and the like set both. Where fields were filled in by hand, three
+//! lines set the bits for sealing:
 //!
 //! ```
 //! # use store_reader::{Eui64, Nwk, NwkAuxHeader, NwkFrameType, NwkHeader, PresenceBit};

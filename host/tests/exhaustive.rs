@@ -244,7 +244,7 @@ fn every_byte_of_a_header_record() {
     headers::agree(&mut full);
     let accepted = |at: usize| accepted_values(Operation::WriteHeader, &full.record(), at, 200);
     assert_eq!([0, 1, 2, 9].map(accepted), [3, 16, 3, 4]);
-    // bits 8 to 13: a presence bit, or its field's presence byte, has no other value than 1, else it is 28
+    // bits 8 to 13: of a presence bit, or of its field's presence byte, 1 alone is accepted; 0 is 28
     assert_eq!((3..9).map(accepted).collect::<Vec<_>>(), [1, 2, 1, 1, 1, 2]);
     assert_eq!([16, 25, 34, 36].map(accepted), [1; 4]);
     // 27 bytes stand before the relays: of the 54 places, 45 fit into 118 bytes
