@@ -33,11 +33,13 @@ fn headers_refusal(h: NwkHeader, aux: OptionAuxHeader) -> u8
     ensures { λ r. ⌜ r ≡ headersRefusal h aux ⌝ }
 {
     let present = aux.or_blank();
+    let agrees = present.agrees();
+    let no_ieee = security::no_ieee(h, present);
     let r = h.field_refusal();
     let r = octets::refuse(r, refusals::PRESENCE_BITS, !h.frame_control.security);
     let r = octets::refuse(r, refusals::NO_AUXILIARY, aux.is_absent());
-    let r = octets::refuse(r, refusals::PRESENCE_BITS, !present.agrees());
-    octets::refuse(r, refusals::NO_IEEE, security::no_ieee(h, present))
+    let r = octets::refuse(r, refusals::PRESENCE_BITS, !agrees);
+    octets::refuse(r, refusals::NO_IEEE, no_ieee)
 }
 
 // The first of the refusals 13, 28, 14, 28, 15, 21, 17 and 18 that holds for n bytes of payload, or 0.

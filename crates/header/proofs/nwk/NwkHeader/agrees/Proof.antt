@@ -6,7 +6,20 @@ use Rattle.header.proofs.nwk.NwkHeader.agrees.Tie as tie
 
 returns : tie.Need-returns
 unfolding agrees
-returns c = cc
+returns c =
+    let route = c .before .before .before .before in
+    let multicast = route .before .before in
+    let source = multicast .before .before in
+    let destination = source .before .before in
+    simp (
+      c .both3 .ensures,
+      c .before .both2 .ensures,
+      c .before .before .both .ensures,
+      route .is-present4 .ensures,
+      multicast .is-present3 .ensures,
+      source .is-present2 .ensures,
+      destination .is-present .ensures,
+    )
 
 pub agrees-spec : {M : Type 1} → statement M
 agrees-spec =
