@@ -1,8 +1,8 @@
--- Limits of bytes: some place meets a test where one is found, and none does where each was passed. By induction on the
--- number of places.
+-- Limits of bytes: some place meets a test where one is found, and the same with one place more. By induction on the number of
+-- places.
 -- Assumes nothing.
 use mathlib.Core.Path.{_≡_, refl}
-use mathlib.Core.Bool.{Bool, true, false, or-true}
+use mathlib.Core.Bool.{Bool, true, or-true, _||_}
 use mathlib.Core.Logic.{⊎-elim}
 use Prim.Native.Nat.{ℕ, zero, suc, _+_, _<_}
 use native.Mathlib.Numerals.{add-one}
@@ -19,10 +19,7 @@ any-found p (suc n) i h e =
     (λ (q : i ≡ n). rw (← q, e) (or-true (anyBelow p i)))
     (below-or-last i n h)
 
-pub any-more : (p : ℕ → Bool) (n : ℕ) → anyBelow p n ≡ false → p n ≡ false → anyBelow p (n + 1) ≡ false
+-- one place more
+pub any-more : (p : ℕ → Bool) (n : ℕ) → anyBelow p n || p n ≡ anyBelow p (n + 1)
 unfolding anyBelow
-any-more p n e f = rw (add-one n, e, f) refl
-
-pub any-none : (p : ℕ → Bool) → anyBelow p 0 ≡ false
-unfolding anyBelow
-any-none p = refl
+any-more p n = rw (add-one n) refl
