@@ -15,6 +15,8 @@ use frame::OptionAuxHeader;
 use records::auxiliary_record;
 use records::header_record::header_of;
 use types::Key;
+ghost use mathlib.Core.Path.{_≡_};
+ghost use lib.ListN.{length};
 
 // Whether writing without a key to an output of the room given leaves the number and the frame.
 fn writes(
@@ -24,7 +26,9 @@ fn writes(
     refusal: usize,
     expected: &[u8],
     out: &mut [u8],
-) -> bool {
+) -> bool
+    requires { ⌜ length (now header) ≡ 147 ⌝ }
+{
     let r = file::within(room, out);
     let w = frame::write_frame(header_of(header), payload, &mut out[..r]);
     w.refusal as usize == refusal && w.length == expected.len() && outputs::holds(out, expected)
@@ -81,7 +85,9 @@ fn seals(
     refusal: usize,
     expected: &[u8],
     out: &mut [u8],
-) -> bool {
+) -> bool
+    requires { ⌜ length (now header) ≡ 147 ⌝ }
+{
     let r = file::within(room, out);
     let w = frame::sealing::seal(
         Key(key),
@@ -94,7 +100,9 @@ fn seals(
 }
 
 // A case of sealing, its key and its headers given.
-fn check_sealed(line: &[u8], key: [u8; 16], header: &[u8], aux: &[u8]) -> Line {
+fn check_sealed(line: &[u8], key: [u8; 16], header: &[u8], aux: &[u8]) -> Line
+    requires { ⌜ length (now header) ≡ 147 ⌝ }
+{
     let mut payload = [0u8; 128];
     let mut expected = [0u8; 128];
     let mut out = [FILLER; 128];

@@ -37,12 +37,12 @@ pub record HeaderPlain (r : List ℕ) : Type 0 where
   pub route : Blank r 36 2
 
 -- what a record that is not bad has
-record HeaderTests (r : List ℕ) : Type 0 where
-  size : length r ≡ 147
-  type : eqb (getD r 0 0) 2 ≡ false
-  keeps-to : (i : ℕ) → i < 37 → getD r i 0 ≤ getD headerLimits i 0
+pub record HeaderTests (r : List ℕ) : Type 0 where
+  pub size : length r ≡ 147
+  pub type : eqb (getD r 0 0) 2 ≡ false
+  pub keeps-to : (i : ℕ) → i < 37 → getD r i 0 ≤ getD headerLimits i 0
 
-header-tests : (r : List ℕ) → badHeaderRecord r ≡ false → HeaderTests r
+pub header-tests : (r : List ℕ) → badHeaderRecord r ≡ false → HeaderTests r
 unfolding badHeaderRecord
 header-tests r e =
     let a = or-false (not (eqb (length r) 147)) (eqb (getD r 0 0) 2 || exceeds headerLimits r) e in

@@ -21,6 +21,7 @@ ghost use mathlib.Core.List.{_++_};
 ghost use Prim.Native.Nat.{_+_, _≤_, _<_};
 ghost use lib.ListN.{length};
 ghost use Rattle.octets.specs.Strings.{over};
+ghost use Rattle.octets.specs.Numbers.{leAt};
 ghost use Rattle.header.specs.Control.{controlValues, controlFrom};
 ghost use Rattle.header.specs.Optional.{relayBytes};
 ghost use Rattle.records.specs.Optional.{ieeeRecord, multicastRecord, routeRecord};
@@ -180,47 +181,58 @@ pub fn put_header(out: &mut [u8], h: NwkHeader)
 
 // ---- the header of a record
 
+// The 16-bit number at place i, least significant byte first.
+fn number_at(bytes: &[u8], i: usize) -> u16
+    requires { ⌜ i + 1 < length (now bytes) ⌝ }
+    ensures { λ r. ⌜ r ≡ leAt 2 (now (bytes .entry)) i ⌝ }
+{
+    (bytes[i] as u16) + (bytes[i + 1] as u16) * 256
+}
+
 // The frame control that the first ten bytes encode.
 fn control_of(bytes: &[u8]) -> NwkFrameControl
+    requires { ⌜ 10 ≤ length (now bytes) ⌝ }
     ensures { λ r. ⌜ r ≡ controlFrom (now (bytes .entry)) ⌝ }
 {
     NwkFrameControl {
-        frame_type: NwkFrameType::from_code(octets::byte_at(bytes, 0) as u16),
-        protocol_version: octets::byte_at(bytes, 1),
-        discover_route: NwkRouteDiscovery::from_code(octets::byte_at(bytes, 2) as u16),
-        multicast: octets::byte_at(bytes, 3) == 1,
-        security: octets::byte_at(bytes, 4) == 1,
-        source_route: octets::byte_at(bytes, 5) == 1,
-        destination: octets::byte_at(bytes, 6) == 1,
-        extended_source: octets::byte_at(bytes, 7) == 1,
-        end_device_initiator: octets::byte_at(bytes, 8) == 1,
-        reserved1: octets::byte_at(bytes, 9),
+        frame_type: NwkFrameType::from_code(bytes[0] as u16),
+        protocol_version: bytes[1],
+        discover_route: NwkRouteDiscovery::from_code(bytes[2] as u16),
+        multicast: bytes[3] == 1,
+        security: bytes[4] == 1,
+        source_route: bytes[5] == 1,
+        destination: bytes[6] == 1,
+        extended_source: bytes[7] == 1,
+        end_device_initiator: bytes[8] == 1,
+        reserved1: bytes[9],
     }
 }
 
 // The 54 relays from place 39.
 fn relays_of(bytes: &[u8]) -> [Nwk; 54]
+    requires { ⌜ 147 ≤ length (now bytes) ⌝ }
     ensures { λ r. ⌜ r ≡ relaysFrom (now (bytes .entry)) 39 ⌝ }
 {
     let mut relays = [NO_NWK; 54];
     let mut i = 0;
     while i < 54 {
-        relays[i] = Nwk(octets::read_u16(bytes, 39 + 2 * i));
+        relays[i] = Nwk(number_at(bytes, 39 + 2 * i));
         i += 1;
     }
     relays
 }
 
-// The header that a record encodes; bytes past its end count 0.
+// The header that a record of the right length encodes.
 pub fn header_of(bytes: &[u8]) -> NwkHeader
+    requires { ⌜ length (now bytes) ≡ 147 ⌝ }
     ensures { λ r. ⌜ r ≡ headerOf (now (bytes .entry)) ⌝ }
 {
     NwkHeader {
         frame_control: control_of(bytes),
-        destination: Nwk(octets::read_u16(bytes, 10)),
-        source: Nwk(octets::read_u16(bytes, 12)),
-        radius: octets::byte_at(bytes, 14),
-        sequence_number: octets::byte_at(bytes, 15),
+        destination: Nwk(number_at(bytes, 10)),
+        source: Nwk(number_at(bytes, 12)),
+        radius: bytes[14],
+        sequence_number: bytes[15],
         destination_ieee: ieee_in(bytes, 16),
         source_ieee: ieee_in(bytes, 25),
         multicast_control: multicast_in(bytes, 34),

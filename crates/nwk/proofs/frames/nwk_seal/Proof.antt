@@ -6,6 +6,7 @@ use Rattle.nwk.proofs.frames.nwk_seal.Statement.{statement}
 use Rattle.nwk.proofs.frames.nwk_seal.Tie as tie
 use Rattle.octets.proofs.Conditions.{stop, skip}
 use Rattle.frame.specs.Sealing.{sealFrame}
+use Rattle.records.proofs.RecordBack.{header-tests}
 use Rattle.nwk.specs.Frames.{sealRecordsRefusal, sealedRecords}
 use Rattle.nwk.proofs.Calls.{refused-by, sealed-by}
 use Rattle.nwk.proofs.Refusals.{write-good}
@@ -23,6 +24,11 @@ returns-2 c =
     let e = sym (header .before .is-bad .ensures) ∙ header .if1 .left in
     let d = sym (c .before .before .is-bad2 .ensures) ∙ c .before .if2 .taken in
     refused-by _ 13 _ _ _ _ (sym (skip 13 _ _ e ∙ stop 13 _ _ d)) (λ e. omega arith) (c .answer2 .ensures)
+
+header-of-requires : tie.Need-header-of-requires
+header-of-requires c κs =
+    let header = c .before .before .before in
+    header-tests _ (sym (header .before .is-bad .ensures) ∙ header .if1 .left) .size
 
 returns-3 : tie.Need-returns-3
 unfolding sealRecordsRefusal sealedRecords sealFrame
@@ -43,5 +49,5 @@ pub nwk-seal-spec : {M : Type 1} → statement M
 nwk-seal-spec =
     tie.close
     (tie.spec (λ c κs. search needs) (λ c κs. search needs) returns (λ c κs. search needs) (λ c κs. search needs)
-    returns-2 (λ c κs. search needs) (λ c κs. search needs) (λ c κs. search needs) (λ c κs. search needs)
+    returns-2 (λ c κs. search needs) header-of-requires (λ c κs. search needs) (λ c κs. search needs)
     (λ c κs. search needs) (λ c. search needs) returns-3)

@@ -6,6 +6,7 @@ use Rattle.nwk.proofs.frames.nwk_write_frame.Statement.{statement}
 use Rattle.nwk.proofs.frames.nwk_write_frame.Tie as tie
 use Rattle.octets.proofs.Conditions.{stop}
 use Rattle.frame.specs.Writing.{writeFrame}
+use Rattle.records.proofs.RecordBack.{header-tests}
 use Rattle.nwk.specs.Frames.{writeFrameRefusal}
 use Rattle.nwk.proofs.Calls.{refused-by, written-by}
 use Rattle.nwk.proofs.Refusals.{write-good}
@@ -15,6 +16,9 @@ unfolding writeFrameRefusal
 returns c =
     let e = sym (c .before .before .is-bad .ensures) ∙ c .before .if1 .taken in
     refused-by _ 13 _ _ _ _ (sym (stop 13 _ _ e)) (λ e. omega arith) (c .answer .ensures)
+
+header-of-requires : tie.Need-header-of-requires
+header-of-requires c κs = header-tests _ (sym (c .before .is-bad .ensures) ∙ c .if1 .left) .size
 
 returns-2 : tie.Need-returns-2
 unfolding writeFrameRefusal writeFrame
@@ -28,5 +32,5 @@ returns-2 c =
 pub nwk-write-frame-spec : {M : Type 1} → statement M
 nwk-write-frame-spec =
     tie.close
-    (tie.spec (λ c κs. search needs) (λ c κs. search needs) returns (λ c κs. search needs) (λ c κs. search needs)
+    (tie.spec (λ c κs. search needs) (λ c κs. search needs) returns header-of-requires (λ c κs. search needs)
     (λ c κs. search needs) (λ c. search needs) returns-2)

@@ -1,35 +1,19 @@
--- `control_of` meets its contract, field by field. Assumes nothing.
+-- `control_of` meets its contract: the two codes mean what they mean, and the other fields are the bytes. Assumes nothing.
 use borrow.Author.Needs.{needs}
-use mathlib.Core.Path.{ap, _∙_}
-use lib.Dec.{eqb}
+use mathlib.Core.Path.{refl}
+use native.Mathlib.Omega.{arith}
 use Rattle.records.proofs.header_record.control_of.Statement.{statement}
 use Rattle.records.proofs.header_record.control_of.Tie as tie
-use Rattle.header.specs.Control.{typeOf, discoveryOf}
 
 returns : tie.Need-returns
 returns c =
-    let extended = c .before .before in
-    let route = extended .before .before in
-    let multicast = route .before .before in
-    let discover = multicast .before in
-    let version = discover .before .before in
-    λ i. record {
-      «frame_type» = (version .before .from-code .ensures ∙ ap typeOf (version .before .before .byte-at .ensures)) i;
-      «protocol_version» = version .byte-at2 .ensures i;
-      «discover_route» = (discover .from-code2 .ensures ∙ ap discoveryOf (discover .before .byte-at3 .ensures)) i;
-      multicast = eqb (multicast .byte-at4 .ensures i) 1;
-      security = eqb (route .before .byte-at5 .ensures i) 1;
-      «source_route» = eqb (route .byte-at6 .ensures i) 1;
-      destination = eqb (extended .before .byte-at7 .ensures i) 1;
-      «extended_source» = eqb (extended .byte-at8 .ensures i) 1;
-      «end_device_initiator» = eqb (c .before .byte-at9 .ensures i) 1;
-      reserved1 = c .byte-at10 .ensures i;
-    }
+    let discover = c .before .before .before .before .before .before .before in
+    rw (discover .before .before .before .from-code .ensures, discover .from-code2 .ensures) refl
 
 pub control-of-spec : {M : Type 1} → statement M
 control-of-spec =
     tie.close
-    (tie.spec (λ c κs. search needs) (λ c. search needs) (λ c κs. search needs) (λ c κs. search needs)
-    (λ c κs. search needs) (λ c. search needs) (λ c κs. search needs) (λ c κs. search needs) (λ c κs. search needs)
-    (λ c κs. search needs) (λ c κs. search needs) (λ c κs. search needs) (λ c κs. search needs) (λ c κs. search needs)
-    returns)
+    (tie.spec (λ c. search needs) (λ c. omega (arith, c .shared-slice-known2 .given 0)) (λ c κs. search needs)
+    (λ c. search needs) (λ c. search needs) (λ c. omega (arith, c .shared-slice-known4 .given 2)) (λ c κs. search needs)
+    (λ c. search needs) (λ c. search needs) (λ c. search needs) (λ c. search needs) (λ c. search needs) (λ c. search needs)
+    (λ c. search needs) returns)

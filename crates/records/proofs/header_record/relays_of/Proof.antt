@@ -30,7 +30,7 @@ loop-again c =
     let below : l .i < 54 = c .before .loop-test .taken in (
       omega arith,
       simp length-set (l .inv .1),
-      fill-turn _ (l .i) _ (l .relays) _ below (ap nwk (c .read-u16 .ensures)) (l .inv .2),
+      fill-turn _ (l .i) _ (l .relays) _ below (ap nwk (c .number-at .ensures)) (l .inv .2),
     )
 
 returns : tie.Need-returns Inv-loop μ-loop
@@ -43,5 +43,5 @@ returns c =
 pub relays-of-spec : {M : Type 1} → statement M
 relays-of-spec =
     tie.close
-    (tie.spec Inv-loop μ-loop loop-holds (λ c. omega arith) (λ c. omega arith) (λ c κs. tt) (λ c. omega arith)
+    (tie.spec Inv-loop μ-loop loop-holds (λ c. omega arith) (λ c. omega arith) (λ c κs. omega arith) (λ c. omega arith)
     (λ c. omega arith) (λ c. omega arith) (λ c. omega arith) loop-again returns)
