@@ -9,16 +9,14 @@ use types::NO_NWK;
 use types::Nwk;
 use types::OptionEui64;
 ghost use mathlib.Core.Path.{_≡_};
-ghost use mathlib.Core.Bool.{false, cond};
-ghost use lib.Dec.{ltb};
+ghost use mathlib.Core.Bool.{false};
 ghost use mathlib.Core.List.{_++_, _∷_};
-ghost use Prim.Native.Nat.{_+_, _*_, _≤_, _<_};
+ghost use Prim.Native.Nat.{_+_, _-_, _≤_, _<_};
 ghost use lib.ListN.{length};
 ghost use Rattle.octets.specs.Strings.{over};
-ghost use Rattle.octets.specs.Numbers.{le, leAt};
+ghost use Rattle.octets.specs.Numbers.{le};
 ghost use Rattle.octets.specs.Refusals.{by, firstOf};
 ghost use Rattle.header.specs.Optional.{multicastBytes, routeBytes, relayCount};
-ghost use Rattle.types.specs.Addresses.{nwk, noNwk};
 ghost use Rattle.types.specs.Optional.{ieeeBytes};
 ghost use Rattle.header.specs.Reading.{optionalRefusals, sourceAt, multicastAt, routeAt, relaysAnnounced, headerEnd, headerRefusal, relaysOf, headerBy, blankHeader, readHeader};
 ghost use Rattle.header.specs.Same.{agrees};
@@ -139,31 +137,27 @@ fn header_refusal(f: &[u8]) -> u8
     optional_refusal(r, f, NwkFrameControl::from_word(w))
 }
 
+// How many of n relays have a place.
+fn placed(n: usize) -> usize
+    ensures { λ r. ⌜ r ≡ n - (n - 54) ⌝ }
+{
+    if n < 54 { n } else { 54 }
+}
+
 // The relays at their places, and 0 past their count.
 fn relays_of(f: &[u8], c: NwkFrameControl) -> [Nwk; 54]
     ensures { λ r. ⌜ r ≡ relaysOf (now (f .entry)) c ⌝ }
 {
-    let n = relays_announced(f, c);
+    let announced = relays_announced(f, c);
+    let n = placed(announced);
     let first = route_at(c) + 2;
     let mut relays = [NO_NWK; 54];
     let mut i = 0;
-    while i < 54 {
-        relays[i] = relay_at(f, first, i, n);
+    while i < n {
+        relays[i] = Nwk(octets::read_u16(f, first + 2 * i));
         i += 1;
     }
     relays
-}
-
-// The relay at index i of n, the first standing at the place given.
-fn relay_at(f: &[u8], first: usize, i: usize, n: usize) -> Nwk
-    requires { ⌜ (first < 256) × (i < 54) ⌝ }
-    ensures { λ r. ⌜ r ≡ cond (ltb i n) (nwk (leAt 2 (now (f .entry)) (first + 2 * i))) noNwk ⌝ }
-{
-    if i < n {
-        Nwk(octets::read_u16(f, first + 2 * i))
-    } else {
-        NO_NWK
-    }
 }
 
 impl NwkHeader {
