@@ -26,7 +26,7 @@ pub fn key_expansion(key: [u8; 16]) -> [[[u8; 4]; 4]; 11]
 }
 
 // The table that `cipher` looks up in, for a caller to hold once and lend to it.
-pub fn cipher_table() -> [u32; 256]
+pub fn cipher_table() -> [u32; 512]
     ensures { λ r. ⌜ r ≡ cipherTable ⌝ }
 {
     field::round_table()
@@ -35,7 +35,7 @@ pub fn cipher_table() -> [u32; 256]
 // Cipher (FIPS 197, 5.1): a block under the round keys. The block goes in as its four words, the first byte of each lowest, and comes
 // out as an array of them. The rounds are written out: in a loop the compiler would carry the state byte by byte.
 pub fn cipher(
-    table: &[u32; 256],
+    table: &[u32; 512],
     keys: &[[[u8; 4]; 4]; 11],
     a: u32,
     b: u32,

@@ -9,19 +9,22 @@ ghost use Rattle.aes.specs.Rounds.{subBytes, shiftRows, mixColumn, mixCo
 use crate::words;
 use field::entry;
 use field::substituted;
+use field::turned_once;
+use field::turned_thrice;
+use field::turned_twice;
 
 // The column of the bytes a, b, c and d, each substituted, then mixed, with the round key's word added.
-fn column(table: &[u32; 256], a: u8, b: u8, c: u8, d: u8, k: [u8; 4]) -> [u8; 4]
+fn column(table: &[u32; 512], a: u8, b: u8, c: u8, d: u8, k: [u8; 4]) -> [u8; 4]
     requires { ⌜ now table ≡ roundTable ⌝ }
     ensures { λ r. ⌜ r ≡ xorWord (mixColumn (sbox a ∷ sbox b ∷ sbox c ∷ sbox d ∷ [])) k ⌝ }
 {
-    let odd = words::rotated(entry(table, d) ^ words::rotated_twice(entry(table, b)));
-    let mixed = entry(table, a) ^ (words::rotated_twice(entry(table, c)) ^ odd);
-    octets::bytes_of(words::number(k) ^ mixed)
+    let behind = turned_twice(table, c) ^ turned_once(table, d);
+    let mixed = entry(table, a) ^ (turned_thrice(table, b) ^ behind);
+    octets::bytes_of(mixed ^ words::number(k))
 }
 
 // The same in the last round, which leaves the column unmixed.
-fn last_column(table: &[u32; 256], a: u8, b: u8, c: u8, d: u8, k: [u8; 4]) -> [u8; 4]
+fn last_column(table: &[u32; 512], a: u8, b: u8, c: u8, d: u8, k: [u8; 4]) -> [u8; 4]
     requires { ⌜ now table ≡ roundTable ⌝ }
     ensures { λ r. ⌜ r ≡ xorWord (sbox a ∷ sbox b ∷ sbox c ∷ sbox d ∷ []) k ⌝ }
 {
@@ -47,7 +50,7 @@ pub fn add_round_key(s: [[u8; 4]; 4], k: [[u8; 4]; 4]) -> [[u8; 4]; 4]
 }
 
 // A round but the last (FIPS 197, 5.1). Row r comes from r columns further to the right: ShiftRows.
-pub fn round(table: &[u32; 256], s: [[u8; 4]; 4], k: [[u8; 4]; 4]) -> [[u8; 4]; 4]
+pub fn round(table: &[u32; 512], s: [[u8; 4]; 4], k: [[u8; 4]; 4]) -> [[u8; 4]; 4]
     requires { ⌜ now table ≡ roundTable ⌝ }
     ensures { λ r. ⌜ r ≡ addRoundKey (mixColumns (shiftRows (subBytes s))) k ⌝ }
 {
@@ -60,7 +63,7 @@ pub fn round(table: &[u32; 256], s: [[u8; 4]; 4], k: [[u8; 4]; 4]) -> [[u8; 4]; 
 }
 
 // The last round, which leaves the columns unmixed (FIPS 197, 5.1).
-pub fn last_round(table: &[u32; 256], s: [[u8; 4]; 4], k: [[u8; 4]; 4]) -> [[u8; 4]; 4]
+pub fn last_round(table: &[u32; 512], s: [[u8; 4]; 4], k: [[u8; 4]; 4]) -> [[u8; 4]; 4]
     requires { ⌜ now table ≡ roundTable ⌝ }
     ensures { λ r. ⌜ r ≡ addRoundKey (shiftRows (subBytes s)) k ⌝ }
 {

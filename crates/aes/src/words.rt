@@ -41,20 +41,6 @@ pub fn number(w: [u8; 4]) -> u32
     octets::word_of(w[0], w[1], w[2], w[3])
 }
 
-// RotWord of a word that is held as one number, its first byte lowest.
-pub fn rotated(w: u32) -> u32
-    ensures { λ r. ⌜ le 4 r ≡ rotWord (le 4 w) ⌝ }
-{
-    w / 0x100 + w % 0x100 * 0x100_0000
-}
-
-// RotWord of it twice.
-pub fn rotated_twice(w: u32) -> u32
-    ensures { λ r. ⌜ le 4 r ≡ rotWord (rotWord (le 4 w)) ⌝ }
-{
-    w / 0x1_0000 + w % 0x1_0000 * 0x1_0000
-}
-
 // The powers of x with which Rcon[1] to Rcon[10] begin (FIPS 197, 5.2).
 fn powers_of_x() -> [u8; 10]
     ensures { λ r. ⌜ r ≡ valuesFrom powerOfX 0 10 ⌝ }

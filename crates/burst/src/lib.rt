@@ -6,7 +6,7 @@ use types::MAX_NSDU_SIZE;
 ghost use mathlib.Core.Path.{_≡_};
 ghost use Prim.Native.Nat.{_≤_};
 ghost use lib.ListN.{length};
-ghost use Rattle.ccm.specs.Operations.{ciphUnder};
+ghost use Rattle.ccm.specs.Operations.{ciphUnder, lookups};
 ghost use Rattle.frame.specs.Opening.{openUnder};
 ghost use Rattle.records.specs.OpenedRecord.{openedRecord};
 ghost use Rattle.burst.specs.Burst.{total, burstRefusal, outAfter, answersAfter, openBurst};
@@ -48,23 +48,31 @@ fn refusal(lengths: &[u16], bytes: usize, room: usize, places: usize) -> u8
 }
 
 // Open one frame under round keys into its part of the output, its answer to its place.
-fn open_one(keys: &[[[u8; 4]; 4]; 11], frame: &[u8], part: &mut [u8], place: &mut [u8; 182])
+fn open_one(
+    table: &[u32; 512],
+    keys: &[[[u8; 4]; 4]; 11],
+    frame: &[u8],
+    part: &mut [u8],
+    place: &mut [u8; 182],
+)
+    requires { ⌜ now table ≡ lookups ⌝ }
     ensures part { λ _. ⌜ now (part .exit) ≡ openUnder (now (keys .entry)) (now (frame .entry)) (now (part .entry)) .out ⌝ }
     ensures place { λ _. ⌜ now (place .exit) ≡ openedRecord (openUnder (now (keys .entry)) (now (frame .entry)) (now (part .entry)) .answer) ⌝ }
 {
-    let opened = frame::opening::open_under(keys, frame, part);
+    let opened = frame::opening::open_under(table, keys, frame, part);
     opened_record::put_opened(place, opened);
 }
 
 // Open each frame of a burst that is not refused, under round keys.
 fn open_each(
+    table: &[u32; 512],
     keys: &[[[u8; 4]; 4]; 11],
     frames: &[u8],
     lengths: &[u16],
     out: &mut [u8],
     answers: &mut [[u8; 182]],
 )
-    requires { ⌜ burstRefusal (now lengths) (length (now frames)) (length (now out)) (length (now answers)) ≡ 0 ⌝ }
+    requires { ⌜ (now table ≡ lookups) × (burstRefusal (now lengths) (length (now frames)) (length (now out)) (length (now answers)) ≡ 0) ⌝ }
     ensures out { λ _. ⌜ now (out .exit) ≡ outAfter (ciphUnder (now (keys .entry))) (now (frames .entry)) (now (lengths .entry)) (now (out .entry)) (length (now (lengths .entry))) ⌝ }
     ensures answers { λ _. ⌜ now (answers .exit) ≡ answersAfter (ciphUnder (now (keys .entry))) (now (frames .entry)) (now (lengths .entry)) (now (out .entry)) (now (answers .entry)) (length (now (lengths .entry))) ⌝ }
 {
@@ -74,6 +82,7 @@ fn open_each(
         let end = at + lengths[k] as usize;
         let part = MAX_NSDU_SIZE * k;
         open_one(
+            table,
             keys,
             &frames[at..end],
             &mut out[part..part + MAX_NSDU_SIZE],
@@ -107,7 +116,8 @@ pub fn open_burst(
     }
     let bytes = key.0;
     let keys = ccm::expand(bytes);
-    open_each(&keys, frames, lengths, out, answers);
+    let table = ccm::cipher_table();
+    open_each(&table, &keys, frames, lengths, out, answers);
     BurstOpened {
         refusal: 0,
         frames: lengths.len(),

@@ -7,7 +7,7 @@ use native.Mathlib.Omega.{arith}
 use native.Mathlib.Nat.{add-assoc}
 use native.Mathlib.Numerals.{add-two}
 use borrow.Author.Tests.{lt-ltb, le-ltb}
-use lib.ListN.{length, getD}
+use lib.ListN.{length, getD, length-append}
 use lib.Seq.{take-all}
 use Rattle.octets.specs.Strings.{tab, Below}
 use Rattle.octets.specs.Numbers.{le, leAt, bytesOf}
@@ -34,33 +34,16 @@ block-words s p w x y z b ew ex ey ez =
 
 -- ---- the associated data behind its length
 
--- its first block: the length, then the data by index
-pub first-data : (a : List ℕ)
-    → (length a / 256 % 256 ∷ length a % 256 ∷ getD a 0 0 ∷ getD a 1 0 ∷ [])
-    ++ (tab (λ (k : ℕ). getD a (2 + k) 0) 4 ++ (tab (λ (k : ℕ). getD a (6 + k) 0) 4 ++ tab (λ (k : ℕ). getD a (10 + k) 0) 4))
-    ≡ blockAt (encodedData a) 0
-unfolding encodedData twoBytes blockAt tab
-first-data [] = refl
-first-data (x ∷ a) = refl
+-- none, or the two bytes and the data
+pub data-none : (a : List ℕ) → length a ≡ 0 → encodedData a ≡ []
+unfolding encodedData
+data-none [] e = refl
+data-none (x ∷ a) e = absurd (omega arith)
 
--- behind the length, which is two bytes long
-pub data-rest : (a : List ℕ) (i : ℕ) → 2 ≤ i → getD a (i - 2) 0 ≡ getD (encodedData a) i 0
+pub data-some : (a : List ℕ) → (length a ≡ 0 → ⊥) → (length a / 256 % 256 ∷ length a % 256 ∷ []) ++ a ≡ encodedData a
 unfolding encodedData twoBytes
-data-rest [] i h = refl
-data-rest (x ∷ a) zero h = absurd (omega arith)
-data-rest (x ∷ a) (suc zero) h = absurd (omega arith)
-data-rest (x ∷ a) (suc (suc k)) h =
-    let e : suc (suc k) - 2 ≡ k = omega arith in
-    ap (λ (j : ℕ). getD (x ∷ a) j 0) e
-
--- the blocks behind the first
-pub data-later : (a : List ℕ) (i : ℕ) → (i ≡ 0 → ⊥) → tab (λ (k : ℕ). getD a (i * 16 - 2 + k) 0) 16 ≡ blockAt (encodedData a) i
-unfolding blockAt
-data-later a i z =
-    tab-ext _ _ 16
-    (λ k l.
-    let e : i * 16 - 2 + k ≡ i * 16 + k - 2 = omega arith in
-    ap (λ (j : ℕ). getD a j 0) e ∙ data-rest a (i * 16 + k) (omega arith))
+data-some [] n = absurd (n refl)
+data-some (x ∷ a) n = refl
 
 pub length-data-none : (a : List ℕ) → length a ≡ 0 → 0 ≡ length (encodedData a)
 unfolding encodedData
@@ -72,25 +55,13 @@ unfolding encodedData twoBytes
 length-data [] n = absurd (n refl)
 length-data (x ∷ a) n = add-two (length (x ∷ a))
 
--- ---- the blocks B_i
+-- at most 127 bytes with their length are at most 129
+pub data-short : (a : List ℕ) → length a ≤ 127 → length (encodedData a) ≤ 129
+unfolding encodedData twoBytes
+data-short [] h = omega arith
+data-short (x ∷ a) h = omega arith
 
-module _ (t : ℕ) (nonce a p : List ℕ) where
-  pub formatted-first : (i : ℕ) → i ≡ 0 → firstBlock t nonce (length a) (length p) ≡ formatted t nonce a p i
-  unfolding formatted
-  formatted-first zero e = refl
-  formatted-first (suc i) e = absurd (omega arith)
-
-  pub formatted-data : (i : ℕ) → (i ≡ 0 → ⊥) → i - 1 < blocksOf (length (encodedData a)) → blockAt (encodedData a) (i - 1) ≡ formatted t nonce a p i
-  unfolding formatted
-  formatted-data zero z h = absurd (z refl)
-  formatted-data (suc i) z h =
-      let e : suc i - 1 ≡ i = omega arith in
-      rw (e, lt-ltb i (blocksOf (length (encodedData a))) (omega arith)) refl
-
-  pub formatted-payload : (i : ℕ) → (i ≡ 0 → ⊥) → blocksOf (length (encodedData a)) ≤ i - 1
-      → blockAt p (i - 1 - blocksOf (length (encodedData a))) ≡ formatted t nonce a p i
-  unfolding formatted
-  formatted-payload zero z h = absurd (z refl)
-  formatted-payload (suc i) z h =
-      let e : suc i - 1 ≡ i = omega arith in
-      rw (e, le-ltb i (blocksOf (length (encodedData a))) (omega arith)) refl
+-- B_0 has sixteen bytes
+pub length-first : (t : ℕ) (nonce : List ℕ) (a p : ℕ) → length nonce ≡ 13 → length (firstBlock t nonce a p) ≡ 16
+unfolding firstBlock headed twoBytes
+length-first t nonce a p e = ap suc (length-append nonce _) ∙ rw e refl

@@ -1,5 +1,6 @@
 -- What the proofs of the functions cite, and the laws of CCM for the crates above.
 mod Blocks
+mod Input
 mod Chains
 mod Streams
 mod Tags

@@ -18,7 +18,7 @@ pub length-zeroFilled : (d : List ℕ) → length (zeroFilled d) ≡ blocksOf (l
 unfolding zeroFilled
 length-zeroFilled d = simp (length-append, length-replicate) (omega (arith, blocks-hold (length d)))
 
-zero-at : (n i : ℕ) → _≡_ {A = ℕ} (getD (replicate n 0) i 0) 0
+pub zero-at : (n i : ℕ) → _≡_ {A = ℕ} (getD (replicate n 0) i 0) 0
 zero-at zero i = refl
 zero-at (suc n) zero = refl
 zero-at (suc n) (suc i) = zero-at n i

@@ -1,9 +1,10 @@
 -- SP 800-38C, A.2: the formatting of the input data into the blocks B_0, B_1, .., B_r. A block is sixteen bytes, given by
 -- index, with 0 past the end of the data: that is the zero fill.
 -- Assumes nothing.
+use mathlib.Core.Path.{_≡_}
 use mathlib.Core.Bool.{cond}
 use mathlib.Core.List.{List, [], _∷_, _++_}
-use Prim.Native.Nat.{ℕ, zero, suc, _+_, _-_, _*_, _/_, _%_}
+use Prim.Native.Nat.{ℕ, zero, suc, _+_, _-_, _*_, _/_, _%_, _≤_}
 use lib.Dec.{ltb}
 use lib.ListN.{length, getD}
 use Rattle.octets.specs.Strings.{tab}
@@ -47,3 +48,7 @@ unfoldable pub formatted : ℕ → List ℕ → List ℕ → List ℕ → ℕ �
 formatted t nonce a p zero = firstBlock t nonce (length a) (length p)
 formatted t nonce a p (suc i) =
     cond (ltb i (blocksOf (length (encodedData a)))) (blockAt (encodedData a) i) (blockAt p (i - blocksOf (length (encodedData a))))
+
+-- the bytes s are the formatted input, its blocks one behind the other: block i of them is B_i, up to B_r
+abbrev pub Formats : ℕ → List ℕ → List ℕ → List ℕ → List ℕ → Type 0
+Formats t nonce a p s = (i : ℕ) → i ≤ lastBlock a p → blockAt s i ≡ formatted t nonce a p i

@@ -11,6 +11,7 @@ use Rattle.octets.specs.Refusals.{unless, on, by, firstOf}
 use Rattle.octets.specs.Writing.{Run, written}
 use Rattle.aes.specs.KeyExpansion.{keyExpansion}
 use Rattle.aes.specs.Cipher.{cipher, aes128}
+use Rattle.aes.specs.Table.{cipherTable}
 use Rattle.ccm.specs.Generation.{Generated, generationEncryption}
 use Rattle.ccm.specs.Verification.{Verified, decryptionVerification}
 use Rattle.ccm.specs.declared.{Sealed.Sealed, Split.Split}
@@ -44,6 +45,10 @@ openedUnder t w nonce a c mic = decryptionVerification t (ciphUnder w) nonce a c
 -- the round keys of a key, for a caller that opens more than once under it
 unfoldable pub expanded : List ℕ → List (List (List ℕ))
 expanded key = keyExpansion key
+
+-- the table that the cipher looks up in, which such a caller lends
+abbrev pub lookups : List ℕ
+lookups = cipherTable
 
 -- ---- encrypt_ccm
 

@@ -6,7 +6,7 @@ ghost use mathlib.Core.Path.{_≡_};
 ghost use Prim.Native.Nat.{_≤_};
 ghost use lib.ListN.{length};
 ghost use Rattle.octets.specs.Strings.{over};
-ghost use Rattle.ccm.specs.Operations.{micLength, sealedBy, openedUnder, expanded, sealRefusal, encryptCcm, givenIf, decryptCcm, splitMic};
+ghost use Rattle.ccm.specs.Operations.{micLength, sealedBy, openedUnder, expanded, lookups, sealRefusal, encryptCcm, givenIf, decryptCcm, splitMic};
 
 mod counter;
 mod formatting;
@@ -47,6 +47,13 @@ pub fn expand(key: [u8; 16]) -> [[[u8; 4]; 4]; 11]
     aes::key_expansion(key)
 }
 
+// The table that the cipher looks up in, for a caller that opens more than once.
+pub fn cipher_table() -> [u32; 512]
+    ensures { λ r. ⌜ r ≡ lookups ⌝ }
+{
+    aes::cipher_table()
+}
+
 // Generation-encryption (SP 800-38C, 6.1), for a caller that has checked the lengths: the ciphertext goes to the front of
 // the output, the MIC is given.
 pub fn seal(key: [u8; 16], nonce: [u8; 13], auth: &[u8], payload: &[u8], out: &mut [u8]) -> [u8; 4]
@@ -55,7 +62,7 @@ pub fn seal(key: [u8; 16], nonce: [u8; 13], auth: &[u8], payload: &[u8], out: &m
     ensures buffer { λ _. ⌜ now (out .exit) ≡ over (now (out .entry)) 0 (sealedBy micLength key nonce (now (auth .entry)) (now (payload .entry)) .ciphertext) ⌝ }
 {
     let keys = expand(key);
-    let table = aes::cipher_table();
+    let table = cipher_table();
     counter::counter_mode(&table, &keys, nonce, payload, out);
     mac::encrypted_tag(&table, &keys, nonce, auth, payload)
 }
@@ -63,6 +70,7 @@ pub fn seal(key: [u8; 16], nonce: [u8; 13], auth: &[u8], payload: &[u8], out: &m
 // Decryption-verification (SP 800-38C, 6.2) under any round keys, for a caller that has checked the lengths: whether the MIC is
 // the one computed; only then the payload goes to the front of the output.
 pub fn open_under(
+    table: &[u32; 512],
     keys: &[[[u8; 4]; 4]; 11],
     nonce: [u8; 13],
     auth: &[u8],
@@ -70,15 +78,14 @@ pub fn open_under(
     mic: [u8; 4],
     out: &mut [u8],
 ) -> bool
-    requires { ⌜ (length (now auth) ≤ 127) × (length (now ciphertext) ≤ 127) × (length (now ciphertext) ≤ length (now out)) ⌝ }
+    requires { ⌜ (now table ≡ lookups) × (length (now auth) ≤ 127) × (length (now ciphertext) ≤ 127) × (length (now ciphertext) ≤ length (now out)) ⌝ }
     ensures valid { λ r. ⌜ r ≡ openedUnder micLength (now (keys .entry)) nonce (now (auth .entry)) (now (ciphertext .entry)) mic .valid ⌝ }
     ensures buffer { λ r. ⌜ now (out .exit) ≡ givenIf r (openedUnder micLength (now (keys .entry)) nonce (now (auth .entry)) (now (ciphertext .entry)) mic) (now (out .entry)) ⌝ }
 {
     let n = ciphertext.len();
-    let table = aes::cipher_table();
     let mut payload = [0u8; MAX_LENGTH];
-    counter::counter_mode(&table, keys, nonce, ciphertext, &mut payload);
-    let valid = mac::tag_valid(&table, keys, nonce, auth, &payload[..n], mic);
+    counter::counter_mode(table, keys, nonce, ciphertext, &mut payload);
+    let valid = mac::tag_valid(table, keys, nonce, auth, &payload[..n], mic);
     if valid {
         octets::copy_at(out, 0, &payload[..n]);
     }
@@ -132,7 +139,8 @@ pub fn decrypt_ccm(
         };
     }
     let keys = expand(key);
-    if open_under(&keys, nonce, auth, ciphertext, mic, out) {
+    let table = cipher_table();
+    if open_under(&table, &keys, nonce, auth, ciphertext, mic, out) {
         return Written {
             refusal: 0,
             length: ciphertext.len(),

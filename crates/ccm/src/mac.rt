@@ -2,14 +2,15 @@
 
 ghost use mathlib.Core.Path.{_≡_};
 ghost use mathlib.Core.Bool.{cond, false};
-ghost use Prim.Native.Nat.{_≤_, _<_};
+ghost use Prim.Native.Nat.{_+_, _*_, _≤_, _<_};
 ghost use lib.Dec.{eqb};
 ghost use lib.ListN.{length};
 ghost use Rattle.octets.specs.Strings.{xored};
 ghost use Rattle.octets.specs.Numbers.{bytesOf};
 ghost use Rattle.aes.specs.Cipher.{cipher};
 ghost use Rattle.aes.specs.Table.{cipherTable};
-ghost use Rattle.ccm.specs.Mac.{macChain};
+ghost use Rattle.ccm.specs.Formatting.{blockAt};
+ghost use Rattle.ccm.specs.Mac.{chain, macChain};
 ghost use Rattle.ccm.specs.Generation.{encryptedTag};
 ghost use Rattle.ccm.specs.Verification.{sameBytes, tagValid};
 ghost use Rattle.ccm.specs.Operations.{micLength};
@@ -18,7 +19,7 @@ use crate::counter;
 use crate::formatting;
 
 // Y_i of B_i and Y_(i - 1): the cipher of their exclusive or.
-fn chained(table: &[u32; 256], keys: &[[[u8; 4]; 4]; 11], b: [u32; 4], y: [u32; 4]) -> [u32; 4]
+fn chained(table: &[u32; 512], keys: &[[[u8; 4]; 4]; 11], b: [u32; 4], y: [u32; 4]) -> [u32; 4]
     requires { ⌜ now table ≡ cipherTable ⌝ }
     ensures { λ r. ⌜ bytesOf r ≡ cipher (now (keys .entry)) (xored 16 (bytesOf b) (bytesOf y)) ⌝ }
 {
@@ -32,24 +33,16 @@ fn chained(table: &[u32; 256], keys: &[[[u8; 4]; 4]; 11], b: [u32; 4], y: [u32; 
     )
 }
 
-// Y_r: the chain over the whole formatted input.
-pub fn cbc_mac(
-    table: &[u32; 256],
-    keys: &[[[u8; 4]; 4]; 11],
-    t: usize,
-    nonce: [u8; 13],
-    auth: &[u8],
-    payload: &[u8],
-) -> [u32; 4]
-    requires { ⌜ (now table ≡ cipherTable) × (2 ≤ t) × (t ≤ 16) × (length (now auth) < 65000) × (length (now payload) < 65000) ⌝ }
-    ensures { λ r. ⌜ bytesOf r ≡ macChain t (cipher (now (keys .entry))) nonce (now (auth .entry)) (now (payload .entry)) .block ⌝ }
+// Y_last: the chain over the blocks of the input, from the first to the one whose number is given.
+fn chain_over(table: &[u32; 512], keys: &[[[u8; 4]; 4]; 11], input: &[u8], last: usize) -> [u32; 4]
+    requires { ⌜ (now table ≡ cipherTable) × (last < 65535) × (last * 16 + 16 ≤ length (now input)) ⌝ }
+    ensures { λ r. ⌜ bytesOf r ≡ chain (cipher (now (keys .entry))) (blockAt (now (input .entry))) last .block ⌝ }
 {
-    let last = formatting::last_block(auth, payload);
-    let first = formatting::formatted_block(t, nonce, auth, payload, 0);
+    let first = formatting::block_at(input, 0);
     let mut y = aes::cipher(table, keys, first[0], first[1], first[2], first[3]);
     let mut i = 0;
     while i < last {
-        let b = formatting::formatted_block(t, nonce, auth, payload, i + 1);
+        let b = formatting::block_at(input, i + 1);
         let next = chained(table, keys, b, y);
         y = next;
         i += 1;
@@ -57,15 +50,31 @@ pub fn cbc_mac(
     y
 }
 
+// Y_r: the chain over the whole formatted input.
+pub fn cbc_mac(
+    table: &[u32; 512],
+    keys: &[[[u8; 4]; 4]; 11],
+    t: usize,
+    nonce: [u8; 13],
+    auth: &[u8],
+    payload: &[u8],
+) -> [u32; 4]
+    requires { ⌜ (now table ≡ cipherTable) × (2 ≤ t) × (t ≤ 16) × (length (now auth) ≤ 127) × (length (now payload) ≤ 127) ⌝ }
+    ensures { λ r. ⌜ bytesOf r ≡ macChain t (cipher (now (keys .entry))) nonce (now (auth .entry)) (now (payload .entry)) .block ⌝ }
+{
+    let input = formatting::formatted_input(t, nonce, auth, payload);
+    chain_over(table, keys, &input, formatting::last_block(auth, payload))
+}
+
 // The tag of the payload, masked by S_0.
 pub fn encrypted_tag(
-    table: &[u32; 256],
+    table: &[u32; 512],
     keys: &[[[u8; 4]; 4]; 11],
     nonce: [u8; 13],
     auth: &[u8],
     payload: &[u8],
 ) -> [u8; 4]
-    requires { ⌜ (now table ≡ cipherTable) × (length (now auth) < 65000) × (length (now payload) < 65000) ⌝ }
+    requires { ⌜ (now table ≡ cipherTable) × (length (now auth) ≤ 127) × (length (now payload) ≤ 127) ⌝ }
     ensures { λ r. ⌜ r ≡ encryptedTag micLength (cipher (now (keys .entry))) nonce (now (auth .entry)) (now (payload .entry)) ⌝ }
 {
     let y = cbc_mac(table, keys, MIC_LENGTH, nonce, auth, payload);
@@ -95,14 +104,14 @@ fn same_bytes(u: &[u8], v: &[u8], n: usize) -> bool
 
 // Whether the MIC, unmasked by S_0, is the tag of the payload.
 pub fn tag_valid(
-    table: &[u32; 256],
+    table: &[u32; 512],
     keys: &[[[u8; 4]; 4]; 11],
     nonce: [u8; 13],
     auth: &[u8],
     payload: &[u8],
     mic: [u8; 4],
 ) -> bool
-    requires { ⌜ (now table ≡ cipherTable) × (length (now auth) < 65000) × (length (now payload) < 65000) ⌝ }
+    requires { ⌜ (now table ≡ cipherTable) × (length (now auth) ≤ 127) × (length (now payload) ≤ 127) ⌝ }
     ensures { λ r. ⌜ r ≡ tagValid micLength (cipher (now (keys .entry))) nonce (now (auth .entry)) (now (payload .entry)) mic ⌝ }
 {
     let y = cbc_mac(table, keys, MIC_LENGTH, nonce, auth, payload);

@@ -89,7 +89,7 @@ mic-split s r e h = ap (λ (k : Split). k .mic) e ∙ rw (le-ltb (length s) 4 h)
 
 -- what opening needs of a frame that was read and is sealed
 pub open-facts : (f : List ℕ) → Below 256 f → readFrame f .refusal ≡ 0 → isSealed (readFrame f .header) ≡ true
-    → (badHeader (readFrame f .header) ≡ false)
+    → (take (length (headerBytes (readFrame f .header))) f ≡ headerBytes (readFrame f .header))
     × (length (headerBytes (readFrame f .header)) + length (auxBytes (orBlank (readFrame f .aux))) ≤ 118)
     × (length (drop (readFrame f .length) f) ≤ 127)
 open-facts f u e sealed =
@@ -103,7 +103,7 @@ open-facts f u e sealed =
     let header : length (headerBytes (readHeader f .header)) ≡ readHeader f .length = ap length (hf .bytes) ∙ length-take-le _ f within in
     let part = length-drop (readHeader f .length) f in
     let rest = length-drop (readHeader f .length + auxBehind f (readHeader f) .length) f in
-    rw (s .read) (hf .fields .good, omega arith, omega arith)
+    rw (s .read) (ap (λ (n : ℕ). take n f) header ∙ sym (hf .bytes), omega arith, omega arith)
 
 module _ (ciph : List ℕ → List ℕ) (f part o : List ℕ) (r : FrameRead) (n : ℕ) (read : r ≡ readFrame f) (rest : part ≡ drop (r .length) f)
     (number : n ≡ firstOf (openRefusals micLength (r .refusal) (r .header) (r .aux) (length part) (length o))) where
@@ -167,7 +167,7 @@ unfolding verified behind
 verified-is ciph f part r x ex ep = λ i. made ciph (r .header) (ex i) (ep i)
 
 pub ready-facts : (f : List ℕ) (r : FrameRead) → Below 256 f → r ≡ readFrame f → r .refusal ≡ 0 → isSealed (r .header) ≡ true
-    → (badHeader (r .header) ≡ false)
+    → (take (length (headerBytes (r .header))) f ≡ headerBytes (r .header))
     × (length (headerBytes (r .header)) + length (auxBytes (orBlank (r .aux))) ≤ 118)
     × (length (drop (r .length) f) ≤ 127)
 ready-facts f r u e read sealed = rw e (open-facts f u (rw e at read) (rw e at sealed))

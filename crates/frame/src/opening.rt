@@ -13,13 +13,12 @@ use octets::refusals;
 use types::Key;
 use types::OptionEui64;
 ghost use mathlib.Core.Path.{_≡_};
-ghost use mathlib.Core.Bool.{false};
 ghost use Prim.Native.Nat.{_+_, _-_, _≤_};
 ghost use lib.ListN.{length, take};
 ghost use Rattle.octets.specs.Refusals.{firstOf};
 ghost use Rattle.header.specs.Auxiliary.{auxBytes};
-ghost use Rattle.header.specs.Writing.{badHeader, headerBytes};
-ghost use Rattle.ccm.specs.Operations.{micLength, openedUnder, givenIf};
+ghost use Rattle.header.specs.Writing.{headerBytes};
+ghost use Rattle.ccm.specs.Operations.{micLength, openedUnder, lookups, givenIf};
 ghost use Rattle.frame.specs.Security.{networkLevel, nonce, authenticated};
 ghost use Rattle.frame.specs.Opening.{ciphertextOf, micOf, lastOf, openRefusals, openRefused, openedGiven, openFrame, openUnder, payloadIn};
 
@@ -74,47 +73,56 @@ pub fn open_refusal(number: u8, h: NwkHeader, aux: OptionAuxHeader, part: usize,
 
 // Open ciphertext and MIC: whether the MIC is the one computed; only then the payload goes to the front of the output.
 fn open_part(
+    table: &[u32; 512],
     keys: &[[[u8; 4]; 4]; 11],
     nonce: [u8; 13],
     auth: &[u8],
     part: &[u8],
     out: &mut [u8],
 ) -> bool
-    requires { ⌜ (length (now auth) ≤ 127) × (length (now part) ≤ 127) × (4 ≤ length (now part)) × (length (now part) - 4 ≤ length (now out)) ⌝ }
+    requires { ⌜ (now table ≡ lookups) × (length (now auth) ≤ 127) × (length (now part) ≤ 127) × (4 ≤ length (now part)) × (length (now part) - 4 ≤ length (now out)) ⌝ }
     ensures valid { λ r. ⌜ r ≡ openedUnder micLength (now (keys .entry)) nonce (now (auth .entry)) (ciphertextOf micLength (now (part .entry))) (micOf micLength (now (part .entry))) .valid ⌝ }
     ensures buffer { λ r. ⌜ now (out .exit) ≡ givenIf r (openedUnder micLength (now (keys .entry)) nonce (now (auth .entry)) (ciphertextOf micLength (now (part .entry))) (micOf micLength (now (part .entry)))) (now (out .entry)) ⌝ }
 {
     let split = ccm::split_mic(part);
     let mic = split.mic;
     let n = part.len() - ccm::MIC_LENGTH;
-    ccm::open_under(keys, nonce, auth, &part[..n], mic, out)
+    ccm::open_under(table, keys, nonce, auth, &part[..n], mic, out)
 }
 
-// Open a frame that was read and meets no refusal but perhaps 19.
+// Open a frame that was read and meets no refusal but perhaps 19. The bytes that its header was read from are those that it is written as.
 fn open_frame(
+    table: &[u32; 512],
     keys: &[[[u8; 4]; 4]; 11],
+    header: &[u8],
     h: NwkHeader,
     aux: NwkAuxHeader,
     part: &[u8],
     out: &mut [u8],
 ) -> bool
-    requires { ⌜ (badHeader h ≡ false) × (length (headerBytes h) + length (auxBytes aux) ≤ 118) × (length (now part) ≤ 127) × (4 ≤ length (now part)) × (length (now part) - 4 ≤ length (now out)) ⌝ }
+    requires { ⌜ (now table ≡ lookups) × (now header ≡ headerBytes h) × (length (headerBytes h) + length (auxBytes aux) ≤ 118) × (length (now part) ≤ 127) × (4 ≤ length (now part)) × (length (now part) - 4 ≤ length (now out)) ⌝ }
     ensures valid { λ r. ⌜ r ≡ openedUnder micLength (now (keys .entry)) (nonce networkLevel h aux) (authenticated networkLevel h aux) (ciphertextOf micLength (now (part .entry))) (micOf micLength (now (part .entry))) .valid ⌝ }
     ensures buffer { λ r. ⌜ now (out .exit) ≡ givenIf r (openedUnder micLength (now (keys .entry)) (nonce networkLevel h aux) (authenticated networkLevel h aux) (ciphertextOf micLength (now (part .entry))) (micOf micLength (now (part .entry)))) (now (out .entry)) ⌝ }
 {
     let nonce = security::nonce_of(h, aux, NwkSecurityLevel::EncMic32);
     let mut auth = [0u8; 118];
-    security::put_headers(
-        h,
+    security::put_behind(
+        header,
         security::at_level(aux, NwkSecurityLevel::EncMic32),
         &mut auth,
     );
-    let start = h.size() + aux.size();
-    open_part(keys, nonce, &auth[..start], part, out)
+    let start = header.len() + aux.size();
+    open_part(table, keys, nonce, &auth[..start], part, out)
 }
 
-// Open a frame under round keys, for a caller that opens more than one; the same refusals as `open`.
-pub fn open_under(keys: &[[[u8; 4]; 4]; 11], frame: &[u8], out: &mut [u8]) -> FrameOpened
+// Open a frame under round keys, for a caller that opens more than one and lends the cipher's table; the same refusals as `open`.
+pub fn open_under(
+    table: &[u32; 512],
+    keys: &[[[u8; 4]; 4]; 11],
+    frame: &[u8],
+    out: &mut [u8],
+) -> FrameOpened
+    requires { ⌜ now table ≡ lookups ⌝ }
     ensures answer { λ r. ⌜ r ≡ openUnder (now (keys .entry)) (now (frame .entry)) (now (out .entry)) .answer ⌝ }
     ensures buffer { λ _. ⌜ now (out .exit) ≡ openUnder (now (keys .entry)) (now (frame .entry)) (now (out .entry)) .out ⌝ }
 {
@@ -130,7 +138,8 @@ pub fn open_under(keys: &[[[u8; 4]; 4]; 11], frame: &[u8], out: &mut [u8]) -> Fr
         return FrameOpened::given(read, Mark::Clear, part.len(), OptionEui64::Absent);
     }
     let present = aux.or_blank();
-    if open_frame(keys, header, present, part, out) {
+    let front = first(frame, header.size());
+    if open_frame(table, keys, front, header, present, part, out) {
         let extended_source = present.extended_source;
         let source_ieee = header.source_ieee;
         let ieee = OptionEui64::Present(security::source_ieee(extended_source, source_ieee));
@@ -147,7 +156,8 @@ pub fn open(key: Key, frame: &[u8], out: &mut [u8]) -> FrameOpened
 {
     let bytes = key.0;
     let keys = ccm::expand(bytes);
-    open_under(&keys, frame, out)
+    let table = ccm::cipher_table();
+    open_under(&table, &keys, frame, out)
 }
 
 // ---- the payload

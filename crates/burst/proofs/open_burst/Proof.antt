@@ -20,14 +20,15 @@ returns c =
 
 open-each-requires : tie.Need-open-each-requires
 open-each-requires c κs =
-    let passed = c .before .before .before .before .before in
-    sym (passed .before .refusal .ensures) ∙ passed .if1 .left
+    let made = c .before .before .before .before in
+    let passed = made .before .before .before in
+    (made .cipher-table .ensures, sym (passed .before .refusal .ensures) ∙ passed .if1 .left)
 
 returns-2 : tie.Need-returns-2
 unfolding openBurst
 returns-2 c =
     let each = c .before .before .before in
-    let keys = each .before .before .before .before in
+    let keys = each .before .before .before .before .before .before in
     let passed = keys .before .before in
     let r = passed .before .refusal in
     let a = passed .before .before .before .before .before .args in
@@ -44,5 +45,5 @@ returns-2 c =
 pub open-burst-spec : {M : Type 1} → statement M
 open-burst-spec =
     tie.close
-    (tie.spec (λ c κs. search needs) returns (λ c κs. search needs) open-each-requires (λ c. search needs) (λ c. search needs)
+    (tie.spec (λ c κs. search needs) returns (λ c κs. search needs) (λ c κs. search needs) open-each-requires (λ c. search needs) (λ c. search needs)
     returns-2)

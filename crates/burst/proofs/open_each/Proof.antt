@@ -15,13 +15,13 @@ use Rattle.burst.proofs.Accepted.{Ready, ready}
 use Rattle.burst.proofs.Turns.{out-more, answers-more}
 
 abbrev Inv-loop : tie.InvT-loop
-Inv-loop keys frames lengths out₀ answers₀ at₀ k₀ out answers at k =
+Inv-loop table keys frames lengths out₀ answers₀ at₀ k₀ out answers at k =
     (k ≤ length lengths) × (at ≤ k * 65535) × (at ≡ total (take k lengths)) × (length out ≡ length out₀) × (length answers ≡ length answers₀)
     × (out ≡ outAfter (ciphUnder keys) frames lengths out₀ k)
     × (answers ≡ answersAfter (ciphUnder keys) frames lengths out₀ answers₀ k)
 
 abbrev μ-loop : tie.MeasureT-loop
-μ-loop keys frames lengths out₀ answers₀ at₀ k₀ out answers at k = length lengths - k
+μ-loop table keys frames lengths out₀ answers₀ at₀ k₀ out answers at k = length lengths - k
 
 loop-holds : tie.Need-loop-holds Inv-loop μ-loop
 unfolding joined total tab outAfter answersAfter
@@ -41,13 +41,13 @@ record Frame (c : tie.After-shared-slice-known3 Inv-loop μ-loop) : Type 0 where
 frame : (c : tie.After-shared-slice-known3 Inv-loop μ-loop) → Frame c
 frame c =
     record {
-      burst = ready _ _ _ _ (start c .pre);
+      burst = ready _ _ _ _ (start c .pre .1);
       small = c .shared-slice-known3 .given (c .before .before .loop .k) .fits;
       ends = within _ _ (c .before .loop-test .taken);
     }
 
 mul-end : tie.Need-mul-end Inv-loop μ-loop
-mul-end c = omega (arith, ready _ _ _ _ (c .before .before .before .before .before .pre) .few)
+mul-end c = omega (arith, ready _ _ _ _ (c .before .before .before .before .before .pre .1) .few)
 
 shared-slice-read-end : tie.Need-shared-slice-read-end Inv-loop μ-loop
 shared-slice-read-end c = c .before .loop-test .taken
@@ -75,6 +75,9 @@ mul-open-one c = omega (arith, frame (c .before .before) .burst .few)
 
 index-1-open-one : tie.Need-index-1-open-one Inv-loop μ-loop
 index-1-open-one c = omega (arith, frame (c .before .before) .burst .listed, c .before .before .before .before .loop .inv .4)
+
+open-one-requires : tie.Need-open-one-requires Inv-loop μ-loop
+open-one-requires c κs = start (c .before .before .before) .pre .0
 
 loop-again : tie.Need-loop-again Inv-loop μ-loop
 loop-again c =
@@ -112,4 +115,4 @@ open-each-spec =
     tie.close
     (tie.spec Inv-loop μ-loop loop-holds mul-end shared-slice-read-end cast-end add-end mul-part (λ c. omega arith)
     (λ c. omega arith) part-open-one-end add-open-one (λ c. omega arith) (λ c. omega arith) part-open-one-end-2 mul-open-one
-    index-1-open-one (λ c κs. search needs) (λ c. omega arith) (λ c. omega arith) loop-again same-length same-length-2 returns)
+    index-1-open-one open-one-requires (λ c. omega arith) (λ c. omega arith) loop-again same-length same-length-2 returns)

@@ -16,15 +16,17 @@ returns c =
 
 open-under-requires : tie.Need-open-under-requires
 open-under-requires c κs =
-    let passed = c .before .before .before in
+    let made = c .before .before .before in
+    let passed = made .before .before in
     let a = passed .before .before .before .before .before .args in
     let r = passed .before .refusal in
-    within (length (a .auth .now)) (length (a .ciphertext .now)) (length (a .out .now)) (sym (r .ensures) ∙ passed .if1 .left)
+    let w = within (length (a .auth .now)) (length (a .ciphertext .now)) (length (a .out .now)) (sym (r .ensures) ∙ passed .if1 .left) in
+    (made .cipher-table .ensures, w .0, w .1, w .2)
 
 returns-2 : tie.Need-returns-2
 returns-2 c =
     let opened = c .before .before .before in
-    let keys = opened .before .before .before in
+    let keys = opened .before .before .before .before .before in
     let passed = keys .before in
     let s = opened .open-under .ensures in
     let e = decrypt-done _ _ _ _ _ _ _ _ _ (keys .expand .ensures) (sym (passed .before .refusal .ensures) ∙ passed .if1 .left) (s .0) (s .1) (c .if2 .taken) in
@@ -33,7 +35,7 @@ returns-2 c =
 returns-3 : tie.Need-returns-3
 returns-3 c =
     let opened = c .before .before .before in
-    let keys = opened .before .before .before in
+    let keys = opened .before .before .before .before .before in
     let passed = keys .before in
     let s = opened .open-under .ensures in
     let e = decrypt-not _ _ _ _ _ _ _ _ _ (keys .expand .ensures) (sym (passed .before .refusal .ensures) ∙ passed .if1 .left) (s .0) (s .1) (c .if2 .left) in
@@ -42,5 +44,5 @@ returns-3 c =
 pub decrypt-ccm-spec : {M : Type 1} → statement M
 decrypt-ccm-spec =
     tie.close
-    (tie.spec (λ c κs. search needs) returns (λ c κs. search needs) open-under-requires (λ c. search needs) returns-2 (λ c. search needs)
+    (tie.spec (λ c κs. search needs) returns (λ c κs. search needs) (λ c κs. search needs) open-under-requires (λ c. search needs) returns-2 (λ c. search needs)
     returns-3)

@@ -12,7 +12,7 @@ use Rattle.ccm.proofs.Answers.{mode-taken, valid-given, payload-given, 
 
 -- where the function begins
 abbrev start : tie.After-counter-mode → tie.Start
-start m = m .before .before .before .before .before .before .before
+start m = m .before .before .before .before .before
 
 -- the first bytes of the local array, as many as the ciphertext has, are the payload
 payload : (m : tie.After-counter-mode)
@@ -26,27 +26,27 @@ payload-length : (m : tie.After-counter-mode)
 payload-length m = ap length (payload m) ∙ length-counterMode _ (start m .args .nonce) (start m .args .ciphertext .now)
 
 slice-aggregate-tag-valid : tie.Need-slice-aggregate-tag-valid
-slice-aggregate-tag-valid c = sym (payload-length (c .before .before .before))
+slice-aggregate-tag-valid c = sym (payload-length (c .before .before))
 
 tag-valid-requires : tie.Need-tag-valid-requires
 tag-valid-requires c κs =
-    let m = c .before .before .before in
+    let m = c .before .before in
     let p = start m .pre in
-    (m .before .before .before .cipher-table .ensures, omega (arith, p .0), rw (payload-length m) (omega (arith, p .1)))
+    (p .0, p .1, rw (payload-length m) (p .2))
 
 slice-aggregate-copy-at : tie.Need-slice-aggregate-copy-at
-slice-aggregate-copy-at c = sym (payload-length (c .before .before .before .before .before .before .before))
+slice-aggregate-copy-at c = sym (payload-length (c .before .before .before .before .before .before))
 
 copy-at-requires : tie.Need-copy-at-requires
 copy-at-requires c κs =
-    let m = c .before .before .before .before .before .before .before in
-    rw (payload-length m) (omega (arith, start m .pre .2))
+    let m = c .before .before .before .before .before .before in
+    rw (payload-length m) (omega (arith, start m .pre .3))
 
 returns : tie.Need-returns
 returns c =
     let copied = c .before .before in
     let checked = copied .before .before .before .before in
-    let p = payload (checked .before .before .before .before) in (
+    let p = payload (checked .before .before .before) in (
       valid-given _ _ _ _ _ _ p _ (checked .tag-valid .ensures),
       payload-given _ _ _ _ _ _ p _ _ _ (copied .before .before .before .if1 .taken) (copied .copy-at .ensures),
     )
@@ -54,12 +54,12 @@ returns c =
 returns-2 : tie.Need-returns-2
 returns-2 c =
     let checked = c .before in
-    let p = payload (checked .before .before .before .before) in
+    let p = payload (checked .before .before .before) in
     (valid-given _ _ _ _ _ _ p _ (checked .tag-valid .ensures), nothing-given _ _ _ (c .if1 .left))
 
 pub open-under-spec : {M : Type 1} → statement M
 open-under-spec =
     tie.close
-    (tie.spec (λ c κs. search needs) (λ c. search needs) (λ c κs. search needs) (λ c. search needs)
+    (tie.spec (λ c. search needs) (λ c κs. search needs) (λ c. search needs)
     slice-aggregate-tag-valid tag-valid-requires (λ c. search needs) slice-aggregate-copy-at copy-at-requires
     (λ c. search needs) returns returns-2)

@@ -1,47 +1,30 @@
--- `ccm::mac::cbc_mac` meets its contract. The loop's invariant: the words are those of Y_i. The measure is what is left of the blocks. Assumes nothing.
+-- `ccm::mac::cbc_mac` meets its contract: the blocks of the array are those of the formatted input. Assumes nothing.
 use borrow.Author.Needs.{needs}
-use mathlib.Core.Path.{_≡_, refl, ap, _∙_}
-use Prim.Native.Nat.{_-_, _≤_}
+use mathlib.Core.Path.{_≡_, ap, _∙_}
 use native.Mathlib.Omega.{arith}
+use lib.ListN.{length}
+use Rattle.aes.specs.Cipher.{cipher}
+use Rattle.ccm.specs.Formatting.{blockAt}
+use Rattle.ccm.specs.Mac.{chain, macChain}
+use Rattle.ccm.proofs.Chains.{chain-same}
 use Rattle.ccm.proofs.mac.cbc_mac.Statement.{statement}
 use Rattle.ccm.proofs.mac.cbc_mac.Tie as tie
-use Rattle.octets.specs.Strings.{xored}
-use Rattle.octets.specs.Numbers.{bytesOf}
-use Rattle.aes.specs.Cipher.{cipher}
-use Rattle.ccm.specs.Formatting.{formatted}
-use Rattle.ccm.specs.Mac.{chain, macChain}
-use Rattle.ccm.proofs.Chains.{chain-next}
 
-abbrev Inv-loop : tie.InvT-loop
-Inv-loop table keys t nonce auth payload last y₀ i₀ y i = (i ≤ last) × (bytesOf y ≡ chain (cipher keys) (formatted t nonce auth payload) i .block)
+chain-over-requires : tie.Need-chain-over-requires
+chain-over-requires c κs =
+    let input = c .before .before in
+    let l : length (input .formatted-input .result) ≡ 288 = search needs in
+    (input .before .before .before .pre .0, omega (arith, c .last-block .ensures .1), rw l (omega (arith, c .last-block .ensures .1)))
 
-abbrev μ-loop : tie.MeasureT-loop
-μ-loop table keys t nonce auth payload last y₀ i₀ y i = last - i
-
-loop-holds : tie.Need-loop-holds Inv-loop μ-loop
-unfolding bytesOf chain
-loop-holds c = (omega arith, c .cipher .ensures ∙ ap (cipher _) (c .before .formatted-block .ensures))
-
-loop-again : tie.Need-loop-again Inv-loop μ-loop
-loop-again c =
-    let turn = c .before .before .before in
-    let a = turn .before .before .before .before .before .before .args in (
-      omega arith,
-      c .chained .ensures ∙ ap (cipher _) (λ k. xored 16 (c .before .formatted-block2 .ensures k) (turn .loop .inv .1 k))
-          ∙ chain-next (cipher (a .keys .now)) (formatted (a .t) (a .nonce) (a .auth .now) (a .payload .now)) (turn .loop .i),
-    )
-
-returns : tie.Need-returns Inv-loop μ-loop
+returns : tie.Need-returns
 unfolding macChain
 returns c =
-    let l = c .before .loop in
-    let r = c .before .before .before .before .last-block in
-    let e : l .i ≡ r .result = omega (arith, c .loop-test .left) in
-    rw (l .inv .1, e, r .ensures .0) refl
+    let last = c .before in
+    let input = last .before .before in
+    let a = input .before .before .before .args in
+    c .chain-over .ensures ∙ ap (λ (n : _). chain (cipher (a .keys .now)) (blockAt (input .formatted-input .result)) n .block) (last .last-block .ensures .0)
+    ∙ chain-same (cipher (a .keys .now)) _ _ _ (input .formatted-input .ensures)
 
 pub cbc-mac-spec : {M : Type 1} → statement M
 cbc-mac-spec =
-    tie.close
-    (tie.spec Inv-loop μ-loop (λ c κs. search needs) (λ c κs. search needs) (λ c. search needs) (λ c. search needs)
-    (λ c. search needs) (λ c. search needs) (λ c κs. search needs) loop-holds (λ c. search needs)
-    (λ c κs. search needs) (λ c κs. search needs) (λ c. search needs) (λ c. search needs) loop-again returns)
+    tie.close (tie.spec (λ c κs. search needs) (λ c. search needs) (λ c κs. search needs) chain-over-requires returns)

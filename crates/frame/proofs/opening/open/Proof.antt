@@ -7,10 +7,10 @@ use Rattle.frame.proofs.opening.open.Tie as tie
 returns : tie.Need-returns
 returns c =
     let opened = c .before .before in
-    let same = cipher-is _ _ (opened .before .before .before .expand .ensures) in
+    let same = cipher-is _ _ (opened .before .before .before .before .before .expand .ensures) in
     (rw same at (opened .open-under .ensures .0), rw same at (opened .open-under .ensures .1))
 
 pub open-spec : {M : Type 1} → statement M
 open-spec =
     tie.close
-    (tie.spec (λ c κs. search needs) (λ c κs. search needs) (λ c. search needs) returns)
+    (tie.spec (λ c κs. search needs) (λ c κs. search needs) (λ c κs. search needs) (λ c. search needs) returns)

@@ -18,14 +18,14 @@ open-under-requires : tie.Need-open-under-requires
 open-under-requires c κs =
     let start = c .before .before .before .before .before .before .before in
     let l = length-take-le (length (start .args .part .now) - 4) (start .args .part .now) (omega arith) in
-    (start .pre .0, omega (arith, l, start .pre .1), omega (arith, l, start .pre .3))
+    (start .pre .0, start .pre .1, omega (arith, l, start .pre .2), omega (arith, l, start .pre .4))
 
 returns : tie.Need-returns
 unfolding ciphertextOf
 returns c =
     let opened = c .before .before in
     let split = opened .before .before .before .before in
-    let m = mic-split _ _ (split .split-mic .ensures) (split .before .before .before .before .pre .2) in
+    let m = mic-split _ _ (split .split-mic .ensures) (split .before .before .before .before .pre .3) in
     let e = opened .open-under .ensures in
     (e .0 ∙ rw m, e .1 ∙ rw m)
 
