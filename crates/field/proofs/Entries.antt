@@ -12,7 +12,7 @@ use Rattle.octets.specs.Numbers.{le, leAt}
 use Rattle.octets.proofs.Numbers.{length-le, le-leAt-four, le-add, le-mod}
 use Rattle.field.specs.Field.{xtime, product}
 use Rattle.field.specs.SBox.{sbox}
-use Rattle.field.specs.Multiples.{multiples, roundEntry, twiceFrom, roundTable}
+use Rattle.field.specs.Multiples.{multiples, turned, roundEntry, twiceFrom, roundTable}
 use Rattle.field.proofs.Bytes.{sbox-byte, double-byte, triple-byte}
 
 -- the multiples of a byte are bytes
@@ -57,3 +57,25 @@ four-from k n w s e =
     ∙ sym (take-at (le 4 v) (le n (v / 256 ^ 4)) 4 (length-le 4 v))
     ∙ ap (take 4) (sym (le-add 4 n v) ∙ sym (drop-at (le k w) (le (4 + n) v) k (length-le k w)))
     ∙ ap (λ (l : List ℕ). take 4 (drop k l)) (sym (le-add k (4 + n) w) ∙ e)
+
+-- the substitute by its place in the entry and in those turned from it
+module _ (w y : ℕ) (h : w < 2 ^ 32) where
+  pub first-byte : le 4 w ≡ turned 1 y → w % 256 ≡ y
+  unfolding le turned multiples
+  first-byte e = ap (λ (l : List ℕ). getD l 0 0) e
+
+  pub second-byte : le 4 w ≡ multiples y → w / 256 % 256 ≡ y
+  unfolding le multiples
+  second-byte e = ap (λ (l : List ℕ). getD l 1 0) e
+
+  pub third-byte : le 4 w ≡ multiples y → w / 65536 % 256 ≡ y
+  unfolding le multiples
+  third-byte e =
+      let split : w / 65536 ≡ w / 256 / 256 = omega arith in
+      ap (λ (n : ℕ). n % 256) split ∙ ap (λ (l : List ℕ). getD l 2 0) e
+
+  pub fourth-byte : le 4 w ≡ turned 3 y → w / 16777216 ≡ y
+  unfolding le turned multiples
+  fourth-byte e =
+      let split : w / 16777216 ≡ w / 256 / 256 / 256 % 256 = omega arith in
+      split ∙ ap (λ (l : List ℕ). getD l 3 0) e

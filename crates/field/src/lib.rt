@@ -1,6 +1,7 @@
 // The field GF(2^8) of FIPS 197 by its tables: the S-box, and the multiples that MixColumns takes of what it substitutes.
 ghost use mathlib.Core.Path.{_≡_};
 ghost use mathlib.Core.List.{_++_};
+ghost use Prim.Native.Nat.{_*_, _≤_, _<_};
 ghost use Rattle.octets.specs.Numbers.{le};
 ghost use Rattle.field.specs.SBox.{sbox, sBoxTable};
 ghost use Rattle.field.specs.Multiples.{multiples, turned, roundTable};
@@ -76,13 +77,34 @@ pub fn turned_thrice(table: &[u32; 512], x: u8) -> u32
     (both_copies(table, x) / 0x100_0000 % 0x1_0000_0000) as u32
 }
 
-// What the byte `x` is substituted by, from the table of the rounds: the second byte of its entry.
-pub fn substituted(table: &[u32; 512], x: u8) -> u8
+// What the byte `x` is substituted by, from the table of the rounds, as the first byte of a word that has no other: the first of its entry
+// turned by one. The next three are for the word's other places.
+pub fn first_of_word(table: &[u32; 512], x: u8) -> u32
     requires { ⌜ now table ≡ roundTable ⌝ }
-    ensures { λ r. ⌜ r ≡ sbox x ⌝ }
+    ensures { λ r. ⌜ (r ≡ sbox x) × (r < 256) ⌝ }
 {
-    let bytes = octets::bytes_of(entry(table, x));
-    bytes[1]
+    turned_once(table, x) % 0x100
+}
+
+pub fn second_of_word(table: &[u32; 512], x: u8) -> u32
+    requires { ⌜ now table ≡ roundTable ⌝ }
+    ensures { λ r. ⌜ (r ≡ sbox x * 256) × (r < 65536) ⌝ }
+{
+    entry(table, x) / 0x100 % 0x100 * 0x100
+}
+
+pub fn third_of_word(table: &[u32; 512], x: u8) -> u32
+    requires { ⌜ now table ≡ roundTable ⌝ }
+    ensures { λ r. ⌜ (r ≡ sbox x * 65536) × (r < 16777216) ⌝ }
+{
+    entry(table, x) / 0x1_0000 % 0x100 * 0x1_0000
+}
+
+pub fn fourth_of_word(table: &[u32; 512], x: u8) -> u32
+    requires { ⌜ now table ≡ roundTable ⌝ }
+    ensures { λ r. ⌜ (r ≡ sbox x * 16777216) × (r ≤ 4278190080) ⌝ }
+{
+    turned_thrice(table, x) / 0x100_0000 * 0x100_0000
 }
 
 // FIPS 197, Figure 7.

@@ -13,7 +13,7 @@ returns c =
     let third = c .before .before .before .before .before .before in
     let second = third .before .before .before .before .before .before in
     let first = second .before .before .before .before .before .before in
-    rw (first .last-column .ensures, second .last-column2 .ensures, third .last-column3 .ensures, c .last-column4 .ensures)
+    rw (first .last-column .ensures, second .last-column-by-halves .ensures, third .last-column2 .ensures, c .last-column-by-halves2 .ensures)
 
 pub last-round-spec : {M : Type 1} → statement M
 last-round-spec =
