@@ -15,7 +15,7 @@ pub struct PanId(pub u16);
 
 impl fmt::Display for Nwk {
     fn fmt(&self, f: &mut fmt::Formatter<'_>) -> fmt::Result {
-        write!(f, "0x{:04X}", self.0)
+        write_word(self.0, f)
     }
 }
 
@@ -27,7 +27,7 @@ impl fmt::Debug for Nwk {
 
 impl fmt::Display for PanId {
     fn fmt(&self, f: &mut fmt::Formatter<'_>) -> fmt::Result {
-        write!(f, "0x{:04X}", self.0)
+        write_word(self.0, f)
     }
 }
 
@@ -54,11 +54,11 @@ pub struct Eui64(pub [u8; 8]);
 
 impl fmt::Display for Eui64 {
     fn fmt(&self, f: &mut fmt::Formatter<'_>) -> fmt::Result {
-        for (i, byte) in self.0.iter().rev().enumerate() {
-            let colon = if i == 0 { "" } else { ":" };
-            write!(f, "{colon}{byte:02X}")?;
+        let mut text = [b':'; 23];
+        for (place, byte) in text.chunks_mut(3).zip(self.0.iter().rev()) {
+            place[..2].copy_from_slice(&digits(*byte));
         }
-        Ok(())
+        f.write_str(core::str::from_utf8(&text).map_err(|_| fmt::Error)?)
     }
 }
 
@@ -66,6 +66,17 @@ impl fmt::Debug for Eui64 {
     fn fmt(&self, f: &mut fmt::Formatter<'_>) -> fmt::Result {
         write!(f, "Eui64({self})")
     }
+}
+
+/// Writes a number of 16 bits as `0x1A62`.
+fn write_word(number: u16, f: &mut fmt::Formatter<'_>) -> fmt::Result {
+    let [[a, b], [c, d]] = number.to_be_bytes().map(digits);
+    f.write_str(core::str::from_utf8(&[b'0', b'x', a, b, c, d]).map_err(|_| fmt::Error)?)
+}
+
+/// The two hexadecimal digits of a byte.
+fn digits(byte: u8) -> [u8; 2] {
+    [byte >> 4, byte & 0xF].map(|number| b"0123456789ABCDEF"[usize::from(number)])
 }
 
 /// By the number that the label spells, so that a sorted list reads in order.

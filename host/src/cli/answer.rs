@@ -2,7 +2,8 @@
 use super::describe;
 use super::keys::{open_with, Accepted, NumberedKey};
 use super::replay::{was_opened, Replays};
-use super::value::{digits, line, Fields, Value};
+use super::value::{digits, Fields, Value};
+use std::io::{self, Write};
 use store_reader::{read, NwkAuxHeader, NwkCommand, NwkFrameType, NwkHeader, NwkPayload, Refusal, MAX_FRAME};
 
 /// What opening says of a frame that it accepts: whether it was sealed, and so authenticated.
@@ -32,9 +33,20 @@ pub struct Answer {
     pub auxiliary: Option<NwkAuxHeader>,
     /// The place of the key that opened the frame, where there are several.
     pub key: Option<usize>,
-    /// What is behind the headers, in words and as fields.
-    line: String,
-    fields: Fields,
+    behind: Behind,
+}
+
+/// What is behind the headers. It is put in words only where it is shown.
+#[derive(Default)]
+enum Behind {
+    #[default]
+    Nothing,
+    /// A payload, and the command that it was read as.
+    Payload(Vec<u8>, Option<NwkCommand>),
+    /// What is sealed, where no key was used.
+    Sealed(Vec<u8>),
+    /// A command that came alone.
+    Command(NwkCommand),
 }
 
 impl Answer {
@@ -57,41 +69,62 @@ impl Answer {
         self.refusal.is_none_or(was_opened) && self.mark != Some(Mark::Clear)
     }
 
-    /// The answer on one line, without the refusal.
-    pub fn line(&self) -> String {
-        let mut parts = Vec::new();
+    /// Writes the answer to a line, each part behind two blanks, without the refusal.
+    pub fn write_line(&self, out: &mut impl Write) -> io::Result<()> {
         if let Some(header) = &self.header {
-            let kind = kind(header);
-            let (source, destination) = (header.source, header.destination);
-            parts.push(format!("{kind:<9} {source} -> {destination}  sequence {}", header.sequence_number));
+            let (kind, source, destination) = (kind(header), header.source, header.destination);
+            write!(out, "  {kind:<9} {source} -> {destination}  sequence {}", header.sequence_number)?;
         }
         if let Some(auxiliary) = &self.auxiliary {
-            parts.push(format!("counter {}", auxiliary.frame_counter));
+            write!(out, "  counter {}", auxiliary.frame_counter)?;
             if let (Some(address), Some(_)) = (auxiliary.extended_source, self.refusal) {
-                parts.push(format!("ieee {address}"));
+                write!(out, "  ieee {address}")?;
             }
         }
-        parts.extend(self.key.map(|key| format!("key {key}")));
+        if let Some(key) = self.key {
+            write!(out, "  key {key}")?;
+        }
         if self.mark == Some(Mark::Clear) {
-            parts.push("clear".to_string());
+            write!(out, "  clear")?;
         }
-        if !self.line.is_empty() {
-            parts.push(self.line.clone());
-        }
-        parts.join("  ")
+        self.write_words(out)
     }
 
-    /// Every field.
-    pub fn fields(&self) -> Fields {
-        let mut fields = Fields::new();
+    /// Writes what is behind the headers in words, behind two blanks. Of a payload that is refused there are none.
+    fn write_words(&self, out: &mut impl Write) -> io::Result<()> {
+        match (&self.behind, self.command()) {
+            (_, Some(command)) => {
+                out.write_all(b"  ")?;
+                describe::write_command(command, out)
+            }
+            (Behind::Sealed(bytes), _) => write!(out, "  sealed {}", counted_digits(bytes)),
+            (Behind::Payload(bytes, _), _) if self.refusal.is_none() => {
+                write!(out, "  payload {}", counted_digits(bytes))
+            }
+            _ => Ok(()),
+        }
+    }
+
+    /// Adds every field.
+    pub fn add_fields(&self, fields: &mut Fields) {
         fields.extend(self.mark.map(|mark| ("mark", Value::text(mark.name()))));
-        fields.extend(self.header.as_ref().map_or_else(Fields::new, describe::header));
+        if let Some(header) = &self.header {
+            describe::add_header(header, fields);
+        }
         if let Some(auxiliary) = &self.auxiliary {
             fields.push(("auxiliary", Value::Object(describe::auxiliary(auxiliary))));
         }
         fields.extend(self.key.map(|key| ("opened_with_key", Value::Number(key as u64))));
-        fields.extend(self.fields.iter().cloned());
-        fields
+        match &self.behind {
+            Behind::Nothing => {}
+            Behind::Command(command) => fields.extend(describe::command(command)),
+            Behind::Sealed(bytes) => fields.push(("sealed", Value::bytes(bytes))),
+            Behind::Payload(bytes, command) => {
+                let command = command.as_ref().map(describe::command);
+                fields.extend(command.map(|command| ("command", Value::Object(command))));
+                fields.push(("payload", Value::bytes(bytes)));
+            }
+        }
     }
 
     /// The frame's type in a word.
@@ -99,23 +132,30 @@ impl Answer {
         self.header.as_ref().map(kind)
     }
 
+    /// The command that the frame carries, or that came alone.
+    fn command(&self) -> Option<&NwkCommand> {
+        match &self.behind {
+            Behind::Payload(_, command) => command.as_ref(),
+            Behind::Command(command) => Some(command),
+            Behind::Nothing | Behind::Sealed(_) => None,
+        }
+    }
+
     /// The name of the command that the frame carries; empty where it carries none.
     pub fn command_name(&self) -> String {
-        let of_command = |(name, value): &(&str, Value)| match value {
-            Value::Object(fields) if *name == "command" => fields.first().map(|(_, name)| name.line()),
-            _ => None,
-        };
-        self.fields.iter().find_map(of_command).unwrap_or_default()
+        self.command().map_or(String::new(), describe::command_name)
     }
 
     /// The payload, or what is sealed, in hexadecimal digits.
     pub fn payload_digits(&self) -> String {
-        let bytes = self.fields.iter().find(|(name, _)| ["payload", "sealed"].contains(name));
-        bytes.map_or(String::new(), |(_, value)| value.line())
+        match &self.behind {
+            Behind::Payload(bytes, _) | Behind::Sealed(bytes) => digits(bytes),
+            Behind::Nothing | Behind::Command(_) => String::new(),
+        }
     }
 
     /// Adds what opening gave of a frame. The mark is left out if the payload turns out to be refused.
-    fn accepted(mut self, mark: Mark, header: NwkHeader, payload: &[u8]) -> Self {
+    fn accepted(mut self, mark: Mark, header: NwkHeader, payload: Vec<u8>) -> Self {
         self.add_payload(&header, payload);
         self.mark = self.refusal.is_none().then_some(mark);
         self.header = Some(header);
@@ -123,18 +163,14 @@ impl Answer {
     }
 
     /// Adds a payload: a decoded command, or the bytes where it is opaque.
-    fn add_payload(&mut self, header: &NwkHeader, bytes: &[u8]) {
-        let answer = match header.frame_control.frame_type.payload() {
-            Ok(NwkPayload::Command) => command(bytes),
-            Ok(NwkPayload::Opaque) => Self { line: format!("payload {}", counted_digits(bytes)), ..Self::default() },
-            Err(refusal) => Self { refusal: Some(refusal), ..Self::default() },
+    fn add_payload(&mut self, header: &NwkHeader, bytes: Vec<u8>) {
+        let command = match header.frame_control.frame_type.payload() {
+            Ok(NwkPayload::Command) => NwkCommand::read(&bytes).map(Some),
+            Ok(NwkPayload::Opaque) => Ok(None),
+            Err(refusal) => Err(refusal),
         };
-        self.refusal = answer.refusal;
-        self.line = answer.line;
-        if !answer.fields.is_empty() {
-            self.fields.push(("command", Value::Object(answer.fields)));
-        }
-        self.fields.push(("payload", Value::bytes(bytes)));
+        self.refusal = command.as_ref().err().copied();
+        self.behind = Behind::Payload(bytes, command.ok().flatten());
     }
 }
 
@@ -157,9 +193,9 @@ pub fn opened(keys: &[NumberedKey], replays: Option<&mut Replays>, bytes: &[u8])
             }
             let key = (keys.len() > 1).then_some(key);
             let answer = Answer { auxiliary: Some(auxiliary), key, ..Answer::default() };
-            answer.accepted(Mark::Sealed, header, &payload)
+            answer.accepted(Mark::Sealed, header, payload)
         }
-        Ok(Accepted::Clear { header, payload }) => Answer::default().accepted(Mark::Clear, header, &payload),
+        Ok(Accepted::Clear { header, payload }) => Answer::default().accepted(Mark::Clear, header, payload),
     }
 }
 
@@ -170,10 +206,9 @@ pub fn as_read(bytes: &[u8]) -> Answer {
         Ok(frame) => {
             let mut answer = Answer { auxiliary: frame.auxiliary, ..Answer::default() };
             if frame.auxiliary.is_some() {
-                answer.line = format!("sealed {}", counted_digits(frame.rest));
-                answer.fields.push(("sealed", Value::bytes(frame.rest)));
+                answer.behind = Behind::Sealed(frame.rest.to_vec());
             } else {
-                answer.add_payload(&frame.header, frame.rest);
+                answer.add_payload(&frame.header, frame.rest.to_vec());
             }
             answer.header = Some(frame.header);
             answer
@@ -185,14 +220,7 @@ pub fn as_read(bytes: &[u8]) -> Answer {
 pub fn command(bytes: &[u8]) -> Answer {
     match NwkCommand::read(bytes) {
         Err(refusal) => Answer { refusal: Some(refusal), ..Answer::default() },
-        Ok(command) => {
-            let (name, command_fields) = describe::command(&command);
-            let text = line(&command_fields, ", ");
-            let line = if text.is_empty() { name.clone() } else { format!("{name}: {text}") };
-            let mut fields: Fields = vec![("name", Value::Text(name))];
-            fields.extend(command_fields);
-            Answer { line, fields, ..Answer::default() }
-        }
+        Ok(command) => Answer { behind: Behind::Command(command), ..Answer::default() },
     }
 }
 

@@ -25,10 +25,23 @@ pub fn number(bytes: &[u8], order: Order) -> u32 {
     long(bytes, order) as u32
 }
 
+/// Takes the next bytes into a buffer, and gives how many they are: fewer than it holds at the input's end.
+pub fn take_into(input: &mut impl Read, buffer: &mut [u8]) -> Result<usize, String> {
+    let mut filled = 0;
+    while filled < buffer.len() {
+        match input.read(&mut buffer[filled..]).map_err(|e| e.to_string())? {
+            0 => break,
+            n => filled += n,
+        }
+    }
+    Ok(filled)
+}
+
 /// The next n bytes, fewer at the input's end.
 pub fn take(input: &mut impl Read, n: usize) -> Result<Vec<u8>, String> {
-    let mut bytes = Vec::new();
-    input.by_ref().take(n as u64).read_to_end(&mut bytes).map_err(|e| e.to_string())?;
+    let mut bytes = vec![0; n];
+    let filled = take_into(input, &mut bytes)?;
+    bytes.truncate(filled);
     Ok(bytes)
 }
 

@@ -1,14 +1,15 @@
 //! What is shown of headers and commands.
-use super::value::{Fields, Value};
+use super::value::{write_line, Fields, Value};
 use std::fmt::Debug;
+use std::io::{self, Write};
 use store_reader::{
     timeout_seconds, Eui64, NwkAuxHeader, NwkCommand, NwkHeader, NwkRejoinCapabilityInformation, NwkSourceRoute,
 };
 
-/// The fields of a header; those that are missing or off are left out.
-pub fn header(header: &NwkHeader) -> Fields {
+/// Adds the fields of a header; those that are missing or off are left out.
+pub fn add_header(header: &NwkHeader, fields: &mut Fields) {
     let control = header.frame_control;
-    let mut fields: Fields = vec![
+    fields.extend([
         ("type", name(control.frame_type)),
         ("source", Value::text(header.source)),
         ("destination", Value::text(header.destination)),
@@ -18,19 +19,18 @@ pub fn header(header: &NwkHeader) -> Fields {
         ("discovery", name(control.discover_route)),
         ("security", control.security.into()),
         ("end_device_initiator", control.end_device_initiator.into()),
-    ];
+    ]);
     if control.reserved1 != 0 {
         fields.push(("bits_14_15", control.reserved1.into()));
     }
-    address(&mut fields, "destination_ieee", header.destination_ieee);
-    address(&mut fields, "source_ieee", header.source_ieee);
+    address(fields, "destination_ieee", header.destination_ieee);
+    address(fields, "source_ieee", header.source_ieee);
     if let Some(multicast) = header.multicast_control {
         fields.push(("multicast_control", multicast.into()));
     }
     if let Some(route) = &header.source_route {
         fields.push(("source_route", source_route(route)));
     }
-    fields
 }
 
 fn source_route(route: &NwkSourceRoute) -> Value {
@@ -51,15 +51,30 @@ pub fn auxiliary(auxiliary: &NwkAuxHeader) -> Fields {
     fields
 }
 
-/// The name of a command and its fields.
-pub fn command(command: &NwkCommand) -> (String, Fields) {
+/// A command's name and fields.
+pub fn command(command: &NwkCommand) -> Fields {
+    let mut fields: Fields = vec![("name", Value::Text(command_name(command)))];
+    fields.extend(command_fields(command));
+    fields
+}
+
+/// Writes a command's name and fields on one line.
+pub fn write_command(command: &NwkCommand, out: &mut impl Write) -> io::Result<()> {
+    let fields = command_fields(command);
+    let colon = if fields.iter().all(|(_, value)| value.is_off()) { "" } else { ": " };
+    write!(out, "{}{colon}", command_name(command))?;
+    write_line(&fields, ", ", out)
+}
+
+/// A command's name.
+pub fn command_name(command: &NwkCommand) -> String {
     match command {
-        NwkCommand::Unparsed(bytes) => ("unparsed".to_string(), vec![("bytes", Value::bytes(bytes))]),
-        typed => (typed.command_id().map_or_else(String::new, |id| spaced(&id)), typed_fields(typed)),
+        NwkCommand::Unparsed(_) => "unparsed".to_string(),
+        typed => typed.command_id().map_or_else(String::new, |id| spaced(&id)),
     }
 }
 
-fn typed_fields(command: &NwkCommand) -> Fields {
+fn command_fields(command: &NwkCommand) -> Fields {
     match command {
         NwkCommand::RouteRequest {
             many_to_one,
@@ -175,7 +190,7 @@ fn typed_fields(command: &NwkCommand) -> Fields {
             fields.extend(capability(capability_information));
             fields
         }
-        NwkCommand::Unparsed(_) => Vec::new(),
+        NwkCommand::Unparsed(bytes) => vec![("bytes", Value::bytes(bytes))],
     }
 }
 
@@ -207,10 +222,10 @@ fn name(case: impl Debug) -> Value {
 fn spaced(case: &impl Debug) -> String {
     let mut words = String::new();
     for character in format!("{case:?}").chars() {
-        if character.is_uppercase() && !words.is_empty() {
+        if character.is_ascii_uppercase() && !words.is_empty() {
             words.push(' ');
         }
-        words.extend(character.to_lowercase());
+        words.push(character.to_ascii_lowercase());
     }
     words
 }

@@ -116,24 +116,33 @@ fn address(mode: u16, bytes: &[u8]) -> Option<(Option<MacAddress>, &[u8])> {
 
 /// The frame check sequence of IEEE 802.15.4: CRC-16 with polynomial `x^16 + x^12 + x^5 + 1`, lowest bit first, from 0.
 pub fn fcs(bytes: &[u8]) -> u16 {
-    bytes.iter().fold(0, |crc, byte| crc >> 8 ^ FCS_OF_BYTES[usize::from(crc as u8 ^ byte)])
+    let fours = bytes.chunks_exact(4);
+    let rest = fours.remainder();
+    let of = |zeros: usize, byte: u8| FCS_OF_BYTES[zeros][usize::from(byte)];
+    let crc = fours.fold(0u16, |crc, four| {
+        let [low, high] = crc.to_le_bytes();
+        of(3, four[0] ^ low) ^ of(2, four[1] ^ high) ^ of(1, four[2]) ^ of(0, four[3])
+    });
+    rest.iter().fold(crc, |crc, byte| crc >> 8 ^ of(0, crc as u8 ^ byte))
 }
 
-/// The frame check sequence of each byte.
-const FCS_OF_BYTES: [u16; 256] = {
-    let mut table = [0; 256];
+/// The frame check sequence of each byte with 0 to 3 zeros behind it, so that four bytes are taken in one step.
+static FCS_OF_BYTES: [[u16; 256]; 4] = {
+    let mut tables = [[0; 256]; 4];
     let mut byte = 0;
     while byte < 256 {
         let mut crc = byte as u16;
         let mut bit = 0;
-        while bit < 8 {
+        while bit < 32 {
             crc = if crc & 1 == 1 { crc >> 1 ^ 0x8408 } else { crc >> 1 };
             bit += 1;
+            if bit % 8 == 0 {
+                tables[bit / 8 - 1][byte] = crc;
+            }
         }
-        table[byte] = crc;
         byte += 1;
     }
-    table
+    tables
 };
 
 /// The longer frame check sequence of IEEE 802.15.4-2015: the CRC-32 that Ethernet has.
@@ -156,6 +165,18 @@ mod tests {
     #[test]
     fn fcs_of_the_standards_example() {
         assert_eq!(fcs(&[0x02, 0x00, 0x6A]), u16::from_le_bytes([0xE4, 0x79]));
+    }
+
+    /// The check value that catalogues of CRCs give for CRC-16/KERMIT, of the digits 1 to 9, and each length bit by bit.
+    #[test]
+    fn fcs_in_steps_of_four_bytes() {
+        assert_eq!(fcs(b"123456789"), 0x2189);
+        let bytes: Vec<u8> = (0..20).map(|n: u8| n.wrapping_mul(151)).collect();
+        let step = |crc: u16, bit: u16| if (crc ^ bit) & 1 == 1 { crc >> 1 ^ 0x8408 } else { crc >> 1 };
+        for length in 0..=bytes.len() {
+            let bits = (0..8 * length).map(|at| u16::from(bytes[at / 8]) >> (at % 8) & 1);
+            assert_eq!(fcs(&bytes[..length]), bits.fold(0, step), "{length} bytes");
+        }
     }
 
     /// The check value that catalogues of CRCs give for CRC-32, of the digits 1 to 9.

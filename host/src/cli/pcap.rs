@@ -1,5 +1,5 @@
 //! Records of a pcap capture.
-use super::bytes::{number, take, Order, LONGEST_RECORD};
+use super::bytes::{number, take, take_into, Order, LONGEST_RECORD};
 use super::input::Input;
 use super::link::{Fcs, Link};
 use super::time::{Resolution, Time};
@@ -55,12 +55,11 @@ impl Pcap {
     /// The next record, none at the capture's end. Behind an error nothing more can be read.
     pub fn next(&mut self, input: &mut Input) -> Result<Option<Packet>, String> {
         input.begin();
-        let header = take(input, RECORD_HEADER)?;
-        if header.is_empty() {
-            return Ok(None);
-        }
-        if header.len() < RECORD_HEADER {
-            return Err("the capture ends inside this record's header".to_string());
+        let mut header = [0; RECORD_HEADER];
+        match take_into(input, &mut header)? {
+            0 => return Ok(None),
+            RECORD_HEADER => {}
+            _ => return Err("the capture ends inside this record's header".to_string()),
         }
         let field = |at: usize| number(&header[at..at + 4], self.order);
         let captured = field(8) as usize;

@@ -24,8 +24,8 @@ impl Progress {
         Self { extent, due: terminal.then(|| Instant::now() + FIRST), shown: false }
     }
 
-    /// Shows how far the input is read, if it is time to.
-    pub fn step(&mut self, inputs: u64) {
+    /// Shows how far the input is read, if it is time to; only then are the inputs counted.
+    pub fn step(&mut self, inputs: impl Fn() -> u64) {
         let Some(due) = self.due else {
             return;
         };
@@ -33,7 +33,7 @@ impl Progress {
         if now < due {
             return;
         }
-        let _ = write!(io::stderr(), "{CLEAR}{}", text(self.extent.read.get(), self.extent.total, inputs));
+        let _ = write!(io::stderr(), "{CLEAR}{}", text(self.extent.read.get(), self.extent.total, inputs()));
         self.due = Some(now + EVERY);
         self.shown = true;
     }

@@ -17,7 +17,7 @@ use super::source::{name, Content, Entry, Source};
 use super::summary::Summary;
 use super::text_table::table;
 use super::time::Time;
-use super::value::Value;
+use super::value::{write_json_line, Fields, Value};
 use std::fs;
 use std::io::{self, Write};
 use store_reader::Refusal;
@@ -44,7 +44,8 @@ const INTER_PAN_HEADER: usize = 2;
 pub fn run(arguments: &Arguments, colour: bool, out: &mut impl Write) -> Result<u8, Failure> {
     let several = arguments.files.len() > 1;
     let (show, filter) = (arguments.show, &arguments.filter);
-    let mut printer = Printer { out, show, filter, colour, file: String::new(), several, done: "read" };
+    let (file, fields, text) = (String::new(), Fields::new(), Vec::new());
+    let mut printer = Printer { out, show, filter, colour, file, several, done: "read", fields, text };
     match &arguments.task {
         Task::Refusals => refusals(arguments.show, printer.out),
         Task::Open(opening) => {
@@ -96,7 +97,7 @@ fn refusals(show: Show, out: &mut impl Write) -> Result<u8, Failure> {
         match show {
             Show::Json => {
                 let fields = vec![("refusal", number.into()), ("condition", Value::text(refusal.condition()))];
-                writeln!(out, "{}", Value::Object(fields).json())?;
+                write_json_line(&fields, out)?;
             }
             Show::Csv => write!(out, "{}", csv::row([number.to_string().as_str(), refusal.condition()]))?,
             _ => writeln!(out, "{number:>2}  {}", refusal.condition())?,
@@ -224,7 +225,7 @@ impl Run {
             if self.flush {
                 printer.out.flush()?;
             }
-            progress.step(self.summary.inputs());
+            progress.step(|| self.summary.inputs());
         }
         progress.clear();
         self.summary.unread += source.unread;
@@ -299,9 +300,9 @@ impl Run {
             }
             (Show::Json, _) => {
                 for row in rows.iter().flatten() {
-                    writeln!(out, "{}", Value::Object(row.fields(self.layout)).json())?;
+                    write_json_line(&row.fields(self.layout), out)?;
                 }
-                writeln!(out, "{}", Value::Object(self.summary.fields()).json())?;
+                write_json_line(&self.summary.fields(), out)?;
             }
             (_, Some(rows)) => write!(out, "{}{}", table(rows, self.layout), self.summary)?,
             (_, None) => write!(out, "{}", self.summary)?,

@@ -34,8 +34,8 @@ pub fn seal_each<W: Write>(mut source: Source, sealing: &Sealing, printer: &mut 
                 counter = counter.saturating_add(1);
                 match printer.show {
                     Show::Json => {
-                        let fields = vec![("refusal", 0u8.into()), ("frame", Value::bytes(&frame))];
-                        printer.json(&entry, fields)?;
+                        let fields = [("refusal", 0u8.into()), ("frame", Value::bytes(&frame))];
+                        printer.json(&entry, |all| all.extend(fields))?;
                     }
                     _ => writeln!(printer.out, "{}", digits(&frame))?,
                 }
@@ -52,7 +52,7 @@ pub fn seal_each<W: Write>(mut source: Source, sealing: &Sealing, printer: &mut 
 /// A frame that was not sealed: among the answers for `--json`, a refusal by its number; else on standard error.
 fn report<W: Write>(entry: &Entry, why: NotSealed, printer: &mut Printer<'_, W>) -> io::Result<()> {
     match (why, printer.show) {
-        (NotSealed::Refused(refusal), Show::Json) => printer.json(entry, refusal_fields(refusal)),
+        (NotSealed::Refused(refusal), Show::Json) => printer.json(entry, |all| all.extend(refusal_fields(refusal))),
         (NotSealed::Refused(refusal), _) => {
             complain(&format!("{}: {refusal}", entry.place));
             Ok(())

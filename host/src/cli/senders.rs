@@ -85,8 +85,11 @@ impl Counts {
     }
 
     fn span(&mut self, first: Option<Time>, last: Option<Time>) {
-        self.first = [self.first, first].into_iter().flatten().min();
-        self.last = [self.last, last].into_iter().flatten().max();
+        self.first = match (self.first, first) {
+            (Some(known), Some(first)) => Some(known.min(first)),
+            (known, first) => known.or(first),
+        };
+        self.last = self.last.max(last);
     }
 
     fn has_short(&mut self, short: Short) {

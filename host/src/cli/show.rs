@@ -5,7 +5,8 @@ use super::frames;
 use super::journal::{Found, Refused};
 use super::mac::{Check, MacAddress, MacHeader};
 use super::source::{Entry, Place};
-use super::value::{full, Fields, Value};
+use super::value::{write_full, write_json_line, Fields, Value};
+use std::fmt;
 use std::io::{self, Write};
 use store_reader::Refusal;
 
@@ -24,6 +25,9 @@ pub struct Printer<'a, W> {
     pub several: bool,
     /// What is done with frames.
     pub done: &'static str,
+    /// The fields of an object and the text of an input while they are made; kept, so that neither has to grow for each input.
+    pub fields: Fields,
+    pub text: Vec<u8>,
 }
 
 impl<W: Write> Printer<'_, W> {
@@ -32,34 +36,38 @@ impl<W: Write> Printer<'_, W> {
         if !self.shows(entry, answer) {
             return Ok(());
         }
-        let refusal = answer.refusal.map(|refusal| self.refusal(refusal));
         match self.show {
             Show::Line => {
-                let line = [Some(answer.line()).filter(|line| !line.is_empty()), refusal, note(entry)];
-                let line: Vec<String> = line.into_iter().flatten().collect();
-                writeln!(self.out, "{}{}", front(entry), line.join("  "))
+                write_front(entry, &mut self.text)?;
+                answer.write_line(&mut self.text)?;
+                if let Some(refusal) = answer.refusal {
+                    write!(self.text, "  {}", self.refusal(refusal))?;
+                }
+                writeln!(self.text, "{}", note(entry))?;
+                self.write_text()
             }
             Show::Full => {
-                let refusal = refusal.map_or(String::new(), |refusal| format!("  {refusal}\n"));
-                let mut fields = record_fields(entry);
-                fields.extend(answer.fields());
+                let mut fields = Fields::new();
+                add_record(entry, &mut fields);
+                answer.add_fields(&mut fields);
+                writeln!(self.text, "{}{}", entry.place, note(entry))?;
+                if let Some(refusal) = answer.refusal {
+                    writeln!(self.text, "  {}", self.refusal(refusal))?;
+                    fields.push(("bytes", Value::bytes(bytes)));
+                }
+                write_full(&fields, 2, &mut self.text)?;
+                self.write_text()
+            }
+            Show::Json => self.json(entry, |fields| {
+                match answer.refusal {
+                    None => fields.push(("refusal", 0u8.into())),
+                    Some(refusal) => fields.extend(refusal_fields(refusal)),
+                }
+                answer.add_fields(fields);
                 if answer.refusal.is_some() {
                     fields.push(("bytes", Value::bytes(bytes)));
                 }
-                let note = note(entry).map_or(String::new(), |note| format!("  {note}"));
-                write!(self.out, "{}{note}\n{refusal}{}", entry.place, full(&fields, 2))
-            }
-            Show::Json => {
-                let mut fields: Fields = match answer.refusal {
-                    None => vec![("refusal", 0u8.into())],
-                    Some(refusal) => refusal_fields(refusal),
-                };
-                fields.extend(answer.fields());
-                if answer.refusal.is_some() {
-                    fields.push(("bytes", Value::bytes(bytes)));
-                }
-                self.json(entry, fields)
-            }
+            }),
             Show::Frames => write!(self.out, "{}", frames::of_answer(&self.file, entry, answer, self.done)),
             Show::Csv => Ok(()),
         }
@@ -82,24 +90,26 @@ impl<W: Write> Printer<'_, W> {
         }
         match self.show {
             Show::Line => {
-                let line = [Some(kind.to_string()), note(entry)];
-                writeln!(self.out, "{}{}", front(entry), line.into_iter().flatten().collect::<Vec<_>>().join("  "))
+                write_front(entry, &mut self.text)?;
+                writeln!(self.text, "  {kind}{}", note(entry))?;
+                self.write_text()
             }
             Show::Full => {
-                let mut fields = record_fields(entry);
+                let mut fields = Fields::new();
+                add_record(entry, &mut fields);
                 if !bytes.is_empty() {
                     fields.push(("bytes", Value::bytes(bytes)));
                 }
-                let note = note(entry).map_or(String::new(), |note| format!("  {note}"));
-                write!(self.out, "{}{note}\n  {kind}\n{}", entry.place, full(&fields, 2))
+                writeln!(self.text, "{}{}\n  {kind}", entry.place, note(entry))?;
+                write_full(&fields, 2, &mut self.text)?;
+                self.write_text()
             }
-            Show::Json => {
-                let mut fields: Fields = vec![("skipped", Value::text(kind))];
+            Show::Json => self.json(entry, |fields| {
+                fields.push(("skipped", Value::text(kind)));
                 if !bytes.is_empty() {
                     fields.push(("bytes", Value::bytes(bytes)));
                 }
-                self.json(entry, fields)
-            }
+            }),
             Show::Frames => {
                 write!(self.out, "{}", frames::of_other(&self.file, entry, "not a NWK frame", kind))
             }
@@ -113,9 +123,9 @@ impl<W: Write> Printer<'_, W> {
             (Show::Json, Ok(found)) => {
                 let mut fields: Fields = vec![("refusal", 0u8.into())];
                 fields.extend(found.fields());
-                writeln!(self.out, "{}", Value::Object(fields).json())
+                write_json_line(&fields, self.out)
             }
-            (Show::Json, Err(refused)) => writeln!(self.out, "{}", Value::Object(refused.fields()).json()),
+            (Show::Json, Err(refused)) => write_json_line(&refused.fields(), self.out),
             (_, Ok(found)) => write!(self.out, "{found}"),
             (_, Err(refused)) => writeln!(self.out, "{}", self.coloured(refused.to_string())),
         }
@@ -124,7 +134,7 @@ impl<W: Write> Printer<'_, W> {
     /// An input that cannot be read: among the answers for `--json`, else on standard error.
     pub fn broken(&mut self, entry: &Entry, why: &str) -> io::Result<()> {
         match self.show {
-            Show::Json => return self.json(entry, vec![("error", Value::text(why))]),
+            Show::Json => return self.json(entry, |fields| fields.push(("error", Value::text(why)))),
             Show::Frames => write!(self.out, "{}", frames::of_other(&self.file, entry, "not read", why))?,
             _ => {}
         }
@@ -140,20 +150,29 @@ impl<W: Write> Printer<'_, W> {
         }
     }
 
-    /// One object with the record's own fields in front.
-    pub fn json(&mut self, entry: &Entry, fields: Fields) -> io::Result<()> {
+    /// One object: the input's name where there are several, its place, what a capture says beside it, and what is added.
+    pub fn json(&mut self, entry: &Entry, add: impl FnOnce(&mut Fields)) -> io::Result<()> {
         let (kind, number) = entry.place.parts();
-        let mut object = Fields::new();
+        let fields = &mut self.fields;
+        fields.clear();
         if self.several {
-            object.push(("file", Value::text(&self.file)));
+            fields.push(("file", Value::text(&self.file)));
         }
-        object.push((kind, Value::Number(number)));
-        object.extend(record_fields(entry));
+        fields.push((kind, Value::Number(number)));
+        add_record(entry, fields);
         if entry.fcs == Check::Wrong {
-            object.push(("wrong_fcs", Value::Flag(true)));
+            fields.push(("wrong_fcs", Value::Flag(true)));
         }
-        object.extend(fields);
-        writeln!(self.out, "{}", Value::Object(object).json())
+        add(fields);
+        write_json_line(fields, &mut self.text)?;
+        self.write_text()
+    }
+
+    /// Writes out the text that was made of an input, all of it at once: a pipe gets whole lines.
+    fn write_text(&mut self) -> io::Result<()> {
+        let written = self.out.write_all(&self.text);
+        self.text.clear();
+        written
     }
 
     fn refusal(&self, refusal: Refusal) -> String {
@@ -195,28 +214,37 @@ fn is_from(entry: &Entry, answer: &Answer, source: SourceAddress) -> bool {
     }
 }
 
-/// A line's front: the input's number, its time, and the MAC addresses.
-fn front(entry: &Entry) -> String {
-    let mut front = format!("{:>4}  ", entry.place.parts().1);
+/// Writes a line's front: the input's number, its time, and the MAC addresses.
+fn write_front(entry: &Entry, out: &mut impl Write) -> io::Result<()> {
+    write!(out, "{:>4}", entry.place.parts().1)?;
     if let Some(time) = entry.time {
-        front += &format!("{time}  ");
+        write!(out, "  {time}")?;
     }
     if let Some(hop) = entry.mac.and_then(|mac| hop(&mac)) {
-        front += &format!("{hop:<21}  ");
+        write!(out, "  {hop:<21}")?;
     }
-    front
+    Ok(())
 }
 
 /// PAN identifier, MAC source and destination.
 fn hop(mac: &MacHeader) -> Option<String> {
-    let pan = mac.pan?;
-    let shown = |address: Option<MacAddress>| address.map_or("none".to_string(), |address| address.to_string());
-    Some(format!("{pan} {}>{}", shown(mac.source), shown(mac.destination)))
+    Some(format!("{} {}>{}", mac.pan?, End(mac.source), End(mac.destination)))
 }
 
-/// Time and MAC addresses as fields.
-fn record_fields(entry: &Entry) -> Fields {
-    let mut fields = Fields::new();
+/// One end of a hop, which may have no address.
+struct End(Option<MacAddress>);
+
+impl fmt::Display for End {
+    fn fmt(&self, f: &mut fmt::Formatter<'_>) -> fmt::Result {
+        match self.0 {
+            Some(address) => address.fmt(f),
+            None => f.write_str("none"),
+        }
+    }
+}
+
+/// Adds the time and the MAC addresses of a record.
+fn add_record(entry: &Entry, fields: &mut Fields) {
     fields.extend(entry.time.map(|time| ("time", Value::text(time))));
     if let Some(mac) = entry.mac {
         fields.extend(mac.pan.map(|pan| ("pan", Value::text(pan))));
@@ -224,11 +252,14 @@ fn record_fields(entry: &Entry) -> Fields {
         fields.extend(mac.source.map(|address| ("mac_source", Value::text(address))));
         fields.extend(mac.destination.map(|address| ("mac_destination", Value::text(address))));
     }
-    fields
 }
 
-fn note(entry: &Entry) -> Option<String> {
-    (entry.fcs == Check::Wrong).then(|| "(wrong frame check sequence)".to_string())
+/// What a line says of a wrong frame check sequence, behind two blanks.
+fn note(entry: &Entry) -> &'static str {
+    match entry.fcs {
+        Check::Wrong => "  (wrong frame check sequence)",
+        Check::Missing | Check::Right => "",
+    }
 }
 
 /// A refusal's number and condition as fields.

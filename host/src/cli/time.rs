@@ -99,7 +99,7 @@ impl PartialOrd for Time {
 
 impl Ord for Time {
     fn cmp(&self, other: &Self) -> Ordering {
-        (self.seconds, self.finest()).cmp(&(other.seconds, other.finest()))
+        self.seconds.cmp(&other.seconds).then_with(|| self.finest().cmp(&other.finest()))
     }
 }
 
@@ -110,7 +110,12 @@ impl fmt::Display for Time {
         let (year, month, day) = date(clock.div_euclid(SECONDS_A_DAY));
         let second = clock.rem_euclid(SECONDS_A_DAY);
         let (hours, minutes, seconds) = (second / 3600, second / 60 % 60, second % 60);
-        write!(f, "{year:04}-{month:02}-{day:02}T{hours:02}:{minutes:02}:{seconds:02}")?;
+        let mut text = *b"-00-00T00:00:00";
+        for (place, number) in text.chunks_mut(3).zip([month, day, hours, minutes, seconds]) {
+            place[1] += (number / 10) as u8;
+            place[2] += (number % 10) as u8;
+        }
+        write!(f, "{year:04}{}", std::str::from_utf8(&text).map_err(|_| fmt::Error)?)?;
         if self.digits > 0 {
             write!(f, ".{:0width$}", self.fraction, width = self.digits as usize)?;
         }
@@ -155,6 +160,7 @@ mod tests {
             assert_eq!(Time::of_parts(seconds, 0, Resolution::MICROSECONDS).to_string(), text);
         }
         assert_eq!(Resolution::Decimal(0).time(1, -2).to_string(), "1969-12-31T23:59:59Z");
+        assert_eq!(Resolution::Decimal(0).time(253_402_300_800, 0).to_string(), "10000-01-01T00:00:00Z");
         let fine = Time::of_parts(1_795_000_000, 7, Resolution::NANOSECONDS);
         assert_eq!(fine.to_string(), "2026-11-18T11:06:40.000000007Z");
         let ahead = |offset| Time { offset: Some(offset), ..fine }.to_string();
