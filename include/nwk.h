@@ -23,8 +23,8 @@
 extern "C" {
 #endif
 
-#define NWK_VERSION "0.10.0"
-#define NWK_VERSION_NUMBER 0x000A00
+#define NWK_VERSION "0.10.1"
+#define NWK_VERSION_NUMBER 0x000A01
 
 #ifdef __cplusplus
 #define NWK_CAST(type, value) static_cast<type>(value)
