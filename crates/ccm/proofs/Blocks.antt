@@ -2,18 +2,17 @@
 -- Assumes nothing.
 use mathlib.Core.Path.{_≡_, refl, ap, _∙_}
 use mathlib.Core.List.{List, [], _∷_, _++_}
-use Prim.Native.Nat.{ℕ, zero, suc, _+_, _-_, _*_, _/_, _%_, _≤_, _<_}
+use Prim.Native.Nat.{ℕ, suc, _+_, _/_, _%_, _≤_}
 use native.Mathlib.Omega.{arith}
 use native.Mathlib.Nat.{add-assoc}
 use native.Mathlib.Numerals.{add-two}
-use borrow.Author.Tests.{lt-ltb, le-ltb}
 use lib.ListN.{length, getD, length-append}
 use lib.Seq.{take-all}
 use Rattle.octets.specs.Strings.{tab, Below}
 use Rattle.octets.specs.Numbers.{le, leAt, bytesOf}
 use Rattle.octets.proofs.Strings.{tab-ext, tab-getD}
 use Rattle.octets.proofs.Numbers.{le-leAt-tab}
-use Rattle.ccm.specs.Formatting.{twoBytes, headed, firstBlock, encodedData, blocksOf, blockAt, formatted}
+use Rattle.ccm.specs.Formatting.{twoBytes, headed, firstBlock, encodedData, formatted}
 
 -- a block of a first byte, the thirteen bytes of the nonce, and two bytes
 pub headed-bytes : (first : ℕ) (n : List ℕ) (x : ℕ) → length n ≡ 13 → first ∷ (tab (λ (i : ℕ). getD n i 0) 13 ++ twoBytes x) ≡ headed first n x

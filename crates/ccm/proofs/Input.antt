@@ -1,7 +1,7 @@
 -- The formatted input in one array: B_0, the associated data behind its length and the payload, each written to zeros from a place where a
 -- block begins, are its blocks. A byte is looked up by the part that it is in; what is past a part's end counts 0, which is the zero fill.
 -- Assumes nothing.
-use mathlib.Core.Path.{_≡_, refl, sym, ap, _∙_}
+use mathlib.Core.Path.{_≡_, sym, ap, _∙_}
 use mathlib.Core.List.{List, _++_}
 use mathlib.Core.Logic.{⊎-elim, _⊎_, inl, inr}
 use Prim.Native.Nat.{ℕ, zero, suc, _+_, _-_, _*_, _≤_, _<_}
@@ -11,7 +11,7 @@ use native.Mathlib.Omega.{arith}
 use borrow.Author.Tests.{lt-ltb, le-ltb}
 use lib.ListN.{length, getD, take, drop, List·getD-append, List·getD-eq-default}
 use lib.Seq.{length-take-le, take-all, getD-take, getD-drop, getD-append-add}
-use Rattle.octets.specs.Strings.{tab, over}
+use Rattle.octets.specs.Strings.{over}
 use Rattle.octets.proofs.Strings.{tab-ext, tab-getD, length-over}
 use Rattle.ccm.specs.Formatting.{firstBlock, encodedData, blocksOf, blockAt, formatted, Formats}
 use Rattle.ccm.proofs.Streams.{blocks-hold}

@@ -9,7 +9,7 @@ use native.Mathlib.Omega.{arith}
 use lib.Bits.{bitXor}
 use lib.ListN.{length, getD, take, drop, set, length-append}
 use lib.Seq.{getD-take, take-take}
-use Rattle.octets.specs.Strings.{tab, over, xored}
+use Rattle.octets.specs.Strings.{over, xored}
 use Rattle.octets.specs.Numbers.{bytesOf}
 use Rattle.octets.proofs.Strings.{tab-ext, fill-turn, over-front, over-then, take-over}
 use Rattle.octets.proofs.Xor.{length-xored}

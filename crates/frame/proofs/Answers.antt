@@ -16,7 +16,7 @@ use Rattle.octets.proofs.Conditions.{refused-by, stop, skip, stop-by, skip-by, 
 use Rattle.header.specs.declared.{auxiliary.AuxRead.AuxRead, nwk.HeaderRead.HeaderRead, auxiliary.NwkSecurityLevel.NwkSecurityLevel, auxiliary.NwkAuxHeader.NwkAuxHeader, nwk.NwkHeader.NwkHeader}
 use Rattle.types.specs.declared.OptionEui64.{OptionEui64}
 use Rattle.header.specs.Reading.{readHeader}
-use Rattle.header.specs.Writing.{headerBytes, badHeader}
+use Rattle.header.specs.Writing.{headerBytes}
 use Rattle.header.specs.Auxiliary.{auxBytes, readAux}
 use Rattle.header.proofs.ReadFacts.{header-facts, aux-facts}
 use Rattle.ccm.specs.declared.Split.{Split}

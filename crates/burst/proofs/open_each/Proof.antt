@@ -1,6 +1,5 @@
 -- `burst::open_each` meets its contract. The loop's invariant: `at` is where frame k begins, and output and list are those after the
 -- first k frames. The measure is what is left of the lengths. Assumes nothing.
-use borrow.Author.Needs.{needs}
 use mathlib.Core.Path.{_≡_, refl, sym, _∙_}
 use Prim.Native.Nat.{_+_, _*_, _-_, _≤_, _<_}
 use native.Mathlib.Omega.{arith}

@@ -1,7 +1,5 @@
 -- `field::first_of_word` meets its contract: the byte where the entry has the substitute. Assumes nothing.
 use borrow.Author.Needs.{needs}
-use mathlib.Core.Path.{ap}
-use Prim.Native.Nat.{ℕ, _*_}
 use native.Mathlib.Omega.{arith}
 use Rattle.field.specs.SBox.{sbox}
 use Rattle.field.proofs.Bytes.{sbox-byte}
