@@ -14,7 +14,8 @@ returns c =
     let first = second .before in
     let a = first .before .args in
     rw (c .bytes-of .ensures, le-xorWord, le-xorWord, c .before .number .ensures)
-    (by-halves _ _ _ _ _ _ _ _ (sbox-byte (a .a)) (sbox-byte (a .b)) (sbox-byte (a .c)) (sbox-byte (a .d)) (first .first-of-word .ensures .0) (second .second-of-word .ensures .0) (third .third-of-word .ensures .0) (fourth .fourth-of-word .ensures .0)
+    (by-halves _ _ _ _ _ _ _ _ (sbox-byte (a .a)) (sbox-byte (a .b)) (sbox-byte (a .c)) (sbox-byte (a .d))
+    (first .first-of-word .ensures .0) (second .second-of-word .ensures .0) (third .third-of-word .ensures .0) (fourth .fourth-of-word .ensures .0)
     (a .k))
 
 pub last-column-by-halves-spec : {M : Type 1} → statement M

@@ -13,7 +13,8 @@ returns c =
 
 returns-2 : tie.Need-returns-2
 returns-2 c =
-    (c .blocks-of2 .ensures .0 ∙ ap blocksOf (length-data (c .before .before .before .args .auth .now) (c .before .if1 .left)), omega (arith, c .blocks-of2 .ensures .1, c .before .before .before .pre))
+    let start = c .before .before .before in
+    (c .blocks-of2 .ensures .0 ∙ ap blocksOf (length-data (start .args .auth .now) (c .before .if1 .left)), omega (arith, c .blocks-of2 .ensures .1, start .pre))
 
 pub data-blocks-spec : {M : Type 1} → statement M
 data-blocks-spec =
