@@ -12,7 +12,7 @@ use Rattle.octets.specs.Strings.{tab, Below}
 use Rattle.octets.specs.Numbers.{le, leAt, bytesOf}
 use Rattle.octets.proofs.Strings.{tab-ext, tab-getD}
 use Rattle.octets.proofs.Numbers.{le-leAt-tab}
-use Rattle.ccm.specs.Formatting.{twoBytes, headed, firstBlock, encodedData, formatted}
+use Rattle.ccm.specs.Formatting.{twoBytes, headed, firstBlock, encodedData}
 
 -- a block of a first byte, the thirteen bytes of the nonce, and two bytes
 pub headed-bytes : (first : ℕ) (n : List ℕ) (x : ℕ) → length n ≡ 13 → first ∷ (tab (λ (i : ℕ). getD n i 0) 13 ++ twoBytes x) ≡ headed first n x
