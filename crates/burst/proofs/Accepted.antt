@@ -8,6 +8,7 @@ use native.Mathlib.Omega.{arith}
 use lib.ListN.{length}
 use borrow.Author.Tests.{ltb-false, eqb-true, not-false}
 use Rattle.octets.proofs.Conditions.{none}
+use Rattle.types.specs.declared.level.Level.{Level}
 use Rattle.frame.proofs.Opened.{open-length}
 use Rattle.burst.specs.Burst.{total, frameAt, partAt, alone, burstRefusal}
 use Rattle.burst.proofs.Parts.{length-part}
@@ -30,6 +31,6 @@ ready ns bytes room places e =
     }
 
 -- a part has 108 bytes after its frame is opened
-pub alone-size : (ciph : List ℕ → List ℕ) (fs ns o : List ℕ) → 108 * length ns ≤ length o → (k : ℕ) → k < length ns → length (alone ciph fs ns o k .out) ≡ 108
+pub alone-size : (level : Level) (ciph : List ℕ → List ℕ) (fs ns o : List ℕ) → 108 * length ns ≤ length o → (k : ℕ) → k < length ns → length (alone level ciph fs ns o k .out) ≡ 108
 unfolding alone
-alone-size ciph fs ns o fits k h = open-length ciph (frameAt fs ns k) (partAt o k) ∙ length-part o k (omega arith)
+alone-size level ciph fs ns o fits k h = open-length level ciph (frameAt fs ns k) (partAt o k) ∙ length-part o k (omega arith)

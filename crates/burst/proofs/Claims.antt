@@ -16,11 +16,12 @@ use Rattle.octets.specs.Refusals.{on, firstOf}
 use Rattle.octets.proofs.Strings.{length-tab, getD-tab}
 use Rattle.octets.proofs.Conditions.{accepted, refused, none-refuse}
 use Rattle.ccm.specs.Operations.{ciphOf}
+use Rattle.types.specs.declared.level.Level.{Level}
 use Rattle.frame.specs.declared.FrameOpened.{FrameOpened}
 use Rattle.frame.specs.Opening as opening
 use Rattle.frame.specs.Opening.{openFrame, payloadIn}
 use Rattle.frame.proofs.Marks.{clear-accepted, payload-of-clear}
-use Rattle.frame.proofs.Opened.{open-behind, open-refused, open-roomy, open-empty, open-long}
+use Rattle.frame.proofs.Opened.{open-behind, open-refused, open-roomy, open-other, open-empty, open-long}
 use Rattle.records.specs.OpenedRecord.{openedRecord, openedOf}
 use Rattle.records.proofs.Zeros.{refused-record}
 use Rattle.records.proofs.OpenedBack.{answer-back}
@@ -32,25 +33,25 @@ use Rattle.burst.proofs.Accepted.{ready, alone-size}
 
 -- ---- a burst that is accepted
 
-module _ (key fs ns o : List ℕ) (list : List (List ℕ)) (ok : claims.Accepted fs ns o list) where
-  run : openBurst key fs ns o list ≡ burstGiven (ciphOf key) fs ns o list
+module _ (level : Level) (key fs ns o : List ℕ) (list : List (List ℕ)) (ok : claims.Accepted fs ns o list) where
+  run : openBurst level key fs ns o list ≡ burstGiven level (ciphOf key) fs ns o list
   unfolding openBurst
   run = accepted _ _ _ ok
 
-  sized : (k : ℕ) → k < length ns → length (alone (ciphOf key) fs ns o k .out) ≡ 108
-  sized = alone-size (ciphOf key) fs ns o (ready _ _ _ _ ok .fits)
+  sized : (k : ℕ) → k < length ns → length (alone level (ciphOf key) fs ns o k .out) ≡ 108
+  sized = alone-size level (ciphOf key) fs ns o (ready _ _ _ _ ok .fits)
 
-  as-alone : (k : ℕ) → k < length ns → claims.AsAlone key fs ns o list k
+  as-alone : (k : ℕ) → k < length ns → claims.AsAlone level key fs ns o list k
   unfolding outAfter answersAfter alone
   as-alone k h =
       record {
         answer = ap (λ (r : Run). getD (r .answers) k []) run
-            ∙ List·getD-append (tab (λ (i : ℕ). openedRecord (alone (ciphOf key) fs ns o i .answer)) (length ns)) _ [] k (rw (length-tab _ (length ns)) h)
+            ∙ List·getD-append (tab (λ (i : ℕ). openedRecord (alone level (ciphOf key) fs ns o i .answer)) (length ns)) _ [] k (rw (length-tab _ (length ns)) h)
             ∙ getD-tab _ (length ns) k [] h;
         part = ap (λ (r : Run). partAt (r .out) k) run ∙ part-joined _ (length ns) k _ sized h;
       }
 
-  rest-stays : claims.RestStays key fs ns o list
+  rest-stays : claims.RestStays level key fs ns o list
   unfolding outAfter answersAfter
   rest-stays =
       record {
@@ -67,35 +68,36 @@ pub each-as-alone : claims.EachAsAlone
 each-as-alone = as-alone
 
 pub each-said : claims.EachSaid
-each-said key fs ns o list u ok k h =
-    ap openedOf (as-alone key fs ns o list ok k h .answer) ∙ answer-back (ciphOf key) (frameAt fs ns k) (partAt o k) (frame-below fs ns k u)
+each-said level key fs ns o list u ok k h =
+    ap openedOf (as-alone level key fs ns o list ok k h .answer) ∙ answer-back level (ciphOf key) (frameAt fs ns k) (partAt o k) (frame-below fs ns k u)
 
 pub parts-suffice : claims.PartsSuffice
-parts-suffice key fs ns o o′ list u ok room k h =
+parts-suffice level key fs ns o o′ list u ok room k h =
     let size = length-part o k (omega (arith, ready _ _ _ _ ok .fits)) in
-    open-roomy (ciphOf key) (frameAt fs ns k) (partAt o k) o′ (frame-below fs ns k u) (omega arith) room
+    open-roomy level (ciphOf key) (frameAt fs ns k) (partAt o k) o′ (frame-below fs ns k u) (omega arith) room
 
 pub payloads-as-alone : claims.PayloadsAsAlone
-payloads-as-alone key fs ns o list u ok k h =
-    λ i. payloadIn (each-said key fs ns o list u ok k h i) (frameAt fs ns k) (as-alone key fs ns o list ok k h .part i)
+payloads-as-alone level key fs ns o list u ok k h =
+    λ i. payloadIn (each-said level key fs ns o list u ok k h i) (frameAt fs ns k) (as-alone level key fs ns o list ok k h .part i)
 
 pub clear-writes-nothing : claims.ClearWritesNothing
-clear-writes-nothing key fs ns o list u ok k h clear =
-    let c = clear-accepted key (frameAt fs ns k) (partAt o k) clear in
+clear-writes-nothing level key fs ns o list u ok k h good clear =
+    let c = clear-accepted level key (frameAt fs ns k) (partAt o k) good clear in
     let marked = ap (λ (r : opening.Run). r .answer .mark) (c .run) in
     record {
-      marked = ap (λ (r : FrameOpened). r .mark) (each-said key fs ns o list u ok k h) ∙ marked;
-      part = as-alone key fs ns o list ok k h .part ∙ c .untouched;
-      payload = payloads-as-alone key fs ns o list u ok k h ∙ payload-of-clear key (frameAt fs ns k) (partAt o k) marked;
+      marked = ap (λ (r : FrameOpened). r .mark) (each-said level key fs ns o list u ok k h) ∙ marked;
+      part = as-alone level key fs ns o list ok k h .part ∙ c .untouched;
+      payload = payloads-as-alone level key fs ns o list u ok k h ∙ payload-of-clear level key (frameAt fs ns k) (partAt o k) marked;
     }
 
 pub each-its-own-number : claims.EachItsOwnNumber
-each-its-own-number key fs ns o list ok k h =
+each-its-own-number level key fs ns o list ok k h =
     let size = length-frame fs ns (ready _ _ _ _ ok .sum) k h in
     record {
-      empty = λ z. ap (λ (f : List ℕ). openFrame key f (partAt o k) .answer .refusal) (no-bytes _ (size ∙ z)) ∙ open-empty (ciphOf key) (partAt o k);
-      long = λ l. open-long (ciphOf key) (frameAt fs ns k) (partAt o k) (omega arith);
-      zeros = λ n e z. as-alone key fs ns o list ok k h .answer ∙ ap openedRecord (open-refused (ciphOf key) (frameAt fs ns k) (partAt o k) n e z) ∙ refused-record n;
+      other = open-other level (ciphOf key) (frameAt fs ns k) (partAt o k);
+      empty = λ g z. ap (λ (f : List ℕ). openFrame level key f (partAt o k) .answer .refusal) (no-bytes _ (size ∙ z)) ∙ open-empty level (ciphOf key) (partAt o k) g;
+      long = λ g l. open-long level (ciphOf key) (frameAt fs ns k) (partAt o k) g (omega arith);
+      zeros = λ n e z. as-alone level key fs ns o list ok k h .answer ∙ ap openedRecord (open-refused level (ciphOf key) (frameAt fs ns k) (partAt o k) n e z) ∙ refused-record n;
     }
   where
     no-bytes : (f : List ℕ) → length f ≡ 0 → f ≡ []
@@ -106,8 +108,8 @@ pub the-rest-stays : claims.TheRestStays
 the-rest-stays = rest-stays
 
 pub behind-stays : claims.BehindStays
-behind-stays key fs ns o list ok k h =
-    ap (drop (openFrame key (frameAt fs ns k) (partAt o k) .answer .length)) (as-alone key fs ns o list ok k h .part) ∙ open-behind (ciphOf key) (frameAt fs ns k) (partAt o k)
+behind-stays level key fs ns o list ok k h =
+    ap (drop (openFrame level key (frameAt fs ns k) (partAt o k) .answer .length)) (as-alone level key fs ns o list ok k h .part) ∙ open-behind level (ciphOf key) (frameAt fs ns k) (partAt o k)
 
 -- ---- 20
 
@@ -153,18 +155,18 @@ twenty-exactly ns bytes room places =
 
 pub twenty-changes-nothing : claims.TwentyChangesNothing
 unfolding openBurst
-twenty-changes-nothing key fs ns o list met =
+twenty-changes-nothing level key fs ns o list met =
     let e = twenty-exactly ns (length fs) (length o) (length list) .refused met in
     refused _ _ _ (λ z. omega (arith, e)) ∙ ap (λ (n : ℕ). burstNothing n o list) e
 
 -- ---- the number of frames
 
 pub number-answered : claims.NumberAnswered
-number-answered key fs ns o list ok = ap (λ (r : Run). r .answer) (run key fs ns o list ok)
+number-answered level key fs ns o list ok = ap (λ (r : Run). r .answer) (run level key fs ns o list ok)
 
 pub no-frames : claims.NoFrames
 unfolding total joined tab outAfter answersAfter
-no-frames key o list =
-    run key [] [] o list
+no-frames level key o list =
+    run level key [] [] o list
     (twenty-exactly [] 0 (length o) (length list) .accepted
     (⊎-elim (λ h. omega arith) (⊎-elim (λ h. h refl) (⊎-elim (λ h. omega arith) (λ h. omega arith)))))

@@ -1,4 +1,5 @@
--- Opening a burst (document 02, 1): up to 16 frames, end to end with a list of their lengths, under one key in one call. Each
+-- Opening a burst (document 02, 1): up to 16 frames, end to end with a list of their lengths, at one level and under one key in
+-- one call. Each
 -- frame has its own part of the output and its own place in the list for the answers, which are opened records.
 -- Assumes nothing.
 use Prim.Native.Nat.{ℕ, zero, suc, _+_, _*_}
@@ -8,6 +9,7 @@ use lib.ListN.{length, getD, take, drop}
 use lib.Dec.{eqb, ltb}
 use Rattle.octets.specs.Strings.{tab}
 use Rattle.octets.specs.Refusals.{unless, on, firstOf}
+use Rattle.types.specs.declared.level.Level.{Level}
 use Rattle.ccm.specs.Operations.{ciphOf}
 use Rattle.frame.specs.Opening as opening
 use Rattle.records.specs.OpenedRecord.{openedRecord}
@@ -35,8 +37,8 @@ unfoldable pub partAt : List ℕ → ℕ → List ℕ
 partAt o k = take partSize (drop (partSize * k) o)
 
 -- frame k opened alone into its part, ciph being the cipher under the key
-unfoldable pub alone : (List ℕ → List ℕ) → List ℕ → List ℕ → List ℕ → ℕ → opening.Run
-alone ciph fs ns o k = opening.openWith ciph (frameAt fs ns k) (partAt o k)
+unfoldable pub alone : Level → (List ℕ → List ℕ) → List ℕ → List ℕ → List ℕ → ℕ → opening.Run
+alone level ciph fs ns o k = opening.openWith level ciph (frameAt fs ns k) (partAt o k)
 
 -- document 02's number 20, for the bytes lent, the output's room and the places of the list
 unfoldable pub burstRefusal : List ℕ → ℕ → ℕ → ℕ → ℕ
@@ -54,11 +56,11 @@ joined f (suc n) = joined f n ++ f n
 
 -- the output o and the list for the answers after the first n frames: each part as opening its frame alone leaves it, each place
 -- the record of its answer, and the rest as it was
-unfoldable pub outAfter : (List ℕ → List ℕ) → List ℕ → List ℕ → List ℕ → ℕ → List ℕ
-outAfter ciph fs ns o n = joined (λ (k : ℕ). alone ciph fs ns o k .out) n ++ drop (partSize * n) o
+unfoldable pub outAfter : Level → (List ℕ → List ℕ) → List ℕ → List ℕ → List ℕ → ℕ → List ℕ
+outAfter level ciph fs ns o n = joined (λ (k : ℕ). alone level ciph fs ns o k .out) n ++ drop (partSize * n) o
 
-unfoldable pub answersAfter : (List ℕ → List ℕ) → List ℕ → List ℕ → List ℕ → List (List ℕ) → ℕ → List (List ℕ)
-answersAfter ciph fs ns o list n = tab (λ (k : ℕ). openedRecord (alone ciph fs ns o k .answer)) n ++ drop n list
+unfoldable pub answersAfter : Level → (List ℕ → List ℕ) → List ℕ → List ℕ → List ℕ → List (List ℕ) → ℕ → List (List ℕ)
+answersAfter level ciph fs ns o list n = tab (λ (k : ℕ). openedRecord (alone level ciph fs ns o k .answer)) n ++ drop n list
 
 -- what opening a burst leaves: its answer, and the whole of the output and of the list
 pub record Run : Type 0 where
@@ -67,19 +69,19 @@ pub record Run : Type 0 where
   pub answers : List (List ℕ)
 
 -- the number of frames, and all of them opened
-abbrev pub burstGiven : (List ℕ → List ℕ) → List ℕ → List ℕ → List ℕ → List (List ℕ) → Run
-burstGiven ciph fs ns o list =
+abbrev pub burstGiven : Level → (List ℕ → List ℕ) → List ℕ → List ℕ → List ℕ → List (List ℕ) → Run
+burstGiven level ciph fs ns o list =
     record {
       answer = record { refusal = 0; frames = length ns };
-      out = outAfter ciph fs ns o (length ns);
-      answers = answersAfter ciph fs ns o list (length ns);
+      out = outAfter level ciph fs ns o (length ns);
+      answers = answersAfter level ciph fs ns o list (length ns);
     }
 
 -- refused by a number, nothing changed
 abbrev pub burstNothing : ℕ → List ℕ → List (List ℕ) → Run
 burstNothing n o list = record { answer = record { refusal = n; frames = 0 }; out = o; answers = list }
 
-unfoldable pub openBurst : List ℕ → List ℕ → List ℕ → List ℕ → List (List ℕ) → Run
-openBurst key fs ns o list =
-    unless (burstRefusal ns (length fs) (length o) (length list)) (burstGiven (ciphOf key) fs ns o list)
+unfoldable pub openBurst : Level → List ℕ → List ℕ → List ℕ → List ℕ → List (List ℕ) → Run
+openBurst level key fs ns o list =
+    unless (burstRefusal ns (length fs) (length o) (length list)) (burstGiven level (ciphOf key) fs ns o list)
     (burstNothing (burstRefusal ns (length fs) (length o) (length list)) o list)

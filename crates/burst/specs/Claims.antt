@@ -1,13 +1,16 @@
--- Document 02, 1, and what 3 says of bursts, sentence by sentence: each is one claim over all keys, bytes, lengths, outputs and
+-- Document 02, 1, and what 3 and 9 say of bursts, sentence by sentence: each is one claim over all levels, keys, bytes, lengths, outputs and
 -- lists for the answers. But for the claims on 20, a claim is about a burst that is accepted (`Accepted`), and k is the number of
 -- any of its frames.
 -- Assumes nothing.
 use Prim.Native.Nat.{ℕ, _*_, _≤_, _<_}
 use mathlib.Core.Path.{_≡_}
+use mathlib.Core.Bool.{true, false}
 use mathlib.Core.Logic.{_⊎_}
 use mathlib.Core.List.{List, [], _∷_}
 use lib.ListN.{length, getD, drop}
 use Rattle.octets.specs.Strings.{tab, Below}
+use Rattle.types.specs.declared.level.Level.{Level}
+use Rattle.types.specs.Levels.{isOther}
 use Rattle.frame.specs.declared.Mark.{Mark}
 use Rattle.frame.specs.Reading.{readFrame}
 use Rattle.frame.specs.Opening.{openFrame, payloadIn}
@@ -33,74 +36,76 @@ FramesEndToEnd = (fs ns o : List ℕ) (list : List (List ℕ)) → Accepted fs n
 -- ---- "each answer equals opening that frame alone into that part", so that "a refused frame does not stop the next one"
 
 -- answer k and part k are those of opening frame k alone into part k
-pub record AsAlone (key fs ns o : List ℕ) (list : List (List ℕ)) (k : ℕ) : Type 0 where
-  pub answer : getD (openBurst key fs ns o list .answers) k [] ≡ openedRecord (openFrame key (frameAt fs ns k) (partAt o k) .answer)
-  pub part : partAt (openBurst key fs ns o list .out) k ≡ openFrame key (frameAt fs ns k) (partAt o k) .out
+pub record AsAlone (level : Level) (key fs ns o : List ℕ) (list : List (List ℕ)) (k : ℕ) : Type 0 where
+  pub answer : getD (openBurst level key fs ns o list .answers) k [] ≡ openedRecord (openFrame level key (frameAt fs ns k) (partAt o k) .answer)
+  pub part : partAt (openBurst level key fs ns o list .out) k ≡ openFrame level key (frameAt fs ns k) (partAt o k) .out
 
 abbrev pub EachAsAlone : Type 0
-EachAsAlone = (key fs ns o : List ℕ) (list : List (List ℕ)) → Accepted fs ns o list → (k : ℕ) → k < length ns → AsAlone key fs ns o list k
+EachAsAlone = (level : Level) (key fs ns o : List ℕ) (list : List (List ℕ)) → Accepted fs ns o list → (k : ℕ) → k < length ns → AsAlone level key fs ns o list k
 
 -- each record decodes to the whole of that answer, where the bytes lent are below 256
 abbrev pub EachSaid : Type 0
 EachSaid =
-    (key fs ns o : List ℕ) (list : List (List ℕ)) → Below 256 fs → Accepted fs ns o list → (k : ℕ) → k < length ns
-    → openedOf (getD (openBurst key fs ns o list .answers) k []) ≡ openFrame key (frameAt fs ns k) (partAt o k) .answer
+    (level : Level) (key fs ns o : List ℕ) (list : List (List ℕ)) → Below 256 fs → Accepted fs ns o list → (k : ℕ) → k < length ns
+    → openedOf (getD (openBurst level key fs ns o list .answers) k []) ≡ openFrame level key (frameAt fs ns k) (partAt o k) .answer
 
 -- a part has room for every payload: with a longer output the answer is the same, where the bytes lent are below 256
 abbrev pub PartsSuffice : Type 0
 PartsSuffice =
-    (key fs ns o o′ : List ℕ) (list : List (List ℕ)) → Below 256 fs → Accepted fs ns o list → partSize ≤ length o′ → (k : ℕ) → k < length ns
-    → openFrame key (frameAt fs ns k) (partAt o k) .answer ≡ openFrame key (frameAt fs ns k) o′ .answer
+    (level : Level) (key fs ns o o′ : List ℕ) (list : List (List ℕ)) → Below 256 fs → Accepted fs ns o list → partSize ≤ length o′ → (k : ℕ) → k < length ns
+    → openFrame level key (frameAt fs ns k) (partAt o k) .answer ≡ openFrame level key (frameAt fs ns k) o′ .answer
 
 -- the payload by each record, from its frame and its part, is that of opening the frame alone, where the bytes lent are below 256
 abbrev pub PayloadsAsAlone : Type 0
 PayloadsAsAlone =
-    (key fs ns o : List ℕ) (list : List (List ℕ)) → Below 256 fs → Accepted fs ns o list → (k : ℕ) → k < length ns
-    → payloadIn (openedOf (getD (openBurst key fs ns o list .answers) k [])) (frameAt fs ns k) (partAt (openBurst key fs ns o list .out) k)
-    ≡ handedBack key (frameAt fs ns k) (partAt o k)
+    (level : Level) (key fs ns o : List ℕ) (list : List (List ℕ)) → Below 256 fs → Accepted fs ns o list → (k : ℕ) → k < length ns
+    → payloadIn (openedOf (getD (openBurst level key fs ns o list .answers) k [])) (frameAt fs ns k) (partAt (openBurst level key fs ns o list .out) k)
+    ≡ handedBack level key (frameAt fs ns k) (partAt o k)
 
--- the answer of a frame of no bytes is 2, and that of one over 118 is 1; beside a refused frame's number its record is zeros
-pub record OwnNumber (key fs ns o : List ℕ) (list : List (List ℕ)) (k : ℕ) : Type 0 where
-  pub empty : getD ns k 0 ≡ 0 → openFrame key (frameAt fs ns k) (partAt o k) .answer .refusal ≡ 2
-  pub long : 118 < getD ns k 0 → openFrame key (frameAt fs ns k) (partAt o k) .answer .refusal ≡ 1
-  pub zeros : (n : ℕ) → openFrame key (frameAt fs ns k) (partAt o k) .answer .refusal ≡ n → (n ≡ 0 → ⊥)
-      → getD (openBurst key fs ns o list .answers) k [] ≡ n ∷ tab (λ (i : ℕ). 0) 181
+-- at another level the answer of each frame is 29 (document 02, 9); else that of a frame of no bytes is 2, and that of one over 118 is 1;
+-- beside a refused frame's number its record is zeros
+pub record OwnNumber (level : Level) (key fs ns o : List ℕ) (list : List (List ℕ)) (k : ℕ) : Type 0 where
+  pub other : isOther level ≡ true → openFrame level key (frameAt fs ns k) (partAt o k) .answer .refusal ≡ 29
+  pub empty : isOther level ≡ false → getD ns k 0 ≡ 0 → openFrame level key (frameAt fs ns k) (partAt o k) .answer .refusal ≡ 2
+  pub long : isOther level ≡ false → 118 < getD ns k 0 → openFrame level key (frameAt fs ns k) (partAt o k) .answer .refusal ≡ 1
+  pub zeros : (n : ℕ) → openFrame level key (frameAt fs ns k) (partAt o k) .answer .refusal ≡ n → (n ≡ 0 → ⊥)
+      → getD (openBurst level key fs ns o list .answers) k [] ≡ n ∷ tab (λ (i : ℕ). 0) 181
 
 abbrev pub EachItsOwnNumber : Type 0
-EachItsOwnNumber = (key fs ns o : List ℕ) (list : List (List ℕ)) → Accepted fs ns o list → (k : ℕ) → k < length ns → OwnNumber key fs ns o list k
+EachItsOwnNumber = (level : Level) (key fs ns o : List ℕ) (list : List (List ℕ)) → Accepted fs ns o list → (k : ℕ) → k < length ns → OwnNumber level key fs ns o list k
 
 -- ---- "in a burst a clear frame writes nothing to its part, and its payload is the frame's last bytes" (document 02, 3)
 
--- where frame k reads, its security bit is off, and the bytes lent are below 256
+-- where the level is one of the three, frame k reads, its security bit is off, and the bytes lent are below 256
 
-pub record ClearInBurst (key fs ns o : List ℕ) (list : List (List ℕ)) (k : ℕ) : Type 0 where
-  pub marked : openedOf (getD (openBurst key fs ns o list .answers) k []) .mark ≡ Mark.Clear
-  pub part : partAt (openBurst key fs ns o list .out) k ≡ partAt o k
-  pub payload : payloadIn (openedOf (getD (openBurst key fs ns o list .answers) k [])) (frameAt fs ns k) (partAt (openBurst key fs ns o list .out) k)
+pub record ClearInBurst (level : Level) (key fs ns o : List ℕ) (list : List (List ℕ)) (k : ℕ) : Type 0 where
+  pub marked : openedOf (getD (openBurst level key fs ns o list .answers) k []) .mark ≡ Mark.Clear
+  pub part : partAt (openBurst level key fs ns o list .out) k ≡ partAt o k
+  pub payload : payloadIn (openedOf (getD (openBurst level key fs ns o list .answers) k [])) (frameAt fs ns k) (partAt (openBurst level key fs ns o list .out) k)
       ≡ drop (readFrame (frameAt fs ns k) .length) (frameAt fs ns k)
 
 abbrev pub ClearWritesNothing : Type 0
 ClearWritesNothing =
-    (key fs ns o : List ℕ) (list : List (List ℕ)) → Below 256 fs → Accepted fs ns o list → (k : ℕ) → k < length ns
-    → IsClear (frameAt fs ns k) → ClearInBurst key fs ns o list k
+    (level : Level) (key fs ns o : List ℕ) (list : List (List ℕ)) → Below 256 fs → Accepted fs ns o list → (k : ℕ) → k < length ns
+    → isOther level ≡ false → IsClear (frameAt fs ns k) → ClearInBurst level key fs ns o list k
 
 -- ---- what stays
 
 -- "places of the answers' list past the number of frames stay", and so do the bytes behind the last part
-pub record RestStays (key fs ns o : List ℕ) (list : List (List ℕ)) : Type 0 where
-  pub answers : drop (length ns) (openBurst key fs ns o list .answers) ≡ drop (length ns) list
-  pub out : drop (partSize * length ns) (openBurst key fs ns o list .out) ≡ drop (partSize * length ns) o
+pub record RestStays (level : Level) (key fs ns o : List ℕ) (list : List (List ℕ)) : Type 0 where
+  pub answers : drop (length ns) (openBurst level key fs ns o list .answers) ≡ drop (length ns) list
+  pub out : drop (partSize * length ns) (openBurst level key fs ns o list .out) ≡ drop (partSize * length ns) o
 
 abbrev pub TheRestStays : Type 0
-TheRestStays = (key fs ns o : List ℕ) (list : List (List ℕ)) → Accepted fs ns o list → RestStays key fs ns o list
+TheRestStays = (level : Level) (key fs ns o : List ℕ) (list : List (List ℕ)) → Accepted fs ns o list → RestStays level key fs ns o list
 
 -- the bytes of a part behind its plaintext stay: all of them where the frame is refused, since the length is then 0, and
 -- where it is clear (ClearWritesNothing)
 abbrev pub BehindStays : Type 0
 BehindStays =
-    (key fs ns o : List ℕ) (list : List (List ℕ)) → Accepted fs ns o list → (k : ℕ) → k < length ns
-    → drop (openFrame key (frameAt fs ns k) (partAt o k) .answer .length) (partAt (openBurst key fs ns o list .out) k)
-    ≡ drop (openFrame key (frameAt fs ns k) (partAt o k) .answer .length) (partAt o k)
+    (level : Level) (key fs ns o : List ℕ) (list : List (List ℕ)) → Accepted fs ns o list → (k : ℕ) → k < length ns
+    → drop (openFrame level key (frameAt fs ns k) (partAt o k) .answer .length) (partAt (openBurst level key fs ns o list .out) k)
+    ≡ drop (openFrame level key (frameAt fs ns k) (partAt o k) .answer .length) (partAt o k)
 
 -- ---- "20, first of all"
 
@@ -121,16 +126,16 @@ TwentyExactly = (ns : List ℕ) (bytes room places : ℕ) → Exactly20 ns bytes
 -- it changes nothing
 abbrev pub TwentyChangesNothing : Type 0
 TwentyChangesNothing =
-    (key fs ns o : List ℕ) (list : List (List ℕ)) → Refusable ns (length fs) (length o) (length list)
-    → openBurst key fs ns o list ≡ burstNothing 20 o list
+    (level : Level) (key fs ns o : List ℕ) (list : List (List ℕ)) → Refusable ns (length fs) (length o) (length list)
+    → openBurst level key fs ns o list ≡ burstNothing 20 o list
 
 -- ---- "which answers the number of frames"
 
 abbrev pub NumberAnswered : Type 0
 NumberAnswered =
-    (key fs ns o : List ℕ) (list : List (List ℕ)) → Accepted fs ns o list
-    → _≡_ {A = BurstOpened} (openBurst key fs ns o list .answer) (record { refusal = 0; frames = length ns })
+    (level : Level) (key fs ns o : List ℕ) (list : List (List ℕ)) → Accepted fs ns o list
+    → _≡_ {A = BurstOpened} (openBurst level key fs ns o list .answer) (record { refusal = 0; frames = length ns })
 
--- "no frames at all is accepted", and nothing changes
+-- "no frames at all is accepted", whatever the level, and nothing changes
 abbrev pub NoFrames : Type 0
-NoFrames = (key o : List ℕ) (list : List (List ℕ)) → openBurst key [] [] o list ≡ burstNothing 0 o list
+NoFrames = (level : Level) (key o : List ℕ) (list : List (List ℕ)) → openBurst level key [] [] o list ≡ burstNothing 0 o list

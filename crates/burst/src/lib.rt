@@ -3,6 +3,7 @@ use octets::refusals;
 use records::opened_record;
 use types::Key;
 use types::MAX_NSDU_SIZE;
+use types::level::Level;
 ghost use mathlib.Core.Path.{_≡_};
 ghost use Prim.Native.Nat.{_≤_};
 ghost use lib.ListN.{length};
@@ -49,6 +50,7 @@ fn refusal(lengths: &[u16], bytes: usize, room: usize, places: usize) -> u8
 
 // Open one frame under round keys into its part of the output, its answer to its place.
 fn open_one(
+    level: Level,
     table: &[u32; 512],
     keys: &[[[u8; 4]; 4]; 11],
     frame: &[u8],
@@ -56,15 +58,16 @@ fn open_one(
     place: &mut [u8; 182],
 )
     requires { ⌜ now table ≡ lookups ⌝ }
-    ensures part { λ _. ⌜ now (part .exit) ≡ openUnder (now (keys .entry)) (now (frame .entry)) (now (part .entry)) .out ⌝ }
-    ensures place { λ _. ⌜ now (place .exit) ≡ openedRecord (openUnder (now (keys .entry)) (now (frame .entry)) (now (part .entry)) .answer) ⌝ }
+    ensures part { λ _. ⌜ now (part .exit) ≡ openUnder level (now (keys .entry)) (now (frame .entry)) (now (part .entry)) .out ⌝ }
+    ensures place { λ _. ⌜ now (place .exit) ≡ openedRecord (openUnder level (now (keys .entry)) (now (frame .entry)) (now (part .entry)) .answer) ⌝ }
 {
-    let opened = frame::opening::open_under(table, keys, frame, part);
+    let opened = frame::opening::open_under(level, table, keys, frame, part);
     opened_record::put_opened(place, opened);
 }
 
 // Open each frame of a burst that is not refused, under round keys.
 fn open_each(
+    level: Level,
     table: &[u32; 512],
     keys: &[[[u8; 4]; 4]; 11],
     frames: &[u8],
@@ -73,8 +76,8 @@ fn open_each(
     answers: &mut [[u8; 182]],
 )
     requires { ⌜ (now table ≡ lookups) × (burstRefusal (now lengths) (length (now frames)) (length (now out)) (length (now answers)) ≡ 0) ⌝ }
-    ensures out { λ _. ⌜ now (out .exit) ≡ outAfter (ciphUnder (now (keys .entry))) (now (frames .entry)) (now (lengths .entry)) (now (out .entry)) (length (now (lengths .entry))) ⌝ }
-    ensures answers { λ _. ⌜ now (answers .exit) ≡ answersAfter (ciphUnder (now (keys .entry))) (now (frames .entry)) (now (lengths .entry)) (now (out .entry)) (now (answers .entry)) (length (now (lengths .entry))) ⌝ }
+    ensures out { λ _. ⌜ now (out .exit) ≡ outAfter level (ciphUnder (now (keys .entry))) (now (frames .entry)) (now (lengths .entry)) (now (out .entry)) (length (now (lengths .entry))) ⌝ }
+    ensures answers { λ _. ⌜ now (answers .exit) ≡ answersAfter level (ciphUnder (now (keys .entry))) (now (frames .entry)) (now (lengths .entry)) (now (out .entry)) (now (answers .entry)) (length (now (lengths .entry))) ⌝ }
 {
     let mut at = 0;
     let mut k = 0;
@@ -82,6 +85,7 @@ fn open_each(
         let end = at + lengths[k] as usize;
         let part = MAX_NSDU_SIZE * k;
         open_one(
+            level,
             table,
             keys,
             &frames[at..end],
@@ -94,18 +98,19 @@ fn open_each(
 }
 
 // Open a burst of frames that stand end to end, as long as the lengths say. Frame k goes to the 108 bytes of the output from
-// 108 × k, and its answer to place k of the list. 20 refuses the burst and changes nothing; a frame's own refusal changes only its
-// record.
+// 108 × k, and its answer to place k of the list. 20 refuses the burst and changes nothing; a frame's own refusal, 29 among them,
+// changes only its record.
 pub fn open_burst(
+    level: Level,
     key: Key,
     frames: &[u8],
     lengths: &[u16],
     out: &mut [u8],
     answers: &mut [[u8; 182]],
 ) -> BurstOpened
-    ensures answer { λ r. ⌜ r ≡ openBurst (key .0) (now (frames .entry)) (now (lengths .entry)) (now (out .entry)) (now (answers .entry)) .answer ⌝ }
-    ensures out { λ _. ⌜ now (out .exit) ≡ openBurst (key .0) (now (frames .entry)) (now (lengths .entry)) (now (out .entry)) (now (answers .entry)) .out ⌝ }
-    ensures answers { λ _. ⌜ now (answers .exit) ≡ openBurst (key .0) (now (frames .entry)) (now (lengths .entry)) (now (out .entry)) (now (answers .entry)) .answers ⌝ }
+    ensures answer { λ r. ⌜ r ≡ openBurst level (key .0) (now (frames .entry)) (now (lengths .entry)) (now (out .entry)) (now (answers .entry)) .answer ⌝ }
+    ensures out { λ _. ⌜ now (out .exit) ≡ openBurst level (key .0) (now (frames .entry)) (now (lengths .entry)) (now (out .entry)) (now (answers .entry)) .out ⌝ }
+    ensures answers { λ _. ⌜ now (answers .exit) ≡ openBurst level (key .0) (now (frames .entry)) (now (lengths .entry)) (now (out .entry)) (now (answers .entry)) .answers ⌝ }
 {
     let number = refusal(lengths, frames.len(), out.len(), answers.len());
     if number != 0 {
@@ -117,7 +122,7 @@ pub fn open_burst(
     let bytes = key.0;
     let keys = ccm::expand(bytes);
     let table = ccm::cipher_table();
-    open_each(&table, &keys, frames, lengths, out, answers);
+    open_each(level, &table, &keys, frames, lengths, out, answers);
     BurstOpened {
         refusal: 0,
         frames: lengths.len(),

@@ -3,10 +3,11 @@ mod Blocks
 mod Input
 mod Chains
 mod Streams
-mod Tags
+pub mod Tags
 pub mod RoundKeys
 mod Answers
 pub mod ZeroFill
 pub mod Opening
 pub mod BlockCounts
 pub mod Runs
+pub mod Levels

@@ -1,53 +1,40 @@
--- The tag by its bytes: only its first t bytes count, in the mask and in the comparison; and as the first word of a block.
+-- The tag by its bytes: the first t bytes of a block, masked, in the 16 places of a MIC; and only as many are compared.
 -- Assumes nothing.
 use mathlib.Core.Path.{_≡_, refl, sym, ap, _∙_}
 use mathlib.Core.Bool.{cond, false}
-use mathlib.Core.List.{List, [], _∷_}
-use Prim.Native.Nat.{ℕ, _+_, _≤_}
+use mathlib.Core.List.{List}
+use Prim.Native.Nat.{ℕ, zero, suc, _+_}
 use native.Mathlib.Omega.{arith}
 use native.Mathlib.Numerals.{add-one}
-use lib.Bits.{bitXor}
 use lib.Dec.{eqb}
-use lib.ListN.{getD, take}
-use lib.Seq.{getD-take}
-use Rattle.octets.specs.Strings.{tab, xored}
-use Rattle.octets.specs.Numbers.{le, bytesOf}
-use Rattle.octets.proofs.Strings.{tab-ext}
-use Rattle.octets.proofs.Words.{le-xor}
+use lib.ListN.{length, getD, take}
+use lib.Seq.{getD-take, take-take, take-all}
+use Rattle.octets.specs.Strings.{over}
+use Rattle.octets.proofs.Strings.{take-over}
 use Rattle.ccm.specs.Verification.{sameBytes}
+use Rattle.ccm.specs.Operations.{blankMic, inPlaces}
 
 pub same-next : (i : ℕ) (u v : List ℕ) → cond (eqb (getD u i 0) (getD v i 0)) (sameBytes i u v) false ≡ sameBytes (i + 1) u v
 unfolding sameBytes
 same-next i u v = rw add-one refl
 
-xored-front : (n k : ℕ) (y s : List ℕ) → n ≤ k → xored n y s ≡ xored n (take k y) s
-unfolding xored
-xored-front n k y s h = tab-ext _ _ n (λ i l. ap (λ (x : ℕ). bitXor x (getD s i 0)) (sym (getD-take k y i 0 (omega arith))))
+-- only the first n bytes count
+pub same-front : (n : ℕ) (u v u′ v′ : List ℕ) → take n u ≡ take n u′ → take n v ≡ take n v′ → sameBytes n u v ≡ sameBytes n u′ v′
+unfolding sameBytes
+same-front zero u v u′ v′ eu ev = refl
+same-front (suc n) u v u′ v′ eu ev =
+    let at : (w w′ : List ℕ) → take (suc n) w ≡ take (suc n) w′ → getD w n 0 ≡ getD w′ n 0 =
+    λ w w′ e. sym (getD-take (suc n) w n 0 (omega arith)) ∙ ap (λ (x : List ℕ). getD x n 0) e ∙ getD-take (suc n) w′ n 0 (omega arith) in
+    let less : (w w′ : List ℕ) → take (suc n) w ≡ take (suc n) w′ → take n w ≡ take n w′ =
+    λ w w′ e. sym (take-take n (suc n) w (omega arith)) ∙ ap (take n) e ∙ take-take n (suc n) w′ (omega arith) in
+    (λ i. cond (eqb (at u u′ eu i) (at v v′ ev i)) (same-front n u v u′ v′ (less u u′ eu) (less v v′ ev) i) false)
 
--- ---- the first word of a block
+-- a tag in 16 places is their first bytes
+pub front-places : (t : ℕ) (tag : List ℕ) → length tag ≡ t → take t (inPlaces tag) ≡ tag
+unfolding inPlaces
+front-places t tag size = ap (λ (n : ℕ). take n (over blankMic 0 tag)) (sym size) ∙ take-over blankMic tag
 
-front-xored : (y s : List ℕ) → xored 4 (le 4 (getD y 0 0)) (le 4 (getD s 0 0)) ≡ xored 4 (bytesOf y) (bytesOf s)
-unfolding le bytesOf tab xored
-front-xored y s = refl
-
--- two first words masked, of the blocks that they begin
-pub masked-tag : (y s u v : List ℕ) → bytesOf y ≡ u → bytesOf s ≡ v → le 4 (bitXor (getD y 0 0) (getD s 0 0)) ≡ xored 4 (take 4 u) v
-masked-tag y s u v eu ev =
-    le-xor 4 (getD y 0 0) (getD s 0 0) ∙ front-xored y s ∙ (λ i. xored 4 (eu i) (ev i)) ∙ xored-front 4 4 u v (omega arith)
-
-mic-front : (mic s : List ℕ) → xored 4 (getD mic 0 0 ∷ getD mic 1 0 ∷ getD mic 2 0 ∷ getD mic 3 0 ∷ []) (le 4 (getD s 0 0)) ≡ xored 4 mic (bytesOf s)
-unfolding le bytesOf tab xored
-mic-front mic s = refl
-
--- a MIC as a word, unmasked by the first word of a block
-pub unmasked-mic : (m : ℕ) (mic s v : List ℕ) → le 4 m ≡ getD mic 0 0 ∷ getD mic 1 0 ∷ getD mic 2 0 ∷ getD mic 3 0 ∷ [] → bytesOf s ≡ v
-    → le 4 (bitXor m (getD s 0 0)) ≡ xored 4 mic v
-unmasked-mic m mic s v em ev =
-    le-xor 4 m (getD s 0 0) ∙ ap (λ (l : List ℕ). xored 4 l (le 4 (getD s 0 0))) em ∙ mic-front mic s ∙ ap (xored 4 mic) ev
-
-front-word : (y : List ℕ) → le 4 (getD y 0 0) ≡ take 4 (bytesOf y)
-unfolding le bytesOf
-front-word y = refl
-
-pub first-word : (y u : List ℕ) → bytesOf y ≡ u → le 4 (getD y 0 0) ≡ take 4 u
-first-word y u e = front-word y ∙ ap (take 4) e
+-- so the tag u in 16 places is compared with the first t bytes of a block
+pub same-places : (t : ℕ) (u y : List ℕ) → length u ≡ t → sameBytes t (inPlaces u) y ≡ sameBytes t u (take t y)
+same-places t u y size =
+    same-front t (inPlaces u) y u (take t y) (front-places t u size ∙ sym (take-all t u (omega arith))) (sym (take-take t t y (omega arith)))

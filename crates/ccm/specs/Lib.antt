@@ -6,3 +6,4 @@ pub mod Mac
 pub mod Generation
 pub mod Verification
 pub mod Operations
+pub mod Levels

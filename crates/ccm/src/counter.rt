@@ -47,7 +47,7 @@ fn key_stream(table: &[u32; 512], keys: &[[[u8; 4]; 4]; 11], nonce: [u8; 13], m:
 }
 
 // The bytes d, each exclusive or the byte of s at its place, at the front of the output.
-fn mask(d: &[u8], s: &[u8], out: &mut [u8])
+pub fn mask(d: &[u8], s: &[u8], out: &mut [u8])
     requires { ⌜ (length (now d) ≤ length (now s)) × (length (now d) ≤ length (now out)) ⌝ }
     ensures { λ _. ⌜ now (out .exit) ≡ over (now (out .entry)) 0 (xored (length (now (d .entry))) (now (d .entry)) (now (s .entry))) ⌝ }
 {

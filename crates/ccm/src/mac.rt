@@ -4,7 +4,7 @@ ghost use mathlib.Core.Path.{_≡_};
 ghost use mathlib.Core.Bool.{cond, false};
 ghost use Prim.Native.Nat.{_+_, _*_, _≤_, _<_};
 ghost use lib.Dec.{eqb};
-ghost use lib.ListN.{length};
+ghost use lib.ListN.{length, take};
 ghost use Rattle.octets.specs.Strings.{xored};
 ghost use Rattle.octets.specs.Numbers.{bytesOf};
 ghost use Rattle.aes.specs.Cipher.{cipher};
@@ -13,8 +13,7 @@ ghost use Rattle.ccm.specs.Formatting.{blockAt};
 ghost use Rattle.ccm.specs.Mac.{chain, macChain};
 ghost use Rattle.ccm.specs.Generation.{encryptedTag};
 ghost use Rattle.ccm.specs.Verification.{sameBytes, tagValid};
-ghost use Rattle.ccm.specs.Operations.{micLength};
-use crate::MIC_LENGTH;
+ghost use Rattle.ccm.specs.Operations.{inPlaces};
 use crate::counter;
 use crate::formatting;
 
@@ -66,20 +65,31 @@ pub fn cbc_mac(
     chain_over(table, keys, &input, formatting::last_block(auth, payload))
 }
 
-// The tag of the payload, masked by S_0.
+// The first t of 16 bytes, masked by a block, at the front of 16 places; the rest are 0.
+fn masked(t: usize, bytes: [u8; 16], s: [u32; 4]) -> [u8; 16]
+    requires { ⌜ t ≤ 16 ⌝ }
+    ensures { λ r. ⌜ r ≡ inPlaces (xored t (take t bytes) (bytesOf s)) ⌝ }
+{
+    let block = octets::block_bytes(s);
+    let mut places = [0u8; 16];
+    counter::mask(&bytes[..t], &block, &mut places);
+    places
+}
+
+// The tag of the payload, t bytes masked by S_0, at the front of 16 places; the rest are 0.
 pub fn encrypted_tag(
     table: &[u32; 512],
     keys: &[[[u8; 4]; 4]; 11],
+    t: usize,
     nonce: [u8; 13],
     auth: &[u8],
     payload: &[u8],
-) -> [u8; 4]
-    requires { ⌜ (now table ≡ cipherTable) × (length (now auth) ≤ 127) × (length (now payload) ≤ 127) ⌝ }
-    ensures { λ r. ⌜ r ≡ encryptedTag micLength (cipher (now (keys .entry))) nonce (now (auth .entry)) (now (payload .entry)) ⌝ }
+) -> [u8; 16]
+    requires { ⌜ (now table ≡ cipherTable) × (2 ≤ t) × (t ≤ 16) × (length (now auth) ≤ 127) × (length (now payload) ≤ 127) ⌝ }
+    ensures { λ r. ⌜ r ≡ inPlaces (encryptedTag t (cipher (now (keys .entry))) nonce (now (auth .entry)) (now (payload .entry))) ⌝ }
 {
-    let y = cbc_mac(table, keys, MIC_LENGTH, nonce, auth, payload);
-    let s = counter::key_block(table, keys, nonce, 0);
-    octets::bytes_of(y[0] ^ s[0])
+    let y = octets::block_bytes(cbc_mac(table, keys, t, nonce, auth, payload));
+    masked(t, y, counter::key_block(table, keys, nonce, 0))
 }
 
 // Whether all was the same so far and these two bytes are; there is no branch on them.
@@ -102,22 +112,20 @@ fn same_bytes(u: &[u8], v: &[u8], n: usize) -> bool
     same
 }
 
-// Whether the MIC, unmasked by S_0, is the tag of the payload.
+// Whether the MIC, its first t places unmasked by S_0, is the tag of the payload. The other places are not read.
 pub fn tag_valid(
     table: &[u32; 512],
     keys: &[[[u8; 4]; 4]; 11],
+    t: usize,
     nonce: [u8; 13],
     auth: &[u8],
     payload: &[u8],
-    mic: [u8; 4],
+    mic: [u8; 16],
 ) -> bool
-    requires { ⌜ (now table ≡ cipherTable) × (length (now auth) ≤ 127) × (length (now payload) ≤ 127) ⌝ }
-    ensures { λ r. ⌜ r ≡ tagValid micLength (cipher (now (keys .entry))) nonce (now (auth .entry)) (now (payload .entry)) mic ⌝ }
+    requires { ⌜ (now table ≡ cipherTable) × (2 ≤ t) × (t ≤ 16) × (length (now auth) ≤ 127) × (length (now payload) ≤ 127) ⌝ }
+    ensures { λ r. ⌜ r ≡ tagValid t (cipher (now (keys .entry))) nonce (now (auth .entry)) (now (payload .entry)) (take t mic) ⌝ }
 {
-    let y = cbc_mac(table, keys, MIC_LENGTH, nonce, auth, payload);
-    let s = counter::key_block(table, keys, nonce, 0);
-    let received = octets::word_of(mic[0], mic[1], mic[2], mic[3]);
-    let t = octets::bytes_of(received ^ s[0]);
-    let computed = octets::bytes_of(y[0]);
-    same_bytes(&t, &computed, MIC_LENGTH)
+    let y = octets::block_bytes(cbc_mac(table, keys, t, nonce, auth, payload));
+    let received = masked(t, mic, counter::key_block(table, keys, nonce, 0));
+    same_bytes(&received, &y, t)
 }

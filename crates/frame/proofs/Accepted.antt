@@ -12,9 +12,11 @@ use borrow.Author.Tests.{ltb-false, le-ltb, not-false}
 use Rattle.octets.specs.Refusals.{firstOf}
 use Rattle.octets.proofs.Strings.{take-over}
 use Rattle.octets.proofs.Conditions.{accepted, refused, accepted-by, refused-by, answer-number, unless-either, none, none-refuse, or-false}
+use Rattle.types.specs.declared.level.Level.{Level}
+use Rattle.types.specs.Levels.{isOther, tagLength}
 use Rattle.types.specs.declared.OptionEui64.{OptionEui64}
 use Rattle.types.specs.Optional.{hasIeee}
-use Rattle.header.specs.declared.{auxiliary.NwkSecurityLevel.NwkSecurityLevel, auxiliary.AuxRead.AuxRead, nwk.HeaderRead.HeaderRead, nwk.NwkHeader.NwkHeader}
+use Rattle.header.specs.declared.{auxiliary.AuxRead.AuxRead, nwk.HeaderRead.HeaderRead, nwk.NwkHeader.NwkHeader}
 use Rattle.header.specs.Writing.{headerBytes}
 use Rattle.header.specs.Same.{AuxAgrees, auxAgrees}
 use Rattle.header.proofs.Writable.{FieldsGood, fields-good, fields-accepted, aux-test}
@@ -80,35 +82,40 @@ headers-accepted h a g =
     )
 
 -- no condition of sealing's list holds, for n bytes of payload; isLast says whether the counter is the last one
-pub record Sealable (isLast : Bool) (t : ℕ) (h : NwkHeader) (a : OptionAuxHeader) (n room : ℕ) : Type 0 where
+pub record Sealable (isLast : Bool) (l : Level) (h : NwkHeader) (a : OptionAuxHeader) (n room : ℕ) : Type 0 where
+  pub level : isOther l ≡ false
   pub headers : GoodHeaders h a
   pub counter : isLast ≡ false
   pub payload : n ≤ 108
-  pub whole : sealedLength t h (orBlank a) n ≤ 118
-  pub fits : sealedLength t h (orBlank a) n ≤ room
+  pub whole : sealedLength l h (orBlank a) n ≤ 118
+  pub fits : sealedLength l h (orBlank a) n ≤ room
 
-module _ (isLast : Bool) (t : ℕ) (h : NwkHeader) (a : OptionAuxHeader) (n room : ℕ) where
-  pub sealable : firstOf (sealRefusals isLast t h a n room) ≡ 0 → Sealable isLast t h a n room
+module _ (isLast : Bool) (l : Level) (h : NwkHeader) (a : OptionAuxHeader) (n room : ℕ) where
+  pub sealable : firstOf (sealRefusals isLast l h a n room) ≡ 0 → Sealable isLast l h a n room
   unfolding sealRefusals lengthRefusals
   sealable e =
       let all = none _ e in
-      let long = or-false (ltb 108 n) (ltb 118 (sealedLength t h (orBlank a) n)) (all .1 .1 .0) in
+      let long = or-false (ltb 108 n) (ltb 118 (sealedLength l h (orBlank a) n)) (all .1 .1 .1 .0) in
       record {
-        headers = good-headers h a (all .0);
-        counter = all .1 .0;
+        level = all .0;
+        headers = good-headers h a (all .1 .0);
+        counter = all .1 .1 .0;
         payload = ltb-false 108 n (long .0);
-        whole = ltb-false 118 (sealedLength t h (orBlank a) n) (long .1);
-        fits = ltb-false room (sealedLength t h (orBlank a) n) (all .1 .1 .1 .0);
+        whole = ltb-false 118 (sealedLength l h (orBlank a) n) (long .1);
+        fits = ltb-false room (sealedLength l h (orBlank a) n) (all .1 .1 .1 .1 .0);
       }
 
-  pub seal-accepts : Sealable isLast t h a n room → firstOf (sealRefusals isLast t h a n room) ≡ 0
+  pub seal-accepts : Sealable isLast l h a n room → firstOf (sealRefusals isLast l h a n room) ≡ 0
   unfolding sealRefusals lengthRefusals
   seal-accepts s =
       none-refuse _ (
-        headers-accepted h a (s .headers),
+        s .level,
         (
-          s .counter,
-          (rw (le-ltb 108 n (s .payload)) (le-ltb 118 (sealedLength t h (orBlank a) n) (s .whole)), (le-ltb room (sealedLength t h (orBlank a) n) (s .fits), tt)),
+          headers-accepted h a (s .headers),
+          (
+            s .counter,
+            (rw (le-ltb 108 n (s .payload)) (le-ltb 118 (sealedLength l h (orBlank a) n) (s .whole)), (le-ltb room (sealedLength l h (orBlank a) n) (s .fits), tt)),
+          ),
         ),
       )
 
@@ -185,78 +192,83 @@ given-either : (P : Run → Type 0) (f : List ℕ) (r : FrameRead) (v : Verified
 given-either P f r v o p q = cond-either P (isSealed (r .header)) (sealedGiven r v o) (clearGiven f r o) p q
 
 -- no condition of opening's list holds that needs no key: those of a sealed frame count where the security bit is set
-pub record Keyless (t number : ℕ) (h : NwkHeader) (a : OptionAuxHeader) (part room : ℕ) : Type 0 where
+pub record Keyless (l : Level) (number : ℕ) (h : NwkHeader) (a : OptionAuxHeader) (part room : ℕ) : Type 0 where
+  pub level : isOther l ≡ false
   pub reads : number ≡ 0
   pub ieee : isSealed h ≡ true → noIeee h (orBlank a) ≡ false
-  pub tagged : isSealed h ≡ true → t ≤ part
-  pub fits : isSealed h ≡ true → part - t ≤ room
+  pub tagged : isSealed h ≡ true → tagLength l ≤ part
+  pub fits : isSealed h ≡ true → part - tagLength l ≤ room
 
-module _ (t number : ℕ) (h : NwkHeader) (a : OptionAuxHeader) (part room : ℕ) where
-  pub keyless : firstOf (openRefusals t number h a part room) ≡ 0 → Keyless t number h a part room
+module _ (l : Level) (number : ℕ) (h : NwkHeader) (a : OptionAuxHeader) (part room : ℕ) where
+  pub keyless : firstOf (openRefusals l number h a part room) ≡ 0 → Keyless l number h a part room
   unfolding openRefusals
   keyless e =
       let n = none _ e in
       let so : (x : Bool) → (isSealed h && x) ≡ false → isSealed h ≡ true → x ≡ false = λ x z s. sym (counts (isSealed h) x s) ∙ z in
       record {
-        reads = n .0;
-        ieee = so _ (n .1 .0);
-        tagged = λ s. ltb-false part t (so _ (n .1 .1 .0) s);
-        fits = λ s. ltb-false room (part - t) (so _ (n .1 .1 .1 .0) s);
+        level = n .0;
+        reads = n .1 .0;
+        ieee = so _ (n .1 .1 .0);
+        tagged = λ s. ltb-false part (tagLength l) (so _ (n .1 .1 .1 .0) s);
+        fits = λ s. ltb-false room (part - tagLength l) (so _ (n .1 .1 .1 .1 .0) s);
       }
 
-  keyless-accepts : Keyless t number h a part room → firstOf (openRefusals t number h a part room) ≡ 0
+  keyless-accepts : Keyless l number h a part room → firstOf (openRefusals l number h a part room) ≡ 0
   unfolding openRefusals
   keyless-accepts k =
       none-refuse _ (
-        k .reads,
+        k .level,
         (
-          off-if (isSealed h) _ (k .ieee),
-          (off-if (isSealed h) _ (λ s. le-ltb part t (k .tagged s)), (off-if (isSealed h) _ (λ s. le-ltb room (part - t) (k .fits s)), tt)),
+          k .reads,
+          (
+            off-if (isSealed h) _ (k .ieee),
+            (off-if (isSealed h) _ (λ s. le-ltb part (tagLength l) (k .tagged s)), (off-if (isSealed h) _ (λ s. le-ltb room (part - tagLength l) (k .fits s)), tt)),
+          ),
         ),
       )
 
-module _ (l : NwkSecurityLevel) (t : ℕ) (ciph : List ℕ → List ℕ) (f : List ℕ) (r : FrameRead) where
-  pub open-number : (o : List ℕ) → openBy l t ciph f r o .answer .refusal ≡ openRefusal l t ciph f r (length o)
+module _ (l : Level) (ciph : List ℕ → List ℕ) (f : List ℕ) (r : FrameRead) where
+  pub open-number : (o : List ℕ) → openBy l ciph f r o .answer .refusal ≡ openRefusal l ciph f r (length o)
   unfolding openBy openRefused
   open-number o =
-      answer-number (λ (x : Run). x .answer .refusal) (openRefusal l t ciph f r (length o)) (openGiven f r (verified l t ciph f r) o) (λ (n : ℕ). openNothing n o)
-      (given-either (λ (x : Run). x .answer .refusal ≡ 0) f r (verified l t ciph f r) o (λ s. refl) (λ s. refl)) refl
+      answer-number (λ (x : Run). x .answer .refusal) (openRefusal l ciph f r (length o)) (openGiven f r (verified l ciph f r) o) (λ (n : ℕ). openNothing n o)
+      (given-either (λ (x : Run). x .answer .refusal ≡ 0) f r (verified l ciph f r) o (λ s. refl) (λ s. refl)) refl
 
   -- no condition at all holds
-  opens : (room : ℕ) → openRefusal l t ciph f r room ≡ 0
-      → Keyless t (r .refusal) (r .header) (r .aux) (length (behind f r)) room × (isSealed (r .header) ≡ true → verified l t ciph f r .valid ≡ true)
+  opens : (room : ℕ) → openRefusal l ciph f r room ≡ 0
+      → Keyless l (r .refusal) (r .header) (r .aux) (length (behind f r)) room × (isSealed (r .header) ≡ true → verified l ciph f r .valid ≡ true)
   unfolding openRefusal
   opens room e =
       let n = none _ e in
       (keyless _ _ _ _ _ _ (n .0), λ s. not-false _ (sym (counts (isSealed (r .header)) _ s) ∙ n .1 .0))
 
-  open-accepts : (room : ℕ) → Keyless t (r .refusal) (r .header) (r .aux) (length (behind f r)) room
-      → (isSealed (r .header) ≡ true → verified l t ciph f r .valid ≡ true) → openRefusal l t ciph f r room ≡ 0
+  open-accepts : (room : ℕ) → Keyless l (r .refusal) (r .header) (r .aux) (length (behind f r)) room
+      → (isSealed (r .header) ≡ true → verified l ciph f r .valid ≡ true) → openRefusal l ciph f r room ≡ 0
   unfolding openRefusal
   open-accepts room k valid = none-refuse _ (keyless-accepts _ _ _ _ _ _ k, (off-if (isSealed (r .header)) _ (λ s. ap not (valid s)), tt))
 
-  pub openable : (room : ℕ) → openRefusal l t ciph f r room ≡ 0 → isSealed (r .header) ≡ true → Openable l t ciph f r room
+  pub openable : (room : ℕ) → openRefusal l ciph f r room ≡ 0 → isSealed (r .header) ≡ true → Openable l ciph f r room
   openable room e s =
       let o = opens room e in
       let k = o .0 in
-      record { reads = k .reads; on = s; ieee = k .ieee s; tagged = k .tagged s; fits = k .fits s; valid = o .1 s }
+      record { level = k .level; reads = k .reads; on = s; ieee = k .ieee s; tagged = k .tagged s; fits = k .fits s; valid = o .1 s }
 
   -- what opening leaves of a frame that it accepts, sealed or clear
-  pub sealed-run : (o : List ℕ) → Openable l t ciph f r (length o) → openBy l t ciph f r o ≡ sealedGiven r (verified l t ciph f r) o
+  pub sealed-run : (o : List ℕ) → Openable l ciph f r (length o) → openBy l ciph f r o ≡ sealedGiven r (verified l ciph f r) o
   unfolding openBy
   sealed-run o s =
-      let k : Keyless t (r .refusal) (r .header) (r .aux) (length (behind f r)) (length o) =
-      record { reads = s .reads; ieee = λ x. s .ieee; tagged = λ x. s .tagged; fits = λ x. s .fits } in
-      accepted (openRefusal l t ciph f r (length o)) _ _ (open-accepts (length o) k (λ x. s .valid))
-      ∙ ap (λ (b : Bool). cond b (sealedGiven r (verified l t ciph f r) o) (clearGiven f r o)) (s .on)
+      let k : Keyless l (r .refusal) (r .header) (r .aux) (length (behind f r)) (length o) =
+      record { level = s .level; reads = s .reads; ieee = λ x. s .ieee; tagged = λ x. s .tagged; fits = λ x. s .fits } in
+      accepted (openRefusal l ciph f r (length o)) _ _ (open-accepts (length o) k (λ x. s .valid))
+      ∙ ap (λ (b : Bool). cond b (sealedGiven r (verified l ciph f r) o) (clearGiven f r o)) (s .on)
 
-  pub clear-run : (o : List ℕ) → r .refusal ≡ 0 → isSealed (r .header) ≡ false → openBy l t ciph f r o ≡ clearGiven f r o
+  pub clear-run : (o : List ℕ) → isOther l ≡ false → r .refusal ≡ 0 → isSealed (r .header) ≡ false → openBy l ciph f r o ≡ clearGiven f r o
   unfolding openBy
-  clear-run o e off =
-      let k : Keyless t (r .refusal) (r .header) (r .aux) (length (behind f r)) (length o) =
-      record { reads = e; ieee = λ x. not-both x off; tagged = λ x. not-both x off; fits = λ x. not-both x off } in
-      accepted (openRefusal l t ciph f r (length o)) _ _ (open-accepts (length o) k (λ x. not-both x off))
-      ∙ ap (λ (b : Bool). cond b (sealedGiven r (verified l t ciph f r) o) (clearGiven f r o)) off
+  clear-run o level e off =
+      let k : Keyless l (r .refusal) (r .header) (r .aux) (length (behind f r)) (length o) =
+      record { level = level; reads = e; ieee = λ x. not-both x off; tagged = λ x. not-both x off; fits = λ x. not-both x off } in
+      accepted (openRefusal l ciph f r (length o)) _ _ (open-accepts (length o) k (λ x. not-both x off))
+      ∙ ap (λ (b : Bool). cond b (sealedGiven r (verified l ciph f r) o) (clearGiven f r o)) off
 
 -- ---- the marks
 
@@ -269,40 +281,40 @@ place Mark.Sealed = 2
 apart : (m n : Mark) → (place m ≡ place n → ⊥) → m ≡ n → ⊥
 apart m n h e = h (ap place e)
 
-module _ (l : NwkSecurityLevel) (t : ℕ) (ciph : List ℕ → List ℕ) (f : List ℕ) (r : FrameRead) (o : List ℕ) where
+module _ (l : Level) (ciph : List ℕ → List ℕ) (f : List ℕ) (r : FrameRead) (o : List ℕ) where
   -- what holds of an opened frame, of a clear one and of a refusal holds of what opening leaves
   pub run-either : (P : Run → Type 0)
-      → (Openable l t ciph f r (length o) → P (sealedGiven r (verified l t ciph f r) o))
-      → (r .refusal ≡ 0 → isSealed (r .header) ≡ false → P (clearGiven f r o))
-      → P (openNothing (openRefusal l t ciph f r (length o)) o)
-      → P (openBy l t ciph f r o)
+      → (Openable l ciph f r (length o) → P (sealedGiven r (verified l ciph f r) o))
+      → (isOther l ≡ false → r .refusal ≡ 0 → isSealed (r .header) ≡ false → P (clearGiven f r o))
+      → P (openNothing (openRefusal l ciph f r (length o)) o)
+      → P (openBy l ciph f r o)
   unfolding openBy
   run-either P opened clear refused =
-      unless-either P (openRefusal l t ciph f r (length o)) _ _
-      (λ e. given-either P f r (verified l t ciph f r) o (λ s. opened (openable l t ciph f r (length o) e s)) (clear (opens l t ciph f r (length o) e .0 .reads)))
+      unless-either P (openRefusal l ciph f r (length o)) _ _
+      (λ e. given-either P f r (verified l ciph f r) o (λ s. opened (openable l ciph f r (length o) e s)) (clear (opens l ciph f r (length o) e .0 .level) (opens l ciph f r (length o) e .0 .reads)))
       refused
 
   -- what each mark says of the frame
-  pub marked-sealed : openBy l t ciph f r o .answer .mark ≡ Mark.Sealed → Openable l t ciph f r (length o)
+  pub marked-sealed : openBy l ciph f r o .answer .mark ≡ Mark.Sealed → Openable l ciph f r (length o)
   unfolding openRefused
   marked-sealed =
-      run-either (λ (x : Run). x .answer .mark ≡ Mark.Sealed → Openable l t ciph f r (length o)) (λ w m. w)
-      (λ e off m. absurd (apart Mark.Clear Mark.Sealed (λ z. omega arith) m)) (λ m. absurd (apart Mark.Unmarked Mark.Sealed (λ z. omega arith) m))
+      run-either (λ (x : Run). x .answer .mark ≡ Mark.Sealed → Openable l ciph f r (length o)) (λ w m. w)
+      (λ level e off m. absurd (apart Mark.Clear Mark.Sealed (λ z. omega arith) m)) (λ m. absurd (apart Mark.Unmarked Mark.Sealed (λ z. omega arith) m))
 
-  pub marked-clear : openBy l t ciph f r o .answer .mark ≡ Mark.Clear → (r .refusal ≡ 0) × (isSealed (r .header) ≡ false)
+  pub marked-clear : openBy l ciph f r o .answer .mark ≡ Mark.Clear → (isOther l ≡ false) × (r .refusal ≡ 0) × (isSealed (r .header) ≡ false)
   unfolding openRefused
   marked-clear =
-      run-either (λ (x : Run). x .answer .mark ≡ Mark.Clear → (r .refusal ≡ 0) × (isSealed (r .header) ≡ false))
-      (λ w m. absurd (apart Mark.Sealed Mark.Clear (λ z. omega arith) m)) (λ e off m. (e, off)) (λ m. absurd (apart Mark.Unmarked Mark.Clear (λ z. omega arith) m))
+      run-either (λ (x : Run). x .answer .mark ≡ Mark.Clear → (isOther l ≡ false) × (r .refusal ≡ 0) × (isSealed (r .header) ≡ false))
+      (λ w m. absurd (apart Mark.Sealed Mark.Clear (λ z. omega arith) m)) (λ level e off m. (level, e, off)) (λ m. absurd (apart Mark.Unmarked Mark.Clear (λ z. omega arith) m))
 
   -- there is one exactly where nothing is refused
-  pub marked : openRefusal l t ciph f r (length o) ≡ 0 → openBy l t ciph f r o .answer .mark ≡ Mark.Unmarked → ⊥
+  pub marked : openRefusal l ciph f r (length o) ≡ 0 → openBy l ciph f r o .answer .mark ≡ Mark.Unmarked → ⊥
   unfolding openBy
   marked e =
-      rw (accepted (openRefusal l t ciph f r (length o)) (openGiven f r (verified l t ciph f r) o) (openNothing (openRefusal l t ciph f r (length o)) o) e)
-      (given-either (λ (x : Run). x .answer .mark ≡ Mark.Unmarked → ⊥) f r (verified l t ciph f r) o
+      rw (accepted (openRefusal l ciph f r (length o)) (openGiven f r (verified l ciph f r) o) (openNothing (openRefusal l ciph f r (length o)) o) e)
+      (given-either (λ (x : Run). x .answer .mark ≡ Mark.Unmarked → ⊥) f r (verified l ciph f r) o
       (λ s. apart Mark.Sealed Mark.Unmarked (λ z. omega arith)) (λ s. apart Mark.Clear Mark.Unmarked (λ z. omega arith)))
 
-  pub unmarked : (openRefusal l t ciph f r (length o) ≡ 0 → ⊥) → openBy l t ciph f r o .answer .mark ≡ Mark.Unmarked
+  pub unmarked : (openRefusal l ciph f r (length o) ≡ 0 → ⊥) → openBy l ciph f r o .answer .mark ≡ Mark.Unmarked
   unfolding openBy openRefused
-  unmarked h = ap (λ (x : Run). x .answer .mark) (refused (openRefusal l t ciph f r (length o)) (openGiven f r (verified l t ciph f r) o) _ h)
+  unmarked h = ap (λ (x : Run). x .answer .mark) (refused (openRefusal l ciph f r (length o)) (openGiven f r (verified l ciph f r) o) _ h)

@@ -8,22 +8,24 @@ use lib.ListN.{length, drop, take, length-append, length-drop}
 use lib.Seq.{length-take-le, take-take, take-at}
 use native.Mathlib.Nat.{zero-add}
 use native.Mathlib.Omega.{arith}
-use borrow.Author.Tests.{le-ltb}
 use Rattle.octets.specs.Strings.{over, Below}
 use Rattle.octets.proofs.Strings.{take-over, over-then, drop-below}
 use Rattle.octets.specs.Refusals.{on, by, firstOf, unless}
 use Rattle.octets.proofs.Conditions.{refused-by, stop, skip, stop-by, skip-by, empty}
-use Rattle.header.specs.declared.{auxiliary.AuxRead.AuxRead, nwk.HeaderRead.HeaderRead, auxiliary.NwkSecurityLevel.NwkSecurityLevel, auxiliary.NwkAuxHeader.NwkAuxHeader, nwk.NwkHeader.NwkHeader}
-use Rattle.types.specs.declared.OptionEui64.{OptionEui64}
+use Rattle.types.specs.Levels.{tagLength}
+use Rattle.header.specs.declared.{auxiliary.AuxRead.AuxRead, nwk.HeaderRead.HeaderRead, auxiliary.NwkAuxHeader.NwkAuxHeader, nwk.NwkHeader.NwkHeader}
+use Rattle.types.specs.declared.{OptionEui64.OptionEui64, level.Level.Level}
 use Rattle.header.specs.Reading.{readHeader}
 use Rattle.header.specs.Writing.{headerBytes}
 use Rattle.header.specs.Auxiliary.{auxBytes, readAux}
 use Rattle.header.proofs.ReadFacts.{header-facts, aux-facts}
 use Rattle.ccm.specs.declared.Split.{Split}
 use Rattle.ccm.specs.Verification.{Verified, decryptionVerification}
-use Rattle.ccm.specs.Operations.{micLength, sealedBy, splitMic, givenIf}
+use Rattle.ccm.specs.Operations.{sealedBy, splitMic, givenIf}
+use Rattle.ccm.proofs.Tags.{front-places}
+use Rattle.ccm.proofs.Runs.{split-accepted}
 use Rattle.frame.specs.declared.{FrameRead.FrameRead, Mark.Mark}
-use Rattle.frame.specs.Security.{networkLevel, sentLevel, atLevel, orBlank, ieeeOf, nonce, authenticated}
+use Rattle.frame.specs.Security.{fieldLevel, sentLevel, atLevel, orBlank, ieeeOf, nonce, authenticated}
 use Rattle.frame.specs.Sealing.{generated, sealedBytes}
 use Rattle.frame.specs.Opening.{isSealed, behind, ciphertextOf, micOf, verified, openRefusals, openRefusal, Run, openedGiven, sealedGiven, clearGiven, openNothing, openBy, openWith}
 use Rattle.frame.proofs.Accepted.{counts, ieee-there, keyless, openable, sealed-run, clear-run}
@@ -54,9 +56,10 @@ frame-done f h a rest n eh er ea en = (
 
 -- ---- the authenticated bytes
 
-pub auth-length : (l : NwkSecurityLevel) (h : NwkHeader) (x : NwkAuxHeader) → length (authenticated l h x) ≡ length (headerBytes h) + length (auxBytes x)
+pub auth-length : (l : Level) (h : NwkHeader) (x : NwkAuxHeader) → length (authenticated l h x) ≡ length (headerBytes h) + length (auxBytes x)
 unfolding authenticated
-auth-length l h x = length-append (headerBytes h) (auxBytes (atLevel l x)) ∙ ap (λ (n : ℕ). length (headerBytes h) + n) (level-length l l x)
+auth-length l h x =
+    length-append (headerBytes h) (auxBytes (atLevel (fieldLevel l) x)) ∙ ap (λ (n : ℕ). length (headerBytes h) + n) (level-length (fieldLevel l) (fieldLevel l) x)
 
 -- the front of an array that the two headers were put to
 pub front-taken : (h : NwkHeader) (y : NwkAuxHeader) (o b : List ℕ) → b ≡ over o 0 (headerBytes h ++ auxBytes y)
@@ -65,12 +68,12 @@ front-taken h y o b e =
     (λ i. take (sym (length-append (headerBytes h) (auxBytes y)) i) (e i)) ∙ take-over o (headerBytes h ++ auxBytes y)
 
 -- the first n bytes of the local array, n being the headers' length
-pub auth-taken : (l : NwkSecurityLevel) (h : NwkHeader) (x y : NwkAuxHeader) (b : List ℕ) (n : ℕ) → y ≡ atLevel l x
+pub auth-taken : (l : Level) (h : NwkHeader) (x y : NwkAuxHeader) (b : List ℕ) (n : ℕ) → y ≡ atLevel (fieldLevel l) x
     → take (length (headerBytes h) + length (auxBytes y)) b ≡ headerBytes h ++ auxBytes y
     → n ≡ length (headerBytes h) + length (auxBytes x) → take n b ≡ authenticated l h x
 unfolding authenticated
 auth-taken l h x y b n e made size =
-    let same : length (auxBytes y) ≡ length (auxBytes x) = ap (λ (z : NwkAuxHeader). length (auxBytes z)) e ∙ level-length l l x in
+    let same : length (auxBytes y) ≡ length (auxBytes x) = ap (λ (z : NwkAuxHeader). length (auxBytes z)) e ∙ level-length (fieldLevel l) (fieldLevel l) x in
     ap (λ (k : ℕ). take k b) (size ∙ ap (λ (k : ℕ). length (headerBytes h) + k) (sym same)) ∙ made
     ∙ ap (λ (z : NwkAuxHeader). headerBytes h ++ auxBytes z) e
 
@@ -83,9 +86,12 @@ header-taken h y b n made size =
 
 -- ---- splitting and opening
 
-pub mic-split : (s : List ℕ) (r : Split) → r ≡ splitMic s → 4 ≤ length s → r .mic ≡ micOf 4 s
-unfolding splitMic micOf
-mic-split s r e h = ap (λ (k : Split). k .mic) e ∙ rw (le-ltb (length s) 4 h) refl
+-- the MIC that was split off, as many of its 16 places as the tag has bytes
+pub mic-split : (l : Level) (s : List ℕ) (r : Split) → r ≡ splitMic l s → 2 ≤ tagLength l → tagLength l ≤ length s → take (tagLength l) (r .mic) ≡ micOf (tagLength l) s
+unfolding micOf
+mic-split l s r e good h =
+    ap (λ (k : Split). take (tagLength l) (k .mic)) (e ∙ split-accepted l s good h)
+    ∙ front-places (tagLength l) (drop (length s - tagLength l) s) (length-drop (length s - tagLength l) s ∙ omega arith)
 
 -- what opening needs of a frame that was read and is sealed
 pub open-facts : (f : List ℕ) → Below 256 f → readFrame f .refusal ≡ 0 → isSealed (readFrame f .header) ≡ true
@@ -105,66 +111,68 @@ open-facts f u e sealed =
     let rest = length-drop (readHeader f .length + auxBehind f (readHeader f) .length) f in
     rw (s .read) (ap (λ (n : ℕ). take n f) header ∙ sym (hf .bytes), omega arith, omega arith)
 
-module _ (ciph : List ℕ → List ℕ) (f part o : List ℕ) (r : FrameRead) (n : ℕ) (read : r ≡ readFrame f) (rest : part ≡ drop (r .length) f)
-    (number : n ≡ firstOf (openRefusals micLength (r .refusal) (r .header) (r .aux) (length part) (length o))) where
-  keyless-number : n ≡ firstOf (openRefusals micLength (r .refusal) (r .header) (r .aux) (length (behind f r)) (length o))
+module _ (l : Level) (ciph : List ℕ → List ℕ) (f part o : List ℕ) (r : FrameRead) (n : ℕ) (read : r ≡ readFrame f) (rest : part ≡ drop (r .length) f)
+    (number : n ≡ firstOf (openRefusals l (r .refusal) (r .header) (r .aux) (length part) (length o))) where
+  keyless-number : n ≡ firstOf (openRefusals l (r .refusal) (r .header) (r .aux) (length (behind f r)) (length o))
   unfolding behind
-  keyless-number = number ∙ ap (λ (l : List ℕ). firstOf (openRefusals micLength (r .refusal) (r .header) (r .aux) (length l) (length o))) rest
+  keyless-number = number ∙ ap (λ (p : List ℕ). firstOf (openRefusals l (r .refusal) (r .header) (r .aux) (length p) (length o))) rest
 
-  run : openBy networkLevel micLength ciph f r o ≡ openWith ciph f o
+  run : openBy l ciph f r o ≡ openWith l ciph f o
   unfolding openWith
-  run = ap (λ (k : FrameRead). openBy networkLevel micLength ciph f k o) read
+  run = ap (λ (k : FrameRead). openBy l ciph f k o) read
 
   -- refused by a number that needs no key
-  pub open-stopped : (n ≡ 0 → ⊥) → openNothing n o ≡ openWith ciph f o
+  pub open-stopped : (n ≡ 0 → ⊥) → openNothing n o ≡ openWith l ciph f o
   unfolding openBy openRefusal
   open-stopped h = refused-by _ n _ (λ (m : ℕ). openNothing m o) (keyless-number ∙ sym (stop-by _ _ (λ z. h (keyless-number ∙ z)))) h ∙ run
 
   -- a clear frame
-  open-clear : n ≡ 0 → isSealed (r .header) ≡ false → clearGiven f r o ≡ openWith ciph f o
-  open-clear e off = sym (clear-run networkLevel micLength ciph f r o (keyless _ _ _ _ _ _ (sym number ∙ e) .reads) off) ∙ run
+  open-clear : n ≡ 0 → isSealed (r .header) ≡ false → clearGiven f r o ≡ openWith l ciph f o
+  open-clear e off =
+      let k = keyless _ _ _ _ _ _ (sym number ∙ e) in
+      sym (clear-run l ciph f r o (k .level) (k .reads) off) ∙ run
 
   -- a sealed one whose MIC is another, or the one computed
-  open-invalid : n ≡ 0 → isSealed (r .header) ≡ true → verified networkLevel micLength ciph f r .valid ≡ false → openNothing 19 o ≡ openWith ciph f o
+  open-invalid : n ≡ 0 → isSealed (r .header) ≡ true → verified l ciph f r .valid ≡ false → openNothing 19 o ≡ openWith l ciph f o
   unfolding openBy openRefusal
   open-invalid e s bad =
       refused-by _ 19 _ (λ (m : ℕ). openNothing m o)
       (sym (skip-by _ _ (sym keyless-number ∙ e) ∙ stop 19 _ _ (counts (isSealed (r .header)) _ s ∙ ap not bad))) (λ z. omega arith) ∙ run
 
-  open-valid : n ≡ 0 → isSealed (r .header) ≡ true → verified networkLevel micLength ciph f r .valid ≡ true
-      → sealedGiven r (verified networkLevel micLength ciph f r) o ≡ openWith ciph f o
+  open-valid : n ≡ 0 → isSealed (r .header) ≡ true → verified l ciph f r .valid ≡ true
+      → sealedGiven r (verified l ciph f r) o ≡ openWith l ciph f o
   unfolding openRefusal
   open-valid e s good =
-      let number-0 : openRefusal networkLevel micLength ciph f r (length o) ≡ 0 =
+      let number-0 : openRefusal l ciph f r (length o) ≡ 0 =
       skip-by _ _ (sym keyless-number ∙ e) ∙ skip 19 _ _ (counts (isSealed (r .header)) _ s ∙ ap not good) ∙ empty in
-      sym (sealed-run networkLevel micLength ciph f r o (openable networkLevel micLength ciph f r (length o) number-0 s)) ∙ run
+      sym (sealed-run l ciph f r o (openable l ciph f r (length o) number-0 s)) ∙ run
 
 -- ---- sealing
 
 -- headers, then ciphertext and MIC right behind them
-pub sealed-done : (key : List ℕ) (h : NwkHeader) (x y : NwkAuxHeader) (p o o₁ o₂ : List ℕ) (start : ℕ) (bs n a : List ℕ)
+pub sealed-done : (l : Level) (key : List ℕ) (h : NwkHeader) (x y : NwkAuxHeader) (p o o₁ o₂ : List ℕ) (start : ℕ) (bs n a : List ℕ)
     → start ≡ length (headerBytes h) + length (auxBytes x) → bs ≡ headerBytes h → y ≡ atLevel sentLevel x → o₁ ≡ over o 0 (bs ++ auxBytes y)
-    → n ≡ nonce networkLevel h x → a ≡ authenticated networkLevel h x
-    → o₂ ≡ over o₁ start (sealedBy 4 key n a p .ciphertext ++ sealedBy 4 key n a p .tag) → o₂ ≡ over o 0 (sealedBytes networkLevel 4 key h x p)
+    → n ≡ nonce l h x → a ≡ authenticated l h x
+    → o₂ ≡ over o₁ start (sealedBy (tagLength l) key n a p .ciphertext ++ sealedBy (tagLength l) key n a p .tag) → o₂ ≡ over o 0 (sealedBytes l key h x p)
 unfolding sealedBytes generated
-sealed-done key h x y p o o₁ o₂ start bs n a size header sent first en ea second =
+sealed-done l key h x y p o o₁ o₂ start bs n a size header sent first en ea second =
     let place : start ≡ 0 + length (headerBytes h ++ auxBytes (atLevel sentLevel x)) =
     size ∙ ap (λ (k : ℕ). length (headerBytes h) + k) (sym (level-length sentLevel sentLevel x))
     ∙ sym (zero-add _ ∙ length-append (headerBytes h) (auxBytes (atLevel sentLevel x))) in
     over-then o o₁ o₂ 0 start (headerBytes h ++ auxBytes (atLevel sentLevel x)) _ (omega arith) place
     (first ∙ (λ i. over o 0 (header i ++ auxBytes (sent i))))
-    (second ∙ (λ i. over o₁ start (sealedBy 4 key (en i) (ea i) p .ciphertext ++ sealedBy 4 key (en i) (ea i) p .tag)))
+    (second ∙ (λ i. over o₁ start (sealedBy (tagLength l) key (en i) (ea i) p .ciphertext ++ sealedBy (tagLength l) key (en i) (ea i) p .tag)))
 
 -- ---- opening, by what the calls gave
 
 -- what CCM makes of the part p, x being the auxiliary header
-abbrev made : (List ℕ → List ℕ) → NwkHeader → NwkAuxHeader → List ℕ → Verified
-made ciph h x p = decryptionVerification 4 ciph (nonce networkLevel h x) (authenticated networkLevel h x) (ciphertextOf 4 p) (micOf 4 p)
+abbrev made : Level → (List ℕ → List ℕ) → NwkHeader → NwkAuxHeader → List ℕ → Verified
+made l ciph h x p = decryptionVerification (tagLength l) ciph (nonce l h x) (authenticated l h x) (ciphertextOf (tagLength l) p) (micOf (tagLength l) p)
 
-verified-is : (ciph : List ℕ → List ℕ) (f part : List ℕ) (r : FrameRead) (x : NwkAuxHeader) → x ≡ orBlank (r .aux) → part ≡ drop (r .length) f
-    → made ciph (r .header) x part ≡ verified networkLevel 4 ciph f r
+verified-is : (l : Level) (ciph : List ℕ → List ℕ) (f part : List ℕ) (r : FrameRead) (x : NwkAuxHeader) → x ≡ orBlank (r .aux) → part ≡ drop (r .length) f
+    → made l ciph (r .header) x part ≡ verified l ciph f r
 unfolding verified behind
-verified-is ciph f part r x ex ep = λ i. made ciph (r .header) (ex i) (ep i)
+verified-is l ciph f part r x ex ep = λ i. made l ciph (r .header) (ex i) (ep i)
 
 pub ready-facts : (f : List ℕ) (r : FrameRead) → Below 256 f → r ≡ readFrame f → r .refusal ≡ 0 → isSealed (r .header) ≡ true
     → (take (length (headerBytes (r .header))) f ≡ headerBytes (r .header))
@@ -172,40 +180,40 @@ pub ready-facts : (f : List ℕ) (r : FrameRead) → Below 256 f → r ≡ readF
     × (length (drop (r .length) f) ≤ 127)
 ready-facts f r u e read sealed = rw e (open-facts f u (rw e at read) (rw e at sealed))
 
-payload-size : (ciph : List ℕ → List ℕ) (f part : List ℕ) (r : FrameRead) → part ≡ drop (r .length) f
-    → length part - 4 ≡ length (verified networkLevel 4 ciph f r .payload)
+payload-size : (l : Level) (ciph : List ℕ → List ℕ) (f part : List ℕ) (r : FrameRead) → part ≡ drop (r .length) f
+    → length part - tagLength l ≡ length (verified l ciph f r .payload)
 unfolding behind
-payload-size ciph f part r e = ap (λ (l : List ℕ). length l - 4) e ∙ sym (payload-length networkLevel 4 ciph f r)
+payload-size l ciph f part r e = ap (λ (p : List ℕ). length p - tagLength l) e ∙ sym (payload-length l ciph f r)
 
 -- no other refusal of a sealed frame holds, and CCM found the MIC valid or not (b), and left o′ for o
-module _ (ciph : List ℕ → List ℕ) (f part o o′ : List ℕ) (r : FrameRead) (x : NwkAuxHeader) (n : ℕ) (b : Bool)
+module _ (l : Level) (ciph : List ℕ → List ℕ) (f part o o′ : List ℕ) (r : FrameRead) (x : NwkAuxHeader) (n : ℕ) (b : Bool)
     (read : r ≡ readFrame f) (rest : part ≡ drop (r .length) f) (present : x ≡ orBlank (r .aux))
-    (number : n ≡ firstOf (openRefusals micLength (r .refusal) (r .header) (r .aux) (length part) (length o))) (passed : n ≡ 0)
+    (number : n ≡ firstOf (openRefusals l (r .refusal) (r .header) (r .aux) (length part) (length o))) (passed : n ≡ 0)
     (sealed : isSealed (r .header) ≡ true)
-    (valid : b ≡ made ciph (r .header) x part .valid) (given : o′ ≡ givenIf b (made ciph (r .header) x part) o) where
-  same : made ciph (r .header) x part ≡ verified networkLevel 4 ciph f r
-  same = verified-is ciph f part r x present rest
+    (valid : b ≡ made l ciph (r .header) x part .valid) (given : o′ ≡ givenIf b (made l ciph (r .header) x part) o) where
+  same : made l ciph (r .header) x part ≡ verified l ciph f r
+  same = verified-is l ciph f part r x present rest
 
   pub opened-valid : (ieee : ℕ) → ieee ≡ ieeeOf (x .«extended_source») (r .header .«source_ieee») → b ≡ true
-      → _≡_ {A = Run} (record { answer = openedGiven r Mark.Sealed (length part - 4) (OptionEui64.Present ieee); out = o′ }) (openWith ciph f o)
+      → _≡_ {A = Run} (record { answer = openedGiven r Mark.Sealed (length part - tagLength l) (OptionEui64.Present ieee); out = o′ }) (openWith l ciph f o)
   unfolding givenIf
   opened-valid ieee address t =
       let own = address ∙ ap (λ (y : NwkAuxHeader). ieeeOf (y .«extended_source») (r .header .«source_ieee»)) present in
       let there = keyless _ _ _ _ _ _ (sym number ∙ passed) .ieee sealed in
       let named = ap OptionEui64.Present own ∙ sym (ieee-there (orBlank (r .aux) .«extended_source») (r .header .«source_ieee») there) in
-      (λ i. record { answer = openedGiven r Mark.Sealed (payload-size ciph f part r rest i) (named i); out = (rw (t, same) at given) i })
-      ∙ open-valid ciph f part o r n read rest number passed sealed (sym (valid ∙ ap (λ (y : Verified). y .valid) same) ∙ t)
+      (λ i. record { answer = openedGiven r Mark.Sealed (payload-size l ciph f part r rest i) (named i); out = (rw (t, same) at given) i })
+      ∙ open-valid l ciph f part o r n read rest number passed sealed (sym (valid ∙ ap (λ (y : Verified). y .valid) same) ∙ t)
 
-  pub opened-invalid : b ≡ false → openNothing 19 o′ ≡ openWith ciph f o
+  pub opened-invalid : b ≡ false → openNothing 19 o′ ≡ openWith l ciph f o
   unfolding givenIf
   opened-invalid t =
       ap (openNothing 19) (rw t at given)
-      ∙ open-invalid ciph f part o r n read rest number passed sealed (sym (valid ∙ ap (λ (y : Verified). y .valid) same) ∙ t)
+      ∙ open-invalid l ciph f part o r n read rest number passed sealed (sym (valid ∙ ap (λ (y : Verified). y .valid) same) ∙ t)
 
 -- the answer of a clear frame, its length that of the part behind the headers
-pub opened-clear : (ciph : List ℕ → List ℕ) (f part o : List ℕ) (r : FrameRead) (n : ℕ) → r ≡ readFrame f → part ≡ drop (r .length) f
-    → n ≡ firstOf (openRefusals micLength (r .refusal) (r .header) (r .aux) (length part) (length o)) → n ≡ 0 → isSealed (r .header) ≡ false
-    → _≡_ {A = Run} (record { answer = openedGiven r Mark.Clear (length part) OptionEui64.Absent; out = o }) (openWith ciph f o)
+pub opened-clear : (l : Level) (ciph : List ℕ → List ℕ) (f part o : List ℕ) (r : FrameRead) (n : ℕ) → r ≡ readFrame f → part ≡ drop (r .length) f
+    → n ≡ firstOf (openRefusals l (r .refusal) (r .header) (r .aux) (length part) (length o)) → n ≡ 0 → isSealed (r .header) ≡ false
+    → _≡_ {A = Run} (record { answer = openedGiven r Mark.Clear (length part) OptionEui64.Absent; out = o }) (openWith l ciph f o)
 unfolding behind
-opened-clear ciph f part o r n read rest number passed off =
-    (λ i. record { answer = openedGiven r Mark.Clear (length (rest i)) OptionEui64.Absent; out = o }) ∙ open-clear ciph f part o r n read rest number passed off
+opened-clear l ciph f part o r n read rest number passed off =
+    (λ i. record { answer = openedGiven r Mark.Clear (length (rest i)) OptionEui64.Absent; out = o }) ∙ open-clear l ciph f part o r n read rest number passed off

@@ -6,17 +6,17 @@ use mathlib.Core.List.{_++_}
 use lib.ListN.{length}
 use Rattle.octets.specs.Numbers.{le}
 use Rattle.header.specs.declared.{auxiliary.NwkSecurityLevel.NwkSecurityLevel, auxiliary.NwkAuxHeader.NwkAuxHeader, nwk.NwkHeader.NwkHeader}
-use Rattle.types.specs.declared.OptionEui64.{OptionEui64}
+use Rattle.types.specs.declared.{OptionEui64.OptionEui64, level.Level.Level}
 use Rattle.types.specs.Optional.{hasIeee}
 use Rattle.header.specs.AuxiliaryControl.{securityByte, withLevel}
 use Rattle.header.specs.Auxiliary.{auxBytes}
 use Rattle.header.specs.Same.{AuxAgrees, AuxFits, SameHeader}
 use Rattle.header.proofs.AuxiliaryLaws.{aux-length}
 use Rattle.header.proofs.ReadBack.{same-bytes}
-use Rattle.frame.specs.Security.{atLevel, ieeeOf, noIeee, nonce, authenticated}
+use Rattle.frame.specs.Security.{fieldLevel, atLevel, ieeeOf, noIeee, nonce, authenticated}
 
 module _ (l m : NwkSecurityLevel) (a : NwkAuxHeader) where
-  pub level-twice : atLevel l (atLevel m a) ≡ atLevel l a
+  level-twice : atLevel l (atLevel m a) ≡ atLevel l a
   unfolding atLevel withLevel
   level-twice = refl
 
@@ -32,18 +32,18 @@ module _ (l m : NwkSecurityLevel) (a : NwkAuxHeader) where
   unfolding atLevel
   level-length = aux-length (atLevel l a) ∙ sym (aux-length a)
 
-  -- the level that is sent enters neither the nonce nor the authenticated bytes, nor do the places past the relay count
-  module _ (h k : NwkHeader) (same : SameHeader h k) where
-    pub level-nonce : nonce l k (atLevel m a) ≡ nonce l h a
-    unfolding nonce atLevel withLevel
-    level-nonce =
-        ap (λ (o : OptionEui64). le 8 (ieeeOf (a .«extended_source») o) ++ (le 4 (a .«frame_counter») ++ le 1 (securityByte (withLevel (a .«security_control») l))))
-        (sym (same .sourceIeee))
+-- the level that is sent enters neither the nonce nor the authenticated bytes, nor do the places past the relay count
+module _ (l : Level) (m : NwkSecurityLevel) (a : NwkAuxHeader) (h k : NwkHeader) (same : SameHeader h k) where
+  pub level-nonce : nonce l k (atLevel m a) ≡ nonce l h a
+  unfolding nonce atLevel withLevel
+  level-nonce =
+      ap (λ (o : OptionEui64). le 8 (ieeeOf (a .«extended_source») o) ++ (le 4 (a .«frame_counter») ++ le 1 (securityByte (withLevel (a .«security_control») (fieldLevel l)))))
+      (sym (same .sourceIeee))
 
-    pub level-authenticated : authenticated l k (atLevel m a) ≡ authenticated l h a
-    unfolding authenticated
-    level-authenticated = λ i. sym (same-bytes h k same) i ++ auxBytes (level-twice i)
+  pub level-authenticated : authenticated l k (atLevel m a) ≡ authenticated l h a
+  unfolding authenticated
+  level-authenticated = λ i. sym (same-bytes h k same) i ++ auxBytes (level-twice (fieldLevel l) m a i)
 
-    pub level-ieee : noIeee k (atLevel m a) ≡ noIeee h a
-    unfolding atLevel
-    level-ieee = ap (λ (o : OptionEui64). not (hasIeee (a .«extended_source») || hasIeee o)) (sym (same .sourceIeee))
+  pub level-ieee : noIeee k (atLevel m a) ≡ noIeee h a
+  unfolding atLevel
+  level-ieee = ap (λ (o : OptionEui64). not (hasIeee (a .«extended_source») || hasIeee o)) (sym (same .sourceIeee))

@@ -11,3 +11,4 @@ pub mod Marks
 pub mod LastCounter
 pub mod NonceIeee
 pub mod PresenceBits
+pub mod NetworkLevel

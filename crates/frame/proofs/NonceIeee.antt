@@ -13,13 +13,13 @@ use Rattle.frame.specs.NonceIeee.{addressOf, SealedGivesAddress, ClearGi
 use Rattle.frame.proofs.Accepted.{ieee-there}
 use Rattle.frame.proofs.Opened.{open-refused}
 use Rattle.frame.proofs.SealingLaw.{first-half}
-use Rattle.frame.proofs.Marks.{clear-accepted, clear-only, sealed-accepted, sealed-only}
+use Rattle.frame.proofs.Marks.{clear-accepted, clear-only, marked-level, sealed-accepted, sealed-only}
 
 pub sealed-gives-address : SealedGivesAddress
 unfolding verified nonce
-sealed-gives-address key f o m =
-    let w = sealed-only key f o m in
-    let run = sealed-accepted key f o w in
+sealed-gives-address l key f o m =
+    let w = sealed-only l key f o m in
+    let run = sealed-accepted l key f o w in
     record {
       address = addressOf (readFrame f .header) (readFrame f .aux);
       given = ap (λ (r : Run). r .answer .«nonce_ieee») run ∙ ieee-there (orBlank (readFrame f .aux) .«extended_source») (readFrame f .header .«source_ieee») (w .ieee);
@@ -28,11 +28,11 @@ sealed-gives-address key f o m =
     }
 
 pub clear-gives-none : ClearGivesNone
-clear-gives-none key f o m = ap (λ (r : Run). r .answer .«nonce_ieee») (clear-accepted key f o (clear-only key f o m) .run)
+clear-gives-none l key f o m = ap (λ (r : Run). r .answer .«nonce_ieee») (clear-accepted l key f o (marked-level l key f o m) (clear-only l key f o m) .run)
 
 pub refused-gives-none : RefusedGivesNone
 unfolding openRefused
-refused-gives-none key f o h = ap (λ (a : FrameOpened). a .«nonce_ieee») (open-refused _ f o _ refl h)
+refused-gives-none l key f o h = ap (λ (a : FrameOpened). a .«nonce_ieee») (open-refused l _ f o _ refl h)
 
 -- the level is no part of it
 level-address : (h k : NwkHeader) (a : OptionAuxHeader) → h .«source_ieee» ≡ k .«source_ieee» → addressOf k (levelZero a) ≡ addressOf h a
@@ -41,9 +41,9 @@ level-address h k OptionAuxHeader.Absent e = ap (λ (s : OptionEui64). ieeeOf (o
 level-address h k (OptionAuxHeader.Present x) e = ap (λ (s : OptionEui64). ieeeOf (x .«extended_source») s) (sym e)
 
 pub address-comes-back : AddressComesBack
-address-comes-back key h a p out out₂ fits accepted within =
-    let back = first-half key h a p out out₂ fits accepted within in
-    let n = sealed-gives-address key _ out₂ (back .marked) in
-    let r = sealThenOpen key h a p out out₂ .answer in
+address-comes-back l key h a p out out₂ fits accepted within =
+    let back = first-half l key h a p out out₂ fits accepted within in
+    let n = sealed-gives-address l key _ out₂ (back .marked) in
+    let r = sealThenOpen l key h a p out out₂ .answer in
     n .given
     ∙ ap OptionEui64.Present (n .rule ∙ ap (addressOf (r .header)) (back .auxiliary) ∙ level-address h (r .header) a (back .header .sourceIeee))

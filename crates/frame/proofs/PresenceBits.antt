@@ -12,6 +12,8 @@ use Rattle.octets.specs.Refusals.{unless, Condition, on, by, firstOf}
 use Rattle.octets.specs.Writing.{written}
 use Rattle.octets.proofs.Conditions.{gives, unless-either}
 use Rattle.octets.proofs.Writing.{written-number}
+use Rattle.types.specs.declared.level.Level.{Level}
+use Rattle.types.specs.Levels.{isOther}
 use Rattle.header.specs.declared.{auxiliary.NwkAuxHeader.NwkAuxHeader, nwk.NwkHeader.NwkHeader}
 use Rattle.header.specs.Reading.{blankHeader, readHeader}
 use Rattle.header.specs.Writing.{headerBytes, badHeader, fieldRefusal, headerWriteRefusal, writeHeader}
@@ -19,11 +21,10 @@ use Rattle.header.specs.Same.{Agrees, AuxAgrees, agrees, auxAgrees}
 use Rattle.header.specs.PresenceBits.{Disagrees}
 use Rattle.header.proofs.WriteBack.{read-agrees}
 use Rattle.header.proofs.PresenceBits.{apart, header-disagrees, aux-disagrees, reading-agrees}
-use Rattle.ccm.specs.Operations.{micLength}
 use Rattle.frame.specs.declared.{OptionAuxHeader.OptionAuxHeader, FrameRead.FrameRead}
 use Rattle.frame.specs.Reading.{secured, auxIf, auxBehind, frameRefused, frameGiven, frameNumber, frameBy, readFrame}
 use Rattle.frame.specs.Writing.{frameBytes, lengthRefusals, frameWriteRefusal, writeFrame}
-use Rattle.frame.specs.Security.{networkLevel, isAbsent, orBlank, noIeee}
+use Rattle.frame.specs.Security.{isAbsent, orBlank, noIeee}
 use Rattle.frame.specs.Sealing.{sealedBytes, headersRefusal, sealRefusals, sealRefusal, sealBy, sealFrame}
 use Rattle.frame.specs.Opening.{isSealed}
 use Rattle.frame.specs.PresenceBits.{SealingDisagrees, TwentyEightExactly, OthersAsBefore, AuxOptionAgrees, SealingEnsures, ReadIsNeverBy28, writeHeaderBefore, writeFrameBefore, sealBefore}
@@ -73,6 +74,12 @@ unfolding firstOf unless
 first-28 zero cs never = (λ e. absurd (never e), λ e. absurd (omega arith))
 first-28 (suc n) cs never = (λ e. e, λ e. e)
 
+-- and behind 29, where the level is not another
+behind-29 : (other : Bool) (cs : List Condition) → (firstOf (on 29 other ∷ cs) ≡ 28) ↔ ((other ≡ false) × (firstOf cs ≡ 28))
+unfolding firstOf
+behind-29 true cs = (λ e. absurd (omega arith), λ e. absurd (true≢false (e .0)))
+behind-29 false cs = (λ e. (refl, e), λ e. e .1)
+
 not-0 : _≡_ {A = ℕ} 28 0 → ⊥
 not-0 e = omega arith
 
@@ -121,21 +128,23 @@ frame-exactly h p o =
     let number = written-number _ (frameBytes h p) o in
     (λ e. w .0 (sym number ∙ e), λ d. number ∙ w .1 d)
 
-pub sealed-exactly : (key : List ℕ) (h : NwkHeader) (a : OptionAuxHeader) (p o : List ℕ)
-    → (sealFrame key h a p o .answer .refusal ≡ 28) ↔ ((badHeader h ≡ false) × SealingDisagrees h a)
+pub sealed-exactly : (l : Level) (key : List ℕ) (h : NwkHeader) (a : OptionAuxHeader) (p o : List ℕ)
+    → (sealFrame l key h a p o .answer .refusal ≡ 28) ↔ ((isOther l ≡ false) × (badHeader h ≡ false) × SealingDisagrees h a)
 unfolding sealRefusal sealRefusals headersRefusal fieldRefusal lengthRefusals
-sealed-exactly key h a p o =
+sealed-exactly l key h a p o =
+    let level = behind-29 (isOther l) _ in
     let whole = first-28 (headersRefusal h a) _ (λ e. gives 28 _ not-0 e) in
     let headers = header-28 (badHeader h) (agrees h) (h .«frame_control» .security) (isAbsent a) (auxAgrees (orBlank a)) (noIeee h (orBlank a)) in
-    let number = seal-number key h a p o in (
+    let number = seal-number l key h a p o in (
       λ e.
-          let f = headers .0 (whole .0 (sym number ∙ e)) in
-          (f .0, bits h a (f .1)),
-      λ d. number ∙ whole .1 (headers .1 (d .0, tests h a (d .1))),
+          let g = level .0 (sym number ∙ e) in
+          let f = headers .0 (whole .0 (g .1)) in
+          (g .0, f .0, bits h a (f .1)),
+      λ d. number ∙ level .1 (d .0, whole .1 (headers .1 (d .1, tests h a (d .2)))),
     )
 
 pub twenty-eight-exactly : TwentyEightExactly
-twenty-eight-exactly key h a p o = record { header = header-exactly h o; frame = frame-exactly h p o; sealed = sealed-exactly key h a p o }
+twenty-eight-exactly l key h a p o = record { header = header-exactly h o; frame = frame-exactly h p o; sealed = sealed-exactly l key h a p o }
 
 -- ---- every other answer
 
@@ -146,28 +155,30 @@ writer-before true ok cs other = refl
 writer-before false true cs other = refl
 writer-before false false cs other = absurd (other refl)
 
-seal-before : (bad ok secured absent nonced lone : Bool) (cs : List Condition) → (firstOf (by (firstOf (headerList bad ok secured absent nonced lone)) ∷ cs) ≡ 28 → ⊥)
-    → firstOf (by (firstOf (headerList bad ok secured absent nonced lone)) ∷ cs) ≡ firstOf (on 13 bad ∷ on 14 absent ∷ on 15 lone ∷ cs)
+seal-before : (other bad ok secured absent nonced lone : Bool) (cs : List Condition)
+    → (firstOf (on 29 other ∷ by (firstOf (headerList bad ok secured absent nonced lone)) ∷ cs) ≡ 28 → ⊥)
+    → firstOf (on 29 other ∷ by (firstOf (headerList bad ok secured absent nonced lone)) ∷ cs) ≡ firstOf (on 29 other ∷ on 13 bad ∷ on 14 absent ∷ on 15 lone ∷ cs)
 unfolding firstOf unless
-seal-before true ok secured absent nonced lone cs other = refl
-seal-before false false secured absent nonced lone cs other = absurd (other refl)
-seal-before false true false absent nonced lone cs other = absurd (other refl)
-seal-before false true true true nonced lone cs other = refl
-seal-before false true true false false lone cs other = absurd (other refl)
-seal-before false true true false true true cs other = refl
-seal-before false true true false true false cs other = refl
+seal-before true bad ok secured absent nonced lone cs away = refl
+seal-before false true ok secured absent nonced lone cs other = refl
+seal-before false false false secured absent nonced lone cs other = absurd (other refl)
+seal-before false false true false absent nonced lone cs other = absurd (other refl)
+seal-before false false true true true nonced lone cs other = refl
+seal-before false false true true false false lone cs other = absurd (other refl)
+seal-before false false true true false true true cs other = refl
+seal-before false false true true false true false cs other = refl
 
 pub others-as-before : OthersAsBefore
 unfolding writeHeader headerWriteRefusal writeHeaderBefore writeFrame frameWriteRefusal writeFrameBefore sealFrame sealRefusal sealRefusals headersRefusal sealBefore fieldRefusal
-others-as-before key h a p o =
+others-as-before l key h a p o =
     record {
       header = λ other.
           ap (λ (n : ℕ). written n (headerBytes h) o) (writer-before (badHeader h) (agrees h) _ (λ z. other (written-number _ (headerBytes h) o ∙ z)));
       frame = λ other.
           ap (λ (n : ℕ). written n (frameBytes h p) o) (writer-before (badHeader h) (agrees h) _ (λ z. other (written-number _ (frameBytes h p) o ∙ z)));
       sealed = λ other.
-          ap (λ (n : ℕ). sealBy n (sealedBytes networkLevel micLength key h (orBlank a) p) o)
-          (seal-before (badHeader h) (agrees h) (h .«frame_control» .security) (isAbsent a) (auxAgrees (orBlank a)) (noIeee h (orBlank a)) _ (λ z. other (seal-number key h a p o ∙ z)));
+          ap (λ (n : ℕ). sealBy n (sealedBytes l key h (orBlank a) p) o)
+          (seal-before (isOther l) (badHeader h) (agrees h) (h .«frame_control» .security) (isAbsent a) (auxAgrees (orBlank a)) (noIeee h (orBlank a)) _ (λ z. other (seal-number l key h a p o ∙ z)));
     }
 
 -- ---- what sealing ensures
@@ -177,8 +188,8 @@ nonce-agrees OptionAuxHeader.Absent e = tt
 nonce-agrees (OptionAuxHeader.Present x) e = e
 
 pub sealing-ensures : SealingEnsures
-sealing-ensures key h a p o accepted =
-    let good = seal-able h a (length p) (length o) (sym (seal-number key h a p o) ∙ accepted) .headers in
+sealing-ensures l key h a p o accepted =
+    let good = seal-able l h a (length p) (length o) (sym (seal-number l key h a p o) ∙ accepted) .headers in
     record { security = good .secured; header = good .fields .agree; auxiliary = nonce-agrees a (good .nonce) }
 
 -- ---- what was read
@@ -209,9 +220,9 @@ reads-none f set (bit9 e) = true≢false (sym set ∙ e)
 reads-none f set (nonce x e d) = d (subst AuxOptionAgrees e (aux-agrees f))
 
 pub read-is-never-by-28 : ReadIsNeverBy28
-read-is-never-by-28 key f p o =
+read-is-never-by-28 l key f p o =
     record {
       header = λ e. apart _ (header-exactly (readHeader f .header) o .0 e .1) (reading-agrees f .0);
       frame = λ e. apart _ (frame-exactly (readFrame f .header) p o .0 e .1) (frame-agrees f);
-      sealed = λ set e. reads-none f set (sealed-exactly key (readFrame f .header) (readFrame f .aux) p o .0 e .1);
+      sealed = λ set e. reads-none f set (sealed-exactly l key (readFrame f .header) (readFrame f .aux) p o .0 e .2);
     }

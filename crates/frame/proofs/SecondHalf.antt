@@ -1,5 +1,5 @@
 -- The second half of the sealing law: the bytes of the headers that were read are the frame's first bytes, CCM seals again what
--- it opened to the ciphertext and MIC that follow them, and the two parts are the whole frame. For every level and tag length.
+-- it opened to the ciphertext and MIC that follow them, and the two parts are the whole frame. For every level, its tag length being a variable.
 -- Assumes nothing.
 use mathlib.Core.Path.{_≡_, refl, sym, ap, _∙_}
 use mathlib.Core.Bool.{Bool, true, false, cond}
@@ -12,6 +12,8 @@ use lib.Seq.{take-add, getD-drop, length-take-le}
 use Rattle.octets.proofs.Strings.{drop-below}
 use Rattle.octets.specs.Strings.{Below}
 use Rattle.octets.proofs.Conditions.{accepted}
+use Rattle.types.specs.declared.level.Level.{Level}
+use Rattle.types.specs.Levels.{tagLength}
 use Rattle.header.specs.declared.{auxiliary.NwkSecurityLevel.NwkSecurityLevel, auxiliary.NwkAuxHeader.NwkAuxHeader}
 use Rattle.header.specs.Reading.{readHeader}
 use Rattle.header.specs.Auxiliary.{auxBytes}
@@ -90,23 +92,23 @@ sent-already a e =
     }
 
 -- the payload that CCM opened, and what sealing it makes
-pub payload-length : (l : NwkSecurityLevel) (t : ℕ) (ciph : List ℕ → List ℕ) (f : List ℕ) (r : FrameRead)
-    → length (verified l t ciph f r .payload) ≡ length (behind f r) - t
+pub payload-length : (l : Level) (ciph : List ℕ → List ℕ) (f : List ℕ) (r : FrameRead)
+    → length (verified l ciph f r .payload) ≡ length (behind f r) - tagLength l
 unfolding verified ciphertextOf
-payload-length l t ciph f r = length-payload t _ _ _ _ _ ∙ length-take-le _ (behind f r) (omega arith)
+payload-length l ciph f r = length-payload (tagLength l) _ _ _ _ _ ∙ length-take-le _ (behind f r) (omega arith)
 
-module _ (l : NwkSecurityLevel) (t : ℕ) (key f : List ℕ) (r : FrameRead) where
-  made-again : t ≤ length (behind f r) → verified l t (ciphOf key) f r .valid ≡ true
-      → generated l t key (r .header) (orBlank (r .aux)) (verified l t (ciphOf key) f r .payload) .ciphertext
-      ++ generated l t key (r .header) (orBlank (r .aux)) (verified l t (ciphOf key) f r .payload) .tag ≡ behind f r
+module _ (l : Level) (key f : List ℕ) (r : FrameRead) where
+  made-again : tagLength l ≤ length (behind f r) → verified l (ciphOf key) f r .valid ≡ true
+      → generated l key (r .header) (orBlank (r .aux)) (verified l (ciphOf key) f r .payload) .ciphertext
+      ++ generated l key (r .header) (orBlank (r .aux)) (verified l (ciphOf key) f r .payload) .tag ≡ behind f r
   unfolding verified generated ciphertextOf micOf
   made-again tagged valid =
-      let u : length (drop (length (behind f r) - t) (behind f r)) ≡ t = simp length-drop (omega arith) in
-      let s = sealed-opened t _ (nonce l (r .header) (orBlank (r .aux))) (authenticated l (r .header) (orBlank (r .aux)))
-      (take (length (behind f r) - t) (behind f r)) (drop (length (behind f r) - t) (behind f r)) u valid in
-      (λ i. s .0 i ++ s .1 i) ∙ take-append-drop (length (behind f r) - t) (behind f r)
+      let u : length (drop (length (behind f r) - tagLength l) (behind f r)) ≡ tagLength l = simp length-drop (omega arith) in
+      let s = sealed-opened (tagLength l) _ (nonce l (r .header) (orBlank (r .aux))) (authenticated l (r .header) (orBlank (r .aux)))
+      (take (length (behind f r) - tagLength l) (behind f r)) (drop (length (behind f r) - tagLength l) (behind f r)) u valid in
+      (λ i. s .0 i ++ s .1 i) ∙ take-append-drop (length (behind f r) - tagLength l) (behind f r)
 
-module _ (l : NwkSecurityLevel) (t : ℕ) (key f : List ℕ) (u : Below 256 f) (s : SecuredFacts f)
+module _ (l : Level) (key f : List ℕ) (u : Below 256 f) (s : SecuredFacts f)
     (low : getD f (readHeader f .length) 0 < 128) (zero-level : getD f (readHeader f .length) 0 % 8 ≡ 0) where
   part : List ℕ
   part = drop (readHeader f .length) f
@@ -129,11 +131,11 @@ module _ (l : NwkSecurityLevel) (t : ℕ) (key f : List ℕ) (u : Below 256 f) (
       (λ i. hf .bytes i ++ (ap auxBytes (sent-already _ (af .plain (rw first-behind zero-level))) ∙ af .exact (rw first-behind low)) i)
       ∙ sym (take-add (readHeader f .length) (auxBehind f (readHeader f) .length) f)
 
-  pub frame-again : t ≤ length (behind f (wholeRead f)) → verified l t (ciphOf key) f (wholeRead f) .valid ≡ true
-      → sealedBytes l t key (readHeader f .header) (auxBehind f (readHeader f) .aux) (verified l t (ciphOf key) f (wholeRead f) .payload) ≡ f
+  pub frame-again : tagLength l ≤ length (behind f (wholeRead f)) → verified l (ciphOf key) f (wholeRead f) .valid ≡ true
+      → sealedBytes l key (readHeader f .header) (auxBehind f (readHeader f) .aux) (verified l (ciphOf key) f (wholeRead f) .payload) ≡ f
   unfolding sealedBytes behind
   frame-again tagged valid =
-      (λ i. headers-again i ++ made-again l t key f (wholeRead f) tagged valid i)
+      (λ i. headers-again i ++ made-again l key f (wholeRead f) tagged valid i)
       ∙ take-append-drop (readHeader f .length + auxBehind f (readHeader f) .length) f
 
   size-behind : length (behind f (wholeRead f)) ≡ length f - (readHeader f .length + auxBehind f (readHeader f) .length)
@@ -144,9 +146,9 @@ module _ (l : NwkSecurityLevel) (t : ℕ) (key f : List ℕ) (u : Below 256 f) (
   unfolding part
   size-part = length-drop (readHeader f .length) f
 
-  pub sealable-again : (room : ℕ) (isLast : Bool) → Openable l t (ciphOf key) f (wholeRead f) room → isLast ≡ false
-      → Sealable isLast t (readHeader f .header) (OptionAuxHeader.Present (auxBehind f (readHeader f) .aux))
-      (length (verified l t (ciphOf key) f (wholeRead f) .payload)) 118
+  pub sealable-again : (room : ℕ) (isLast : Bool) → Openable l (ciphOf key) f (wholeRead f) room → isLast ≡ false
+      → Sealable isLast l (readHeader f .header) (OptionAuxHeader.Present (auxBehind f (readHeader f) .aux))
+      (length (verified l (ciphOf key) f (wholeRead f) .payload)) 118
   unfolding sealedLength
   sealable-again room isLast o other =
       let short = hf .short in
@@ -154,13 +156,14 @@ module _ (l : NwkSecurityLevel) (t : ℕ) (key f : List ℕ) (u : Below 256 f) (
       let within = hf .within in
       let inside = af .within in
       let tagged = o .tagged in
-      let size = payload-length l t (ciphOf key) f (wholeRead f) in
+      let size = payload-length l (ciphOf key) f (wholeRead f) in
       let header : length (headerBytes (readHeader f .header)) ≡ readHeader f .length = ap length (hf .bytes) ∙ length-take-le _ f within in
       let aux = af .size in
       let six = aux-length (auxBehind f (readHeader f) .aux) in
       let b = size-behind in
       let p = size-part in
       record {
+        level = o .level;
         headers = good-again f u s (o .on) (o .ieee);
         counter = other;
         payload = omega arith;

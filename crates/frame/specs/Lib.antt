@@ -1,5 +1,5 @@
 -- NWK frames: reading, writing without a key, sealing and opening, the sealing law, the marks, the last counter, the address that the nonce
--- used, and the presence bits.
+-- used, the presence bits, and the network's level.
 pub mod Reading
 pub mod Writing
 pub mod Security
@@ -10,3 +10,4 @@ pub mod Marks
 pub mod LastCounter
 pub mod NonceIeee
 pub mod PresenceBits
+pub mod NetworkLevel

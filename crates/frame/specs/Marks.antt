@@ -1,5 +1,5 @@
--- Document 02, 3, sentence by sentence: what opening answers for clear and for sealed frames. Each is one claim over all keys,
--- frames and earlier output contents. Of bursts the claims are in crates/burst/specs/Claims.antt, and the sealing law in
+-- Document 02, 3, sentence by sentence: what opening answers for clear and for sealed frames. Each is one claim over all levels,
+-- keys, frames and earlier output contents. Of bursts the claims are in crates/burst/specs/Claims.antt, and the sealing law in
 -- SealingLaw.antt speaks of sealed frames only.
 -- Assumes nothing.
 use mathlib.Core.Path.{_≡_}
@@ -10,20 +10,22 @@ use lib.ListN.{length, drop}
 use lib.Dec.{ltb}
 use Rattle.octets.specs.Refusals.{on, by, firstOf}
 use Rattle.octets.specs.Writing.{writtenBytes}
-use Rattle.header.specs.declared.{auxiliary.NwkSecurityLevel.NwkSecurityLevel, nwk.NwkHeader.NwkHeader}
+use Rattle.types.specs.declared.level.Level.{Level}
+use Rattle.types.specs.Levels.{isOther, tagLength}
+use Rattle.header.specs.declared.nwk.NwkHeader.{NwkHeader}
 use Rattle.header.specs.Reading.{control}
 use Rattle.header.specs.Same.{SameHeader, HeaderFits}
 use Rattle.ccm.specs.Verification.{Verified}
-use Rattle.ccm.specs.Operations.{micLength, ciphOf}
+use Rattle.ccm.specs.Operations.{ciphOf}
 use Rattle.frame.specs.declared.{OptionAuxHeader.OptionAuxHeader, FrameRead.FrameRead, Mark.Mark}
 use Rattle.frame.specs.Reading.{readFrame}
-use Rattle.frame.specs.Security.{networkLevel, orBlank, noIeee}
+use Rattle.frame.specs.Security.{orBlank, noIeee}
 use Rattle.frame.specs.Writing.{writeFrame}
 use Rattle.frame.specs.Opening.{isSealed, behind, verified, sealedGiven, clearGiven, openFrame, payloadIn}
 
 -- the payload handed back of the frame f, opened under key into o
-abbrev pub handedBack : List ℕ → List ℕ → List ℕ → List ℕ
-handedBack key f o = payloadIn (openFrame key f o .answer) f (openFrame key f o .out)
+abbrev pub handedBack : Level → List ℕ → List ℕ → List ℕ → List ℕ
+handedBack l key f o = payloadIn (openFrame l key f o .answer) f (openFrame l key f o .out)
 
 -- ---- "opening now accepts a frame whose security bit is off, marks the answer as clear and does not touch the output"
 
@@ -32,103 +34,105 @@ pub record IsClear (f : List ℕ) : Type 0 where
   pub reads : readFrame f .refusal ≡ 0
   pub off : isSealed (readFrame f .header) ≡ false
 
--- under every key and into every output, shorter than the payload or empty too, what opening leaves is this: marked clear, the
+-- at each of the three levels, under every key and into every output, shorter than the payload or empty too, what opening leaves is this: marked clear, the
 -- headers as read, no auxiliary header, "the length given is then the payload's", and the output as it was
-pub record Clear (key f o : List ℕ) : Type 0 where
-  pub run : openFrame key f o ≡ clearGiven f (readFrame f) o
-  pub auxiliary : openFrame key f o .answer .aux ≡ OptionAuxHeader.Absent
-  pub length : openFrame key f o .answer .length ≡ length (drop (readFrame f .length) f)
-  pub untouched : openFrame key f o .out ≡ o
+pub record Clear (l : Level) (key f o : List ℕ) : Type 0 where
+  pub run : openFrame l key f o ≡ clearGiven f (readFrame f) o
+  pub auxiliary : openFrame l key f o .answer .aux ≡ OptionAuxHeader.Absent
+  pub length : openFrame l key f o .answer .length ≡ length (drop (readFrame f .length) f)
+  pub untouched : openFrame l key f o .out ≡ o
 
 abbrev pub ClearAccepted : Type 0
-ClearAccepted = (key f o : List ℕ) → IsClear f → Clear key f o
+ClearAccepted = (l : Level) (key f o : List ℕ) → isOther l ≡ false → IsClear f → Clear l key f o
 
 -- and no other frame is marked so
 abbrev pub ClearOnly : Type 0
-ClearOnly = (key f o : List ℕ) → openFrame key f o .answer .mark ≡ Mark.Clear → IsClear f
+ClearOnly = (l : Level) (key f o : List ℕ) → openFrame l key f o .answer .mark ≡ Mark.Clear → IsClear f
 
 -- ---- "every frame that was opened before has the answer it had, now marked sealed"
 
 -- what CCM makes of the frame
-abbrev pub ccmOf : List ℕ → List ℕ → Verified
-ccmOf key f = verified networkLevel micLength (ciphOf key) f (readFrame f)
+abbrev pub ccmOf : Level → List ℕ → List ℕ → Verified
+ccmOf l key f = verified l (ciphOf key) f (readFrame f)
 
--- the conditions on which a frame is opened: at level l with a tag of t bytes under the cipher ciph, r being what reading it answers
-pub record Openable (l : NwkSecurityLevel) (t : ℕ) (ciph : List ℕ → List ℕ) (f : List ℕ) (r : FrameRead) (room : ℕ) : Type 0 where
+-- the conditions on which a frame is opened: at level l under the cipher ciph, r being what reading it answers
+pub record Openable (l : Level) (ciph : List ℕ → List ℕ) (f : List ℕ) (r : FrameRead) (room : ℕ) : Type 0 where
+  pub level : isOther l ≡ false
   pub reads : r .refusal ≡ 0
   pub on : isSealed (r .header) ≡ true
   pub ieee : noIeee (r .header) (orBlank (r .aux)) ≡ false
-  pub tagged : t ≤ length (behind f r)
-  pub fits : length (behind f r) - t ≤ room
-  pub valid : verified l t ciph f r .valid ≡ true
+  pub tagged : tagLength l ≤ length (behind f r)
+  pub fits : length (behind f r) - tagLength l ≤ room
+  pub valid : verified l ciph f r .valid ≡ true
 
-abbrev pub IsOpened : List ℕ → List ℕ → List ℕ → Type 0
-IsOpened key f o = Openable networkLevel micLength (ciphOf key) f (readFrame f) (length o)
+abbrev pub IsOpened : Level → List ℕ → List ℕ → List ℕ → Type 0
+IsOpened l key f o = Openable l (ciphOf key) f (readFrame f) (length o)
 
 -- on these the headers are as read, and what CCM opened stands at the front of the output
 abbrev pub SealedAccepted : Type 0
-SealedAccepted = (key f o : List ℕ) → IsOpened key f o → openFrame key f o ≡ sealedGiven (readFrame f) (ccmOf key f) o
+SealedAccepted = (l : Level) (key f o : List ℕ) → IsOpened l key f o → openFrame l key f o ≡ sealedGiven (readFrame f) (ccmOf l key f) o
 
 -- and no other frame is marked sealed
 abbrev pub SealedOnly : Type 0
-SealedOnly = (key f o : List ℕ) → openFrame key f o .answer .mark ≡ Mark.Sealed → IsOpened key f o
+SealedOnly = (l : Level) (key f o : List ℕ) → openFrame l key f o .answer .mark ≡ Mark.Sealed → IsOpened l key f o
 
 -- a frame whose security bit is on, read or not, is refused by the numbers that refused it, in their order
 abbrev pub SecuredNumbers : Type 0
 SecuredNumbers =
-    (key f o : List ℕ) → control f .security ≡ true
-    → openFrame key f o .answer .refusal
-    ≡ firstOf (by (readFrame f .refusal)
+    (l : Level) (key f o : List ℕ) → control f .security ≡ true
+    → openFrame l key f o .answer .refusal
+    ≡ firstOf (on 29 (isOther l)
+    ∷ by (readFrame f .refusal)
     ∷ on 15 (noIeee (readFrame f .header) (orBlank (readFrame f .aux)))
-    ∷ on 16 (ltb (length (behind f (readFrame f))) micLength)
-    ∷ on 18 (ltb (length o) (length (behind f (readFrame f)) - micLength))
-    ∷ on 19 (not (ccmOf key f .valid))
+    ∷ on 16 (ltb (length (behind f (readFrame f))) (tagLength l))
+    ∷ on 18 (ltb (length o) (length (behind f (readFrame f)) - tagLength l))
+    ∷ on 19 (not (ccmOf l key f .valid))
     ∷ [])
 
 -- ---- no mark beside a refusal
 
 -- and one beside every answer that is none, so that an answer is exactly one of refused, clear and sealed
-pub record Marked (key f o : List ℕ) : Type 0 where
-  pub refused : (openFrame key f o .answer .refusal ≡ 0 → ⊥) → openFrame key f o .answer .mark ≡ Mark.Unmarked
-  pub accepted : openFrame key f o .answer .refusal ≡ 0 → openFrame key f o .answer .mark ≡ Mark.Unmarked → ⊥
+pub record Marked (l : Level) (key f o : List ℕ) : Type 0 where
+  pub refused : (openFrame l key f o .answer .refusal ≡ 0 → ⊥) → openFrame l key f o .answer .mark ≡ Mark.Unmarked
+  pub accepted : openFrame l key f o .answer .refusal ≡ 0 → openFrame l key f o .answer .mark ≡ Mark.Unmarked → ⊥
 
 abbrev pub MarkedIfAccepted : Type 0
-MarkedIfAccepted = (key f o : List ℕ) → Marked key f o
+MarkedIfAccepted = (l : Level) (key f o : List ℕ) → Marked l key f o
 
 -- ---- "the payload handed back is a part of the frame if clear, and of the opened bytes if sealed"
 
 -- of a clear frame what follows the headers: the frame's last bytes, as many as the length says
 abbrev pub PayloadOfClear : Type 0
-PayloadOfClear = (key f o : List ℕ) → openFrame key f o .answer .mark ≡ Mark.Clear → handedBack key f o ≡ drop (readFrame f .length) f
+PayloadOfClear = (l : Level) (key f o : List ℕ) → openFrame l key f o .answer .mark ≡ Mark.Clear → handedBack l key f o ≡ drop (readFrame f .length) f
 
 -- of a sealed one what CCM opened
 abbrev pub PayloadOfSealed : Type 0
-PayloadOfSealed = (key f o : List ℕ) → openFrame key f o .answer .mark ≡ Mark.Sealed → handedBack key f o ≡ ccmOf key f .payload
+PayloadOfSealed = (l : Level) (key f o : List ℕ) → openFrame l key f o .answer .mark ≡ Mark.Sealed → handedBack l key f o ≡ ccmOf l key f .payload
 
 -- beside a refusal none
 abbrev pub PayloadOfRefused : Type 0
-PayloadOfRefused = (key f o : List ℕ) → (openFrame key f o .answer .refusal ≡ 0 → ⊥) → handedBack key f o ≡ []
+PayloadOfRefused = (l : Level) (key f o : List ℕ) → (openFrame l key f o .answer .refusal ≡ 0 → ⊥) → handedBack l key f o ≡ []
 
 -- it has the length that the answer says
 abbrev pub PayloadLength : Type 0
-PayloadLength = (key f o : List ℕ) → length (handedBack key f o) ≡ openFrame key f o .answer .length
+PayloadLength = (l : Level) (key f o : List ℕ) → length (handedBack l key f o) ≡ openFrame l key f o .answer .length
 
 -- ---- "opening no longer gives 14"
 
 abbrev pub NoFourteen : Type 0
-NoFourteen = (key f o : List ℕ) → openFrame key f o .answer .refusal ≡ 14 → ⊥
+NoFourteen = (l : Level) (key f o : List ℕ) → openFrame l key f o .answer .refusal ≡ 14 → ⊥
 
 -- ---- what was written without a key
 
 -- opened from the frame f, under key into o, it is clear, and header and payload are those that were written
-pub record WrittenBack (h : NwkHeader) (p key f o : List ℕ) : Type 0 where
-  pub marked : openFrame key f o .answer .mark ≡ Mark.Clear
-  pub header : SameHeader h (openFrame key f o .answer .header)
-  pub payload : handedBack key f o ≡ p
+pub record WrittenBack (l : Level) (h : NwkHeader) (p key f o : List ℕ) : Type 0 where
+  pub marked : openFrame l key f o .answer .mark ≡ Mark.Clear
+  pub header : SameHeader h (openFrame l key f o .answer .header)
+  pub payload : handedBack l key f o ≡ p
 
 -- where writing accepts the header, which is within its types' ranges, and its security bit is off
 abbrev pub WrittenOpensClear : Type 0
 WrittenOpensClear =
-    (key : List ℕ) (h : NwkHeader) (p out o : List ℕ) → HeaderFits h → writeFrame h p out .answer .refusal ≡ 0
+    (l : Level) (key : List ℕ) (h : NwkHeader) (p out o : List ℕ) → isOther l ≡ false → HeaderFits h → writeFrame h p out .answer .refusal ≡ 0
     → h .«frame_control» .security ≡ false
-    → WrittenBack h p key (writtenBytes (writeFrame h p out)) o
+    → WrittenBack l h p key (writtenBytes (writeFrame h p out)) o

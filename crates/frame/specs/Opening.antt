@@ -1,4 +1,4 @@
--- Opening a frame (Zigbee Specification 4.3.1.2; `EncryptedNwkFrame::from_bytes` and `decrypt`). It uses the answer of reading
+-- Opening a frame at the network's level l (Zigbee Specification 4.3.1.2; `EncryptedNwkFrame::from_bytes` and `decrypt`). It uses the answer of reading
 -- the frame. A frame whose security bit is off is clear: its payload is a part of the frame, and the output stays
 -- (document 02, 3).
 -- Assumes nothing.
@@ -9,14 +9,15 @@ use lib.ListN.{length, take, drop}
 use lib.Dec.{ltb}
 use Rattle.octets.specs.Strings.{over}
 use Rattle.octets.specs.Refusals.{unless, Condition, on, by, firstOf}
-use Rattle.header.specs.declared.{auxiliary.NwkSecurityLevel.NwkSecurityLevel, nwk.NwkHeader.NwkHeader}
+use Rattle.header.specs.declared.nwk.NwkHeader.{NwkHeader}
 use Rattle.header.specs.Reading.{blankHeader}
-use Rattle.types.specs.declared.OptionEui64.{OptionEui64}
+use Rattle.types.specs.declared.{OptionEui64.OptionEui64, level.Level.Level}
+use Rattle.types.specs.Levels.{isOther, tagLength}
 use Rattle.ccm.specs.Verification.{Verified, decryptionVerification}
-use Rattle.ccm.specs.Operations.{micLength, ciphOf, ciphUnder}
+use Rattle.ccm.specs.Operations.{ciphOf, ciphUnder}
 use Rattle.frame.specs.declared.{OptionAuxHeader.OptionAuxHeader, FrameRead.FrameRead, Mark.Mark, FrameOpened.FrameOpened}
 use Rattle.frame.specs.Reading.{readFrame}
-use Rattle.frame.specs.Security.{networkLevel, orBlank, nonceIeee, noIeee, nonce, authenticated}
+use Rattle.frame.specs.Security.{orBlank, nonceIeee, noIeee, nonce, authenticated}
 
 -- the security bit: set in the header of a sealed frame, off in that of a clear one
 abbrev pub isSealed : NwkHeader → Bool
@@ -37,26 +38,27 @@ unfoldable pub micOf : ℕ → List ℕ → List ℕ
 micOf t s = lastOf t s
 
 -- what CCM makes of them, ciph being the cipher under the key
-unfoldable pub verified : NwkSecurityLevel → ℕ → (List ℕ → List ℕ) → List ℕ → FrameRead → Verified
-verified l t ciph f r =
-    decryptionVerification t ciph (nonce l (r .header) (orBlank (r .aux))) (authenticated l (r .header) (orBlank (r .aux)))
-    (ciphertextOf t (behind f r)) (micOf t (behind f r))
+unfoldable pub verified : Level → (List ℕ → List ℕ) → List ℕ → FrameRead → Verified
+verified l ciph f r =
+    decryptionVerification (tagLength l) ciph (nonce l (r .header) (orBlank (r .aux))) (authenticated l (r .header) (orBlank (r .aux)))
+    (ciphertextOf (tagLength l) (behind f r)) (micOf (tagLength l) (behind f r))
 
--- document 01's numbers 1 to 12 as reading gives them; then, if the frame is sealed, 15, 16 and 18, for the bytes behind
--- the headers
-unfoldable pub openRefusals : ℕ → ℕ → NwkHeader → OptionAuxHeader → ℕ → ℕ → List Condition
-openRefusals t number h a part room =
-    by number
+-- document 02's 29 for another level; document 01's numbers 1 to 12 as reading gives them; then, if the frame is sealed, 15, 16 and 18,
+-- for the bytes behind the headers
+unfoldable pub openRefusals : Level → ℕ → NwkHeader → OptionAuxHeader → ℕ → ℕ → List Condition
+openRefusals l number h a part room =
+    on 29 (isOther l)
+    ∷ by number
     ∷ on 15 (isSealed h && noIeee h (orBlank a))
-    ∷ on 16 (isSealed h && ltb part t)
-    ∷ on 18 (isSealed h && ltb room (part - t))
+    ∷ on 16 (isSealed h && ltb part (tagLength l))
+    ∷ on 18 (isSealed h && ltb room (part - tagLength l))
     ∷ []
 
 -- those, then 19, if the frame is sealed
-unfoldable pub openRefusal : NwkSecurityLevel → ℕ → (List ℕ → List ℕ) → List ℕ → FrameRead → ℕ → ℕ
-openRefusal l t ciph f r room =
-    firstOf (by (firstOf (openRefusals t (r .refusal) (r .header) (r .aux) (length (behind f r)) room))
-    ∷ on 19 (isSealed (r .header) && not (verified l t ciph f r .valid))
+unfoldable pub openRefusal : Level → (List ℕ → List ℕ) → List ℕ → FrameRead → ℕ → ℕ
+openRefusal l ciph f r room =
+    firstOf (by (firstOf (openRefusals l (r .refusal) (r .header) (r .aux) (length (behind f r)) room))
+    ∷ on 19 (isSealed (r .header) && not (verified l ciph f r .valid))
     ∷ [])
 
 -- the number alone: no mark and no address stand beside a refusal
@@ -92,20 +94,20 @@ openGiven f r v o = cond (isSealed (r .header)) (sealedGiven r v o) (clearGiven 
 abbrev pub openNothing : ℕ → List ℕ → Run
 openNothing n o = record { answer = openRefused n; out = o }
 
-unfoldable pub openBy : NwkSecurityLevel → ℕ → (List ℕ → List ℕ) → List ℕ → FrameRead → List ℕ → Run
-openBy l t ciph f r o =
-    unless (openRefusal l t ciph f r (length o)) (openGiven f r (verified l t ciph f r) o) (openNothing (openRefusal l t ciph f r (length o)) o)
+unfoldable pub openBy : Level → (List ℕ → List ℕ) → List ℕ → FrameRead → List ℕ → Run
+openBy l ciph f r o =
+    unless (openRefusal l ciph f r (length o)) (openGiven f r (verified l ciph f r) o) (openNothing (openRefusal l ciph f r (length o)) o)
 
-unfoldable pub openWith : (List ℕ → List ℕ) → List ℕ → List ℕ → Run
-openWith ciph f o = openBy networkLevel micLength ciph f (readFrame f) o
+unfoldable pub openWith : Level → (List ℕ → List ℕ) → List ℕ → List ℕ → Run
+openWith l ciph f o = openBy l ciph f (readFrame f) o
 
 -- opening under a key
-abbrev pub openFrame : List ℕ → List ℕ → List ℕ → Run
-openFrame key f o = openWith (ciphOf key) f o
+abbrev pub openFrame : Level → List ℕ → List ℕ → List ℕ → Run
+openFrame l key f o = openWith l (ciphOf key) f o
 
 -- the same under any eleven round keys; under those of a key it is `openFrame` (`cipher-is` in crates/ccm/proofs/RoundKeys.antt)
-abbrev pub openUnder : List (List (List ℕ)) → List ℕ → List ℕ → Run
-openUnder w f o = openWith (ciphUnder w) f o
+abbrev pub openUnder : Level → List (List (List ℕ)) → List ℕ → List ℕ → Run
+openUnder l w f o = openWith l (ciphUnder w) f o
 
 -- ---- the payload
 

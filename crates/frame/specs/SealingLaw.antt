@@ -1,12 +1,12 @@
 -- The sealing law (document 01, demand 3 and e), as two statements.
 --
--- First half. Whatever sealing accepts, opening exactly the bytes written, under the same key, into any output at least as
--- long as the payload, is accepted and marked sealed, and gives the same two headers, only the level now 0, and the same payload
--- bytes, no more and no fewer.
+-- First half. Whatever sealing accepts, at any level, opening exactly the bytes written, at that level and under the same key, into any
+-- output at least as long as the payload, is accepted and marked sealed, and gives the same two headers, only the level in them now 0,
+-- and the same payload bytes, no more and no fewer.
 --
 -- Second half. Whatever frame opening accepts and marks sealed, if its security control byte arrived with level and bit 7 zero
--- and its counter is not the last one, sealing afresh the two headers and payload bytes it returned, under that key into 118
--- bytes, is accepted and writes exactly that frame's bytes, no more and no fewer.
+-- and its counter is not the last one, sealing afresh the two headers and payload bytes it returned, at the level and under the key of
+-- opening into 118 bytes, is accepted and writes exactly that frame's bytes, no more and no fewer.
 --
 -- `FirstHalf` and `SecondHalf` say this below; proofs/SealingLaw.antt has a value of each. The premises `InRange` and
 -- `Below 256` only say what every value of a type has, that each number is within its type's range; the functions of
@@ -17,6 +17,7 @@ use Prim.Native.Nat.{ℕ, _≤_, _/_, _%_}
 use mathlib.Core.List.{List}
 use lib.ListN.{length, getD, take}
 use Rattle.octets.specs.Strings.{Below}
+use Rattle.types.specs.declared.level.Level.{Level}
 use Rattle.types.specs.Counters.{lastCounter}
 use Rattle.header.specs.declared.nwk.NwkHeader.{NwkHeader}
 use Rattle.header.specs.Reading.{readHeader}
@@ -53,8 +54,8 @@ levelZero (OptionAuxHeader.Present a) = OptionAuxHeader.Present (atLevel sentLev
 -- ---- the first half
 
 -- sealing into a frame's buffer, then opening the bytes written
-abbrev pub sealThenOpen : List ℕ → NwkHeader → OptionAuxHeader → List ℕ → List ℕ → List ℕ → opening.Run
-sealThenOpen key h a p out out₂ = openFrame key (bytesWritten (sealFrame key h a p out)) out₂
+abbrev pub sealThenOpen : Level → List ℕ → NwkHeader → OptionAuxHeader → List ℕ → List ℕ → List ℕ → opening.Run
+sealThenOpen l key h a p out out₂ = openFrame l key (bytesWritten (sealFrame l key h a p out)) out₂
 
 -- what opening r gives, of a frame sealed from the headers h and a and the payload p
 pub record Reopened (h : NwkHeader) (a : OptionAuxHeader) (p : List ℕ) (r : opening.Run) : Type 0 where
@@ -67,18 +68,18 @@ pub record Reopened (h : NwkHeader) (a : OptionAuxHeader) (p : List ℕ) (r : op
 
 abbrev pub FirstHalf : Type 0
 FirstHalf =
-    (key : List ℕ) (h : NwkHeader) (a : OptionAuxHeader) (p out out₂ : List ℕ)
+    (l : Level) (key : List ℕ) (h : NwkHeader) (a : OptionAuxHeader) (p out out₂ : List ℕ)
     → InRange h a
-    → sealFrame key h a p out .answer .refusal ≡ 0
+    → sealFrame l key h a p out .answer .refusal ≡ 0
     → length p ≤ length out₂
-    → Reopened h a p (sealThenOpen key h a p out out₂)
+    → Reopened h a p (sealThenOpen l key h a p out out₂)
 
 -- ---- the second half
 
 -- opening a frame, then sealing afresh the headers and the payload given
-abbrev pub openThenSeal : List ℕ → List ℕ → List ℕ → List ℕ → sealing.Run
-openThenSeal key f out out₂ =
-    sealFrame key (openFrame key f out .answer .header) (openFrame key f out .answer .aux) (payloadGiven (openFrame key f out)) out₂
+abbrev pub openThenSeal : Level → List ℕ → List ℕ → List ℕ → List ℕ → sealing.Run
+openThenSeal l key f out out₂ =
+    sealFrame l key (openFrame l key f out .answer .header) (openFrame l key f out .answer .aux) (payloadGiven (openFrame l key f out)) out₂
 
 -- the security control byte, the first behind the header, arrived with level and bit 7 zero
 pub record PlainControl (f : List ℕ) : Type 0 where
@@ -93,11 +94,11 @@ pub record Resealed (f : List ℕ) (s : sealing.Run) : Type 0 where
 
 abbrev pub SecondHalf : Type 0
 SecondHalf =
-    (key f out out₂ : List ℕ)
+    (l : Level) (key f out out₂ : List ℕ)
     → Below 256 f
-    → openFrame key f out .answer .refusal ≡ 0
-    → openFrame key f out .answer .mark ≡ Mark.Sealed
+    → openFrame l key f out .answer .refusal ≡ 0
+    → openFrame l key f out .answer .mark ≡ Mark.Sealed
     → PlainControl f
-    → (counterOf (openFrame key f out .answer .aux) ≡ lastCounter → ⊥)
+    → (counterOf (openFrame l key f out .answer .aux) ≡ lastCounter → ⊥)
     → length out₂ ≡ 118
-    → Resealed f (openThenSeal key f out out₂)
+    → Resealed f (openThenSeal l key f out out₂)

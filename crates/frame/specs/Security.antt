@@ -1,22 +1,26 @@
 -- What sealing and opening share (Zigbee Specification 4.3.1.1, 4.3.1.2 and 4.5.2): the network's level in the auxiliary
--- header, the nonce and the authenticated bytes. The level l and the tag's length t are parameters; the codec's are 5 and 4.
+-- header, the nonce and the authenticated bytes.
 -- Assumes nothing.
 use Prim.Native.Nat.{ℕ}
 use mathlib.Core.Bool.{Bool, true, false, not, _||_}
 use mathlib.Core.List.{List, _++_}
 use Rattle.octets.specs.Numbers.{le}
 use Rattle.header.specs.declared.{auxiliary.NwkSecurityLevel.NwkSecurityLevel, auxiliary.NwkAuxHeader.NwkAuxHeader, nwk.NwkHeader.NwkHeader}
-use Rattle.types.specs.declared.OptionEui64.{OptionEui64}
+use Rattle.types.specs.declared.{OptionEui64.OptionEui64, level.Level.Level}
 use Rattle.types.specs.Optional.{hasIeee}
 use Rattle.header.specs.AuxiliaryControl.{securityByte, withLevel}
 use Rattle.header.specs.Auxiliary.{auxBytes, blankAux}
 use Rattle.header.specs.Writing.{headerBytes}
 use Rattle.frame.specs.declared.OptionAuxHeader.{OptionAuxHeader}
 
--- the network's security level, and the level that is sent in its place
-abbrev pub networkLevel : NwkSecurityLevel
-networkLevel = NwkSecurityLevel.EncMic32
+-- the network's level in the security control field (document 02, 9); another level is in no frame
+abbrev pub fieldLevel : Level → NwkSecurityLevel
+fieldLevel Level.EncMic32 = NwkSecurityLevel.EncMic32
+fieldLevel Level.EncMic64 = NwkSecurityLevel.EncMic64
+fieldLevel Level.EncMic128 = NwkSecurityLevel.EncMic128
+fieldLevel Level.Other = NwkSecurityLevel.NoSecurity
 
+-- the level that is sent in its place
 abbrev pub sentLevel : NwkSecurityLevel
 sentLevel = NwkSecurityLevel.NoSecurity
 
@@ -55,10 +59,10 @@ abbrev pub noIeee : NwkHeader → NwkAuxHeader → Bool
 noIeee h a = not (hasIeee (a .«extended_source») || hasIeee (h .«source_ieee»))
 
 -- 4.5.2.2: source address, frame counter, security control with the network's level
-unfoldable pub nonce : NwkSecurityLevel → NwkHeader → NwkAuxHeader → List ℕ
+unfoldable pub nonce : Level → NwkHeader → NwkAuxHeader → List ℕ
 nonce l h a =
-    le 8 (ieeeOf (a .«extended_source») (h .«source_ieee»)) ++ (le 4 (a .«frame_counter») ++ le 1 (securityByte (withLevel (a .«security_control») l)))
+    le 8 (ieeeOf (a .«extended_source») (h .«source_ieee»)) ++ (le 4 (a .«frame_counter») ++ le 1 (securityByte (withLevel (a .«security_control») (fieldLevel l))))
 
 -- the authenticated bytes: both headers, with the network's level
-unfoldable pub authenticated : NwkSecurityLevel → NwkHeader → NwkAuxHeader → List ℕ
-authenticated l h a = headerBytes h ++ auxBytes (atLevel l a)
+unfoldable pub authenticated : Level → NwkHeader → NwkAuxHeader → List ℕ
+authenticated l h a = headerBytes h ++ auxBytes (atLevel (fieldLevel l) a)

@@ -8,6 +8,7 @@ use header::auxiliary::NwkSecurityLevel;
 use header::nwk::NwkHeader;
 use octets::refusals;
 use types::Key;
+use types::level::Level;
 ghost use mathlib.Core.Path.{_≡_};
 ghost use mathlib.Core.Bool.{false};
 ghost use mathlib.Core.List.{_++_};
@@ -15,16 +16,16 @@ ghost use Prim.Native.Nat.{_+_, _≤_, _<_};
 ghost use lib.ListN.{length};
 ghost use Rattle.octets.specs.Strings.{over};
 ghost use Rattle.header.specs.Writing.{badHeader};
-ghost use Rattle.ccm.specs.Operations.{micLength, sealedBy};
-ghost use Rattle.frame.specs.Security.{networkLevel};
+ghost use Rattle.types.specs.Levels.{tagLength};
+ghost use Rattle.ccm.specs.Operations.{sealedBy};
 ghost use Rattle.frame.specs.Sealing.{sealedLength, sealedBytes, headersRefusal, sealRefusal, sealRefused, sealFrame};
 
 // The frame's length, for n bytes of payload.
-fn sealed_length(h: NwkHeader, aux: NwkAuxHeader, n: usize) -> usize
+fn sealed_length(level: Level, h: NwkHeader, aux: NwkAuxHeader, n: usize) -> usize
     requires { ⌜ n < 4096 ⌝ }
-    ensures { λ r. ⌜ r ≡ sealedLength micLength h aux n ⌝ }
+    ensures { λ r. ⌜ r ≡ sealedLength level h aux n ⌝ }
 {
-    h.size() + aux.size() + ccm::MIC_LENGTH + n
+    h.size() + aux.size() + level.tag_length() + n
 }
 
 // The first of the two headers' refusals, 13, 28, 14, 28 and 15, that holds, or 0. The first 28 is for the header's bits, bit 9
@@ -42,14 +43,16 @@ fn headers_refusal(h: NwkHeader, aux: OptionAuxHeader) -> u8
     octets::refuse(r, refusals::NO_IEEE, no_ieee)
 }
 
-// The first of the refusals 13, 28, 14, 28, 15, 21, 17 and 18 that holds for n bytes of payload, or 0.
-fn seal_refusal(h: NwkHeader, aux: OptionAuxHeader, n: usize, room: usize) -> u8
-    ensures { λ r. ⌜ r ≡ sealRefusal micLength h aux n room ⌝ }
+// The first of the refusals 29, 13, 28, 14, 28, 15, 21, 17 and 18 that holds for n bytes of payload, or 0.
+fn seal_refusal(level: Level, h: NwkHeader, aux: OptionAuxHeader, n: usize, room: usize) -> u8
+    ensures { λ r. ⌜ r ≡ sealRefusal level h aux n room ⌝ }
 {
     let present = aux.or_blank();
-    let front = h.size() + present.size() + ccm::MIC_LENGTH;
+    let front = h.size() + present.size() + level.tag_length();
     let last = present.frame_counter == types::LAST_COUNTER;
-    let r = octets::refuse(headers_refusal(h, aux), refusals::LAST_COUNTER, last);
+    let r = octets::refuse(0, refusals::LEVEL, level.is_other());
+    let r = octets::or_else(r, headers_refusal(h, aux));
+    let r = octets::refuse(r, refusals::LAST_COUNTER, last);
     length_refusal(r, front, n, room)
 }
 
@@ -64,6 +67,7 @@ impl FrameSealed {
 
 // Write ciphertext and MIC at the place start.
 fn put_sealed(
+    level: Level,
     key: [u8; 16],
     nonce: [u8; 13],
     auth: &[u8],
@@ -71,20 +75,28 @@ fn put_sealed(
     out: &mut [u8],
     start: usize,
 )
-    requires { ⌜ (length (now auth) ≤ 127) × (length (now payload) ≤ 127) × (start + length (now payload) + 4 ≤ length (now out)) ⌝ }
-    ensures { λ _. ⌜ now (out .exit) ≡ over (now (out .entry)) start (sealedBy micLength key nonce (now (auth .entry)) (now (payload .entry)) .ciphertext ++ sealedBy micLength key nonce (now (auth .entry)) (now (payload .entry)) .tag) ⌝ }
+    requires { ⌜ (2 ≤ tagLength level) × (length (now auth) ≤ 127) × (length (now payload) ≤ 127) × (start + length (now payload) + tagLength level ≤ length (now out)) ⌝ }
+    ensures { λ _. ⌜ now (out .exit) ≡ over (now (out .entry)) start (sealedBy (tagLength level) key nonce (now (auth .entry)) (now (payload .entry)) .ciphertext ++ sealedBy (tagLength level) key nonce (now (auth .entry)) (now (payload .entry)) .tag) ⌝ }
 {
-    let mic = ccm::seal(key, nonce, auth, payload, &mut out[start..]);
-    octets::copy_at(out, start + payload.len(), &mic);
+    let mic = ccm::seal(level, key, nonce, auth, payload, &mut out[start..]);
+    let tag = level.tag_length();
+    octets::copy_at(out, start + payload.len(), &mic[..tag]);
 }
 
 // Seal a frame that meets no refusal.
-fn seal_frame(key: [u8; 16], h: NwkHeader, aux: NwkAuxHeader, payload: &[u8], out: &mut [u8])
-    requires { ⌜ (badHeader h ≡ false) × (length (now payload) ≤ 108) × (sealedLength micLength h aux (length (now payload)) ≤ 118) × (sealedLength micLength h aux (length (now payload)) ≤ length (now out)) ⌝ }
-    ensures { λ _. ⌜ now (out .exit) ≡ over (now (out .entry)) 0 (sealedBytes networkLevel micLength key h aux (now (payload .entry))) ⌝ }
+fn seal_frame(
+    level: Level,
+    key: [u8; 16],
+    h: NwkHeader,
+    aux: NwkAuxHeader,
+    payload: &[u8],
+    out: &mut [u8],
+)
+    requires { ⌜ (2 ≤ tagLength level) × (badHeader h ≡ false) × (length (now payload) ≤ 108) × (sealedLength level h aux (length (now payload)) ≤ 118) × (sealedLength level h aux (length (now payload)) ≤ length (now out)) ⌝ }
+    ensures { λ _. ⌜ now (out .exit) ≡ over (now (out .entry)) 0 (sealedBytes level key h aux (now (payload .entry))) ⌝ }
 {
-    let nonce = security::nonce_of(h, aux, NwkSecurityLevel::EncMic32);
-    let auth = security::both_headers(h, security::at_level(aux, NwkSecurityLevel::EncMic32));
+    let nonce = security::nonce_of(level, h, aux);
+    let auth = security::both_headers(h, security::at_level(aux, security::field_level(level)));
     let header = h.size();
     let start = header + aux.size();
     security::put_behind(
@@ -92,28 +104,29 @@ fn seal_frame(key: [u8; 16], h: NwkHeader, aux: NwkAuxHeader, payload: &[u8], ou
         security::at_level(aux, NwkSecurityLevel::NoSecurity),
         out,
     );
-    put_sealed(key, nonce, &auth[..start], payload, out, start);
+    put_sealed(level, key, nonce, &auth[..start], payload, out, start);
 }
 
-// Seal a frame (`NwkFrame::serialize` with a key); refusals 13, 28, 14, 28, 15, 21, 17 and 18, which change
-// nothing.
+// Seal a frame (`NwkFrame::serialize` with a key); refusals 29, 13, 28, 14, 28, 15, 21, 17 and 18, which
+// change nothing.
 pub fn seal(
+    level: Level,
     key: Key,
     h: NwkHeader,
     aux: OptionAuxHeader,
     payload: &[u8],
     out: &mut [u8],
 ) -> FrameSealed
-    ensures answer { λ r. ⌜ r ≡ sealFrame (key .0) h aux (now (payload .entry)) (now (out .entry)) .answer ⌝ }
-    ensures buffer { λ _. ⌜ now (out .exit) ≡ sealFrame (key .0) h aux (now (payload .entry)) (now (out .entry)) .out ⌝ }
+    ensures answer { λ r. ⌜ r ≡ sealFrame level (key .0) h aux (now (payload .entry)) (now (out .entry)) .answer ⌝ }
+    ensures buffer { λ _. ⌜ now (out .exit) ≡ sealFrame level (key .0) h aux (now (payload .entry)) (now (out .entry)) .out ⌝ }
 {
-    let refusal = seal_refusal(h, aux, payload.len(), out.len());
+    let refusal = seal_refusal(level, h, aux, payload.len(), out.len());
     if refusal != 0 {
         return FrameSealed::refused(refusal);
     }
     let present = aux.or_blank();
     let bytes = key.0;
-    let length = sealed_length(h, present, payload.len());
-    seal_frame(bytes, h, present, payload, out);
+    let length = sealed_length(level, h, present, payload.len());
+    seal_frame(level, bytes, h, present, payload, out);
     FrameSealed { refusal: 0, length }
 }

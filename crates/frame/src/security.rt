@@ -3,6 +3,7 @@ use header::auxiliary::NwkAuxHeader;
 use header::auxiliary::NwkSecurityLevel;
 use header::nwk::NwkHeader;
 use types::OptionEui64;
+use types::level::Level;
 ghost use mathlib.Core.Path.{_≡_};
 ghost use mathlib.Core.Bool.{false};
 ghost use mathlib.Core.List.{_++_};
@@ -12,7 +13,19 @@ ghost use Rattle.octets.specs.Strings.{over};
 ghost use Rattle.octets.specs.Numbers.{le};
 ghost use Rattle.header.specs.Auxiliary.{auxBytes};
 ghost use Rattle.header.specs.Writing.{badHeader, headerBytes};
-ghost use Rattle.frame.specs.Security.{atLevel, ieeeOf, noIeee, nonce};
+ghost use Rattle.frame.specs.Security.{fieldLevel, atLevel, ieeeOf, noIeee, nonce};
+
+// The network's level as the security control field has it.
+pub fn field_level(level: Level) -> NwkSecurityLevel
+    ensures { λ r. ⌜ r ≡ fieldLevel level ⌝ }
+{
+    match level {
+        Level::EncMic32 => NwkSecurityLevel::EncMic32,
+        Level::EncMic64 => NwkSecurityLevel::EncMic64,
+        Level::EncMic128 => NwkSecurityLevel::EncMic128,
+        Level::Other => NwkSecurityLevel::NoSecurity,
+    }
+}
 
 // The auxiliary header with another level.
 pub fn at_level(aux: NwkAuxHeader, level: NwkSecurityLevel) -> NwkAuxHeader
@@ -62,14 +75,14 @@ fn nonce_bytes(ieee: u64, counter: u32, control: u8) -> [u8; 13]
 }
 
 // The nonce, with the network's level.
-pub fn nonce_of(h: NwkHeader, aux: NwkAuxHeader, level: NwkSecurityLevel) -> [u8; 13]
+pub fn nonce_of(level: Level, h: NwkHeader, aux: NwkAuxHeader) -> [u8; 13]
     ensures { λ r. ⌜ r ≡ nonce level h aux ⌝ }
 {
     let extended_source = aux.extended_source;
     let header_ieee = h.source_ieee;
     let security_control = aux.security_control;
     let ieee = source_ieee(extended_source, header_ieee);
-    let control = security_control.with_level(level).to_byte();
+    let control = security_control.with_level(field_level(level)).to_byte();
     nonce_bytes(ieee, aux.frame_counter, control)
 }
 

@@ -20,6 +20,7 @@ use frame::OptionAuxHeader;
 use header::nwk::NwkHeader;
 use types::Key;
 use types::OptionEui64;
+use types::level::Level;
 
 // Whether word k of a line is a mark.
 fn is_mark(line: &[u8], k: usize) -> bool {
@@ -96,7 +97,7 @@ fn opens(
     out: &mut [u8],
 ) -> bool {
     let r = file::within(room, out);
-    let o = frame::opening::open(Key(key), bytes, &mut out[..r]);
+    let o = frame::opening::open(Level::EncMic32, Key(key), bytes, &mut out[..r]);
     if o.refusal as usize != refusal {
         return false;
     }
@@ -174,13 +175,13 @@ pub fn check_open(line: &[u8]) -> Line {
 // A case of splitting a ciphertext and its MIC; beside a refusal the MIC is 0.
 pub fn check_split(line: &[u8]) -> Line {
     let mut bytes = [0u8; 256];
-    let mut mic = [0u8; 4];
+    let mut mic = [0u8; 16];
     let b = field(line, 1, &mut bytes);
     let refusal = words::number(line, 2);
     let length = words::number(line, 3);
     let m = field(line, 4, &mut mic);
     let n = b.n;
-    let s = ccm::split_mic(&bytes[..n]);
+    let s = ccm::split_mic(Level::EncMic32, &bytes[..n]);
     let given = s.mic;
     let good = words::is_last(line, 4) && b.good && refusal < 1000 && length < 1000 && whole(m, 4);
     shown(

@@ -15,6 +15,7 @@ use frame::OptionAuxHeader;
 use records::auxiliary_record;
 use records::header_record::header_of;
 use types::Key;
+use types::level::Level;
 ghost use mathlib.Core.Path.{_≡_};
 ghost use lib.ListN.{length};
 
@@ -90,6 +91,7 @@ fn seals(
 {
     let r = file::within(room, out);
     let w = frame::sealing::seal(
+        Level::EncMic32,
         Key(key),
         header_of(header),
         aux_of(aux),

@@ -11,10 +11,10 @@ use lib.Dec.{ltb}
 use lib.ListN.{length}
 use Rattle.octets.specs.Refusals.{on, by, firstOf}
 use Rattle.octets.proofs.Conditions.{refused, stop, skip, stop-by, skip-by, empty}
-use Rattle.ccm.specs.Operations.{micLength, ciphOf}
+use Rattle.types.specs.declared.level.Level.{Level}
+use Rattle.ccm.specs.Operations.{ciphOf}
 use Rattle.frame.specs.declared.FrameOpened.{FrameOpened}
 use Rattle.frame.specs.Reading.{readFrame}
-use Rattle.frame.specs.Security.{networkLevel}
 use Rattle.frame.specs.Opening.{Run, openRefusal, openBy, openWith, openFrame}
 use Rattle.frame.proofs.Accepted as frames
 use Rattle.nwk.specs.Frames.{readFrameRefusal, openNumber, wrongMic, openRecordRefusal}
@@ -38,35 +38,35 @@ module _ (f : List ℕ) (h a : ℕ) where
 
 -- ---- opening
 
-module _ (key f : List ℕ) (x room : ℕ) where
+module _ (l : Level) (key f : List ℕ) (x room : ℕ) where
   -- refused where the record has too little room: 18, unless a number that needs no key holds
-  pub open-short : (k : ℕ) → k ≡ firstOf (by (openNumber f room) ∷ on 18 true ∷ []) → x < 182 → (k ≡ openRecordRefusal key f x room) × (k ≡ 0 → ⊥)
+  pub open-short : (k : ℕ) → k ≡ firstOf (by (openNumber l f room) ∷ on 18 true ∷ []) → x < 182 → (k ≡ openRecordRefusal l key f x room) × (k ≡ 0 → ⊥)
   unfolding openRecordRefusal
   open-short k e s =
-      elim (ℕ-discrete (openNumber f room) 0) [
+      elim (ℕ-discrete (openNumber l f room) 0) [
         | yes z ↦
-            let n = e ∙ skip-by (openNumber f room) _ z ∙ stop 18 true [] refl in
-            (n ∙ sym (skip-by (openNumber f room) _ z ∙ stop 18 (ltb x 182) _ (lt-ltb x 182 s)), λ (q : k ≡ 0). omega arith)
+            let n = e ∙ skip-by (openNumber l f room) _ z ∙ stop 18 true [] refl in
+            (n ∙ sym (skip-by (openNumber l f room) _ z ∙ stop 18 (ltb x 182) _ (lt-ltb x 182 s)), λ (q : k ≡ 0). omega arith)
         | no h ↦
-            let n = e ∙ stop-by (openNumber f room) _ h in
-            (n ∙ sym (stop-by (openNumber f room) _ h), λ (q : k ≡ 0). h (sym n ∙ q))
+            let n = e ∙ stop-by (openNumber l f room) _ h in
+            (n ∙ sym (stop-by (openNumber l f room) _ h), λ (q : k ≡ 0). h (sym n ∙ q))
       ]
 
 -- with room for the record the number is opening's own
-pub open-number : (key f o : List ℕ) (x : ℕ) → 182 ≤ x → openRecordRefusal key f x (length o) ≡ openRefusal networkLevel micLength (ciphOf key) f (readFrame f) (length o)
+pub open-number : (l : Level) (key f o : List ℕ) (x : ℕ) → 182 ≤ x → openRecordRefusal l key f x (length o) ≡ openRefusal l (ciphOf key) f (readFrame f) (length o)
 unfolding openRecordRefusal openRefusal openNumber wrongMic
-open-number key f o x l =
-    elim (ℕ-discrete (openNumber f (length o)) 0) [
-      | yes z ↦ skip-by (openNumber f (length o)) _ z ∙ skip 18 (ltb x 182) _ (le-ltb x 182 l) ∙ sym (skip-by (openNumber f (length o)) _ z)
-      | no h ↦ stop-by (openNumber f (length o)) _ h ∙ sym (stop-by (openNumber f (length o)) _ h)
+open-number l key f o x h =
+    elim (ℕ-discrete (openNumber l f (length o)) 0) [
+      | yes z ↦ skip-by (openNumber l f (length o)) _ z ∙ skip 18 (ltb x 182) _ (le-ltb x 182 h) ∙ sym (skip-by (openNumber l f (length o)) _ z)
+      | no k ↦ stop-by (openNumber l f (length o)) _ k ∙ sym (stop-by (openNumber l f (length o)) _ k)
     ]
 
 -- the number beside what opening answers
-pub opened-number : (key f o : List ℕ) (r : FrameOpened) → r ≡ openFrame key f o .answer → r .refusal ≡ openRefusal networkLevel micLength (ciphOf key) f (readFrame f) (length o)
+pub opened-number : (l : Level) (key f o : List ℕ) (r : FrameOpened) → r ≡ openFrame l key f o .answer → r .refusal ≡ openRefusal l (ciphOf key) f (readFrame f) (length o)
 unfolding openWith
-opened-number key f o r e = (λ i. e i .refusal) ∙ frames.open-number networkLevel micLength (ciphOf key) f (readFrame f) o
+opened-number l key f o r e = (λ i. e i .refusal) ∙ frames.open-number l (ciphOf key) f (readFrame f) o
 
 -- a refusal leaves the output
-pub open-leaves : (key f o : List ℕ) → (openRefusal networkLevel micLength (ciphOf key) f (readFrame f) (length o) ≡ 0 → ⊥) → openFrame key f o .out ≡ o
+pub open-leaves : (l : Level) (key f o : List ℕ) → (openRefusal l (ciphOf key) f (readFrame f) (length o) ≡ 0 → ⊥) → openFrame l key f o .out ≡ o
 unfolding openWith openBy
-open-leaves key f o h = ap (λ (r : Run). r .out) (refused (openRefusal networkLevel micLength (ciphOf key) f (readFrame f) (length o)) _ _ h)
+open-leaves l key f o h = ap (λ (r : Run). r .out) (refused (openRefusal l (ciphOf key) f (readFrame f) (length o)) _ _ h)

@@ -20,7 +20,8 @@ use Rattle.octets.proofs.Conditions.{accepted, none, none-refuse, number-below,
 use Rattle.types.specs.Addresses.{noNwk}
 use Rattle.types.specs.Counters.{lastCounter}
 use Rattle.types.specs.Keys.{keyBytes}
-use Rattle.types.specs.declared.Nwk.{Nwk}
+use Rattle.types.specs.Levels.{networkLevel, isOther}
+use Rattle.types.specs.declared.{Nwk.Nwk, level.Level.Level}
 use Rattle.header.specs.declared.{auxiliary.NwkAuxHeader.NwkAuxHeader, nwk.NwkHeader.NwkHeader}
 use Rattle.header.specs.Reading.{headerRefusal, optionalRefusals, readHeader}
 use Rattle.header.specs.Auxiliary.{auxRefusal, readAux, blankAux}
@@ -29,10 +30,10 @@ use Rattle.header.specs.Same.{cleared, HeaderFits, AuxFits}
 use Rattle.header.proofs.ReadBack.{same-cleared}
 use Rattle.header.proofs.ReadFacts.{header-number, aux-number}
 use Rattle.header.proofs.ReadFits.{ieee-fits, multicast-fits, route-fits, relays-fit, aux-read-fits}
-use Rattle.ccm.specs.Operations.{micLength, ciphOf}
+use Rattle.ccm.specs.Operations.{ciphOf}
 use Rattle.frame.specs.declared.{OptionAuxHeader.OptionAuxHeader, Mark.Mark, FrameOpened.FrameOpened}
 use Rattle.frame.specs.Reading.{secured, auxIf, auxBehind, frameRefusal, frameNumber, readFrame}
-use Rattle.frame.specs.Security.{networkLevel, sentLevel, orBlank}
+use Rattle.frame.specs.Security.{sentLevel, orBlank}
 use Rattle.frame.specs.Writing.{lengthRefusals}
 use Rattle.frame.specs.Sealing.{sealedBytes, headersRefusal, sealRefusals, sealRefusal, counterOf, sealFrame}
 use Rattle.frame.specs.Opening as opening
@@ -44,7 +45,7 @@ use Rattle.frame.proofs.Levels.{level-fits}
 use Rattle.frame.proofs.FirstHalf as first-half-proofs
 use Rattle.frame.proofs.SealingLaw as frame-law
 use Rattle.frame.proofs.Marks.{marked-if-accepted}
-use Rattle.frame.proofs.Opened.{open-long}
+use Rattle.frame.proofs.Opened.{open-level, open-long}
 use Rattle.records.specs.HeaderRecord.{headerRecord, relaysFrom, headerOf, badHeaderRecord}
 use Rattle.records.specs.AuxiliaryRecord.{auxPresent, auxOf, badAuxRecord}
 use Rattle.records.specs.Optional.{ieeeIn, multicastIn, routeIn}
@@ -67,11 +68,11 @@ unfolding headersRefusal fieldRefusal
 headers-below h a =
     number-below 256 _ (omega arith) (number-below 256 _ (omega arith) (refl, (refl, tt)), (refl, (refl, (refl, (refl, tt)))))
 
-seal-below : (r x : List ℕ) (n room : ℕ) → sealRecordsRefusal r x n room < 256
+seal-below : (l : Level) (r x : List ℕ) (n room : ℕ) → sealRecordsRefusal l r x n room < 256
 unfolding sealRecordsRefusal sealRefusal sealRefusals lengthRefusals
-seal-below r x n room =
+seal-below l r x n room =
     number-below 256 _ (omega arith)
-    (refl, (refl, (number-below 256 _ (omega arith) (headers-below (headerOf r) (optionOf x), (refl, (refl, (refl, tt)))), tt)))
+    (refl, (refl, (refl, (number-below 256 _ (omega arith) (refl, (headers-below (headerOf r) (optionOf x), (refl, (refl, (refl, tt))))), tt))))
 
 header-below : (f : List ℕ) → readHeader f .refusal < 256
 unfolding headerRefusal optionalRefusals
@@ -92,10 +93,10 @@ read-below f =
     rw (frame-refusal f h (auxBehind f h))
     (number-below 256 _ (omega arith) (header-below f, (counted-below (secured h) _ (aux-below (drop (h .length) f)), (refl, tt))))
 
-open-below : (key f : List ℕ) (x room : ℕ) → openRecordRefusal key f x room < 256
+open-below : (l : Level) (key f : List ℕ) (x room : ℕ) → openRecordRefusal l key f x room < 256
 unfolding openRecordRefusal openNumber openRefusals
-open-below key f x room =
-    number-below 256 _ (omega arith) (number-below 256 _ (omega arith) (read-below f, (refl, (refl, (refl, tt)))), (refl, (refl, tt)))
+open-below l key f x room =
+    number-below 256 _ (omega arith) (number-below 256 _ (omega arith) (refl, (read-below f, (refl, (refl, (refl, tt))))), (refl, (refl, tt)))
 
 -- so an answer that says no refusal is of a call that was not refused
 refusal-none : (n a : ℕ) → n < 256 → refusalIn (unless n a (answer n 0)) ≡ 0 → n ≡ 0
@@ -202,52 +203,52 @@ module _ (w : List ℕ) (a : FrameOpened) where
 
 -- ---- nwk_open by opening
 
-pub record OpenedOver (key f w o : List ℕ) : Type 0 where
-  pub answered : openAnswer key f w o ≡ openedAnswer (openFrame key f o .answer .mark) (openFrame key f o .answer .length)
-  pub recorded : openRecord key f w o ≡ over w 0 (openedRecord (openFrame key f o .answer))
-  pub left : openOutput key f w o ≡ openFrame key f o .out
+pub record OpenedOver (l : Level) (key f w o : List ℕ) : Type 0 where
+  pub answered : openAnswer l key f w o ≡ openedAnswer (openFrame l key f o .answer .mark) (openFrame l key f o .answer .length)
+  pub recorded : openRecord l key f w o ≡ over w 0 (openedRecord (openFrame l key f o .answer))
+  pub left : openOutput l key f w o ≡ openFrame l key f o .out
 
-opened-over : (key f w o : List ℕ) → openRecordRefusal key f (length w) (length o) ≡ 0 → OpenedOver key f w o
-opened-over key f w o e = record { answered = accepted _ _ _ e; recorded = accepted _ _ _ e; left = accepted _ _ _ e }
+opened-over : (l : Level) (key f w o : List ℕ) → openRecordRefusal l key f (length w) (length o) ≡ 0 → OpenedOver l key f w o
+opened-over l key f w o e = record { answered = accepted _ _ _ e; recorded = accepted _ _ _ e; left = accepted _ _ _ e }
 
-open-accepts : (key f w o : List ℕ) → 182 ≤ length w → openFrame key f o .answer .refusal ≡ 0 → openRecordRefusal key f (length w) (length o) ≡ 0
-open-accepts key f w o room e = open-number key f o (length w) room ∙ sym (opened-number key f o _ refl) ∙ e
+open-accepts : (l : Level) (key f w o : List ℕ) → 182 ≤ length w → openFrame l key f o .answer .refusal ≡ 0 → openRecordRefusal l key f (length w) (length o) ≡ 0
+open-accepts l key f w o room e = open-number l key f o (length w) room ∙ sym (opened-number l key f o _ refl) ∙ e
 
-open-accepted : (key f w o : List ℕ) → openRecordRefusal key f (length w) (length o) ≡ 0 → (182 ≤ length w) × (openFrame key f o .answer .refusal ≡ 0)
+open-accepted : (l : Level) (key f w o : List ℕ) → openRecordRefusal l key f (length w) (length o) ≡ 0 → (182 ≤ length w) × (openFrame l key f o .answer .refusal ≡ 0)
 unfolding openRecordRefusal
-open-accepted key f w o e =
+open-accepted l key f w o e =
     let room : 182 ≤ length w = ltb-false (length w) 182 (none _ e .1 .0) in
-    (room, opened-number key f o _ refl ∙ sym (open-number key f o (length w) room) ∙ e)
+    (room, opened-number l key f o _ refl ∙ sym (open-number l key f o (length w) room) ∙ e)
 
 -- ---- nwk_seal by sealing
 
 -- records that are not bad: the number is the frame's own
-seal-good : (r x : List ℕ) (n room : ℕ) → badHeaderRecord r ≡ false → badAuxRecord x ≡ false
-    → sealRecordsRefusal r x n room ≡ sealRefusal micLength (headerOf r) (optionOf x) n room
+seal-good : (l : Level) (r x : List ℕ) (n room : ℕ) → isOther l ≡ false → badHeaderRecord r ≡ false → badAuxRecord x ≡ false
+    → sealRecordsRefusal l r x n room ≡ sealRefusal l (headerOf r) (optionOf x) n room
 unfolding sealRecordsRefusal
-seal-good r x n room h a = skip 13 _ _ h ∙ skip 13 _ _ a ∙ sym (single _)
+seal-good l r x n room level h a = skip 29 _ _ level ∙ skip 13 _ _ h ∙ skip 13 _ _ a ∙ sym (single _)
 
 -- the frame that was sealed fits 118 bytes
-sealed-short : (key r x p : List ℕ) (room : ℕ) → sealRefusal micLength (headerOf r) (optionOf x) (length p) room ≡ 0 → length (sealedRecords key r x p) ≤ 118
+sealed-short : (l : Level) (key r x p : List ℕ) (room : ℕ) → sealRefusal l (headerOf r) (optionOf x) (length p) room ≡ 0 → length (sealedRecords l key r x p) ≤ 118
 unfolding sealedRecords
-sealed-short key r x p room e =
-    rw (first-half-proofs.sealed-length networkLevel micLength key (headerOf r) (orBlank (optionOf x)) p)
-    (frame-law.seal-able (headerOf r) (optionOf x) (length p) room e .whole)
+sealed-short l key r x p room e =
+    rw (first-half-proofs.sealed-length l key (headerOf r) (orBlank (optionOf x)) p)
+    (frame-law.seal-able l (headerOf r) (optionOf x) (length p) room e .whole)
 
 -- what nwk_seal answers and leaves of records that it accepts
-pub record SealedOver (key r x p o : List ℕ) : Type 0 where
-  pub accepted : refusalIn (sealAnswer key r x p o) ≡ 0
-  pub length : lengthIn (sealAnswer key r x p o) ≡ length (sealedRecords key r x p)
-  pub left : sealOutput key r x p o ≡ over o 0 (sealedRecords key r x p)
-  pub bytes : bytesSealed key r x p o ≡ sealedRecords key r x p
+pub record SealedOver (l : Level) (key r x p o : List ℕ) : Type 0 where
+  pub accepted : refusalIn (sealAnswer l key r x p o) ≡ 0
+  pub length : lengthIn (sealAnswer l key r x p o) ≡ length (sealedRecords l key r x p)
+  pub left : sealOutput l key r x p o ≡ over o 0 (sealedRecords l key r x p)
+  pub bytes : bytesSealed l key r x p o ≡ sealedRecords l key r x p
 
-sealed-over : (key r x p o : List ℕ) → sealRecordsRefusal r x (length p) (length o) ≡ 0 → length (sealedRecords key r x p) ≤ 118 → SealedOver key r x p o
+sealed-over : (l : Level) (key r x p o : List ℕ) → sealRecordsRefusal l r x (length p) (length o) ≡ 0 → length (sealedRecords l key r x p) ≤ 118 → SealedOver l key r x p o
 unfolding answer
-sealed-over key r x p o e short =
-    let bs = sealedRecords key r x p in
-    let said : sealAnswer key r x p o ≡ answer 0 (length bs) = accepted _ _ _ e in
-    let size : lengthIn (sealAnswer key r x p o) ≡ length bs = ap lengthIn said ∙ answer-length 0 (length bs) (omega arith) in
-    let left : sealOutput key r x p o ≡ over o 0 bs = accepted _ _ _ e in
+sealed-over l key r x p o e short =
+    let bs = sealedRecords l key r x p in
+    let said : sealAnswer l key r x p o ≡ answer 0 (length bs) = accepted _ _ _ e in
+    let size : lengthIn (sealAnswer l key r x p o) ≡ length bs = ap lengthIn said ∙ answer-length 0 (length bs) (omega arith) in
+    let left : sealOutput l key r x p o ≡ over o 0 bs = accepted _ _ _ e in
     record {
       accepted = ap refusalIn said ∙ omega arith;
       length = size;
@@ -258,15 +259,15 @@ sealed-over key r x p o e short =
 -- ---- the first half
 
 -- nwk_open of a frame that was sealed from the headers h and a and the payload p
-sealed-then-opened : (key : List ℕ) (h : NwkHeader) (a : OptionAuxHeader) (p : List ℕ) (isLast : Bool) (room : ℕ) (out : List ℕ)
-    → frames.InRange h a → Sealable isLast micLength h a (length p) room → length p ≤ length out
-    → let r = openFrame key (sealedBytes networkLevel micLength key h (orBlank a) p) out in
+sealed-then-opened : (l : Level) (key : List ℕ) (h : NwkHeader) (a : OptionAuxHeader) (p : List ℕ) (isLast : Bool) (room : ℕ) (out : List ℕ)
+    → frames.InRange h a → Sealable isLast l h a (length p) room → length p ≤ length out
+    → let r = openFrame l key (sealedBytes l key h (orBlank a) p) out in
     (r .answer .refusal ≡ 0) × ((r .answer .mark ≡ Mark.Sealed) × ((r .answer .length ≡ length p)
     × ((r .answer .header ≡ cleared h) × ((r .answer .aux ≡ frames.levelZero a) × (r .out ≡ over out 0 p)))))
 unfolding openWith
-sealed-then-opened key h OptionAuxHeader.Absent p isLast room out fits s within = absurd (true≢false (s .headers .present))
-sealed-then-opened key h (OptionAuxHeader.Present x) p isLast room out fits s within =
-    let run = first-half-proofs.reopened networkLevel micLength key h x p (fits .header) (fits .auxiliary) (s .headers) (s .whole) out within in (
+sealed-then-opened l key h OptionAuxHeader.Absent p isLast room out fits s within = absurd (true≢false (s .headers .present))
+sealed-then-opened l key h (OptionAuxHeader.Present x) p isLast room out fits s within =
+    let run = first-half-proofs.reopened l key h x p (s .level) (fits .header) (fits .auxiliary) (s .headers) (s .whole) out within in (
       ap (λ (r : opening.Run). r .answer .refusal) run,
       (
         ap (λ (r : opening.Run). r .answer .mark) run,
@@ -279,26 +280,27 @@ sealed-then-opened key h (OptionAuxHeader.Present x) p isLast room out fits s wi
 
 pub first-half : FirstHalf
 unfolding sealRecordsRefusal sealedRecords
-first-half first second r x p o w out br bx accepted room within =
+first-half level first second r x p o w out br bx accepted room within =
+    let l = networkLevel level in
     let key = keyBytes first second in
     let h = headerOf r in
     let a = optionOf x in
-    let number = refusal-none _ _ (seal-below r x (length p) (length o)) accepted in
+    let number = refusal-none _ _ (seal-below l r x (length p) (length o)) accepted in
     let parts = none _ number in
-    let e = sym (seal-good r x (length p) (length o) (parts .0) (parts .1 .0)) ∙ number in
-    let s = sealed-over key r x p o number (sealed-short key r x p (length o) e) in
-    let able = frame-law.seal-able h a (length p) (length o) e in
+    let e = sym (seal-good l r x (length p) (length o) (parts .0) (parts .1 .0) (parts .1 .1 .0)) ∙ number in
+    let s = sealed-over l key r x p o number (sealed-short l key r x p (length o) e) in
+    let able = frame-law.seal-able l h a (length p) (length o) e in
     let fits : frames.InRange h a = record { header = header-of-fits r br; auxiliary = option-of-fits x bx } in
-    let f = sealedRecords key r x p in
-    let back = sealed-then-opened key h a p _ (length o) out fits able within in
-    let over-it = opened-over key f w out (open-accepts key f w out room (back .0)) in
-    let answered : openAnswer key f w out ≡ openedAnswer Mark.Sealed (length p) = over-it .answered ∙ (λ i. openedAnswer (back .1 .0 i) (back .1 .1 .0 i)) in
-    let size : lengthIn (openAnswer key f w out) ≡ length p = ap lengthIn answered ∙ opened-length Mark.Sealed (length p) (omega (arith, able .payload)) in
-    let header : headerOf (headerIn (openRecord key f w out)) ≡ cleared h =
-    ap (λ (l : List ℕ). headerOf (headerIn l)) (over-it .recorded) ∙ ap headerOf (header-in w (openFrame key f out .answer) ∙ ap headerRecord (back .1 .1 .1 .0))
+    let f = sealedRecords l key r x p in
+    let back = sealed-then-opened l key h a p _ (length o) out fits able within in
+    let over-it = opened-over l key f w out (open-accepts l key f w out room (back .0)) in
+    let answered : openAnswer l key f w out ≡ openedAnswer Mark.Sealed (length p) = over-it .answered ∙ (λ i. openedAnswer (back .1 .0 i) (back .1 .1 .0 i)) in
+    let size : lengthIn (openAnswer l key f w out) ≡ length p = ap lengthIn answered ∙ opened-length Mark.Sealed (length p) (omega (arith, able .payload)) in
+    let header : headerOf (headerIn (openRecord l key f w out)) ≡ cleared h =
+    ap (λ (y : List ℕ). headerOf (headerIn y)) (over-it .recorded) ∙ ap headerOf (header-in w (openFrame l key f out .answer) ∙ ap headerRecord (back .1 .1 .1 .0))
     ∙ header-back (cleared h) (cleared-fits h (fits .header)) (cleared-places h) in
     let auxiliary =
-    ap (λ (l : List ℕ). optionOf (auxiliaryIn l)) (over-it .recorded) ∙ ap optionOf (auxiliary-in w (openFrame key f out .answer) ∙ ap optionRecord (back .1 .1 .1 .1 .0))
+    ap (λ (y : List ℕ). optionOf (auxiliaryIn y)) (over-it .recorded) ∙ ap optionOf (auxiliary-in w (openFrame l key f out .answer) ∙ ap optionRecord (back .1 .1 .1 .1 .0))
     ∙ option-back (frames.levelZero a) (level-zero-fits a (fits .auxiliary)) in
     rw (s .bytes)
     (record {
@@ -319,41 +321,42 @@ sealed-mark Mark.Clear h e = absurd (omega arith)
 sealed-mark Mark.Sealed h e = refl
 
 -- nwk_seal of the records of headers that sealing takes
-seals-again : (key f : List ℕ) (h : NwkHeader) (a : OptionAuxHeader) (p out : List ℕ) → HeaderFits h → length (h .relays) ≡ 54 → frames.AuxOptionFits a
-    → frames.Resealed f (sealFrame key h a p out)
-    → Resealed f (sealAnswer key (headerRecord h) (optionRecord a) p out) (sealOutput key (headerRecord h) (optionRecord a) p out)
+seals-again : (l : Level) (key f : List ℕ) (h : NwkHeader) (a : OptionAuxHeader) (p out : List ℕ) → HeaderFits h → length (h .relays) ≡ 54 → frames.AuxOptionFits a
+    → frames.Resealed f (sealFrame l key h a p out)
+    → Resealed f (sealAnswer l key (headerRecord h) (optionRecord a) p out) (sealOutput l key (headerRecord h) (optionRecord a) p out)
 unfolding sealedRecords sealFrame optionRecord
-seals-again key f h a p out fits places afits again =
+seals-again l key f h a p out fits places afits again =
     let r = headerRecord h in
     let x = optionRecord a in
     let eh = header-back h fits places in
     let ea = option-back a afits in
-    let own : sealRefusal micLength h a (length p) (length out) ≡ 0 = sym (frame-law.seal-number key h a p out) ∙ again .accepted in
-    let e : sealRefusal micLength (headerOf r) (optionOf x) (length p) (length out) ≡ 0 =
-    (λ i. sealRefusal micLength (eh i) (ea i) (length p) (length out)) ∙ own in
-    let good = frame-law.seal-able h a (length p) (length out) own .headers .fields .good in
-    let number = seal-good r x (length p) (length out) (header-taken h good) (aux-taken _ (orBlank a)) ∙ e in
-    let s = sealed-over key r x p out number (sealed-short key r x p (length out) e) in
-    let same : sealedRecords key r x p ≡ f =
-    (λ i. sealedBytes networkLevel micLength key (eh i) (orBlank (ea i)) p) ∙ sym (bytes-sealed _ _ out own) ∙ again .bytes in
+    let own : sealRefusal l h a (length p) (length out) ≡ 0 = sym (frame-law.seal-number l key h a p out) ∙ again .accepted in
+    let e : sealRefusal l (headerOf r) (optionOf x) (length p) (length out) ≡ 0 =
+    (λ i. sealRefusal l (eh i) (ea i) (length p) (length out)) ∙ own in
+    let able = frame-law.seal-able l h a (length p) (length out) own in
+    let number = seal-good l r x (length p) (length out) (able .level) (header-taken h (able .headers .fields .good)) (aux-taken _ (orBlank a)) ∙ e in
+    let s = sealed-over l key r x p out number (sealed-short l key r x p (length out) e) in
+    let same : sealedRecords l key r x p ≡ f =
+    (λ i. sealedBytes l key (eh i) (orBlank (ea i)) p) ∙ sym (bytes-sealed _ _ out own) ∙ again .bytes in
     record { accepted = s .accepted; length = s .length ∙ ap length same; bytes = s .bytes ∙ same }
 
 pub second-half : SecondHalf
-second-half first second f w o out bytes ok clear control other size =
+second-half level first second f w o out bytes ok clear control other size =
+    let l = networkLevel level in
     let key = keyBytes first second in
-    let number = refusal-none _ _ (open-below key f (length w) (length o)) ok in
-    let acc = open-accepted key f w o number in
-    let over-it = opened-over key f w o number in
-    let a = openFrame key f o .answer in
-    let fits = answer-fits (ciphOf key) f o bytes in
-    let sealed = sealed-mark (a .mark) (marked-if-accepted key f o .accepted (acc .1)) (sym (clear-in (a .mark) (a .length)) ∙ ap clearIn (sym (over-it .answered)) ∙ clear) in
+    let number = refusal-none _ _ (open-below l key f (length w) (length o)) ok in
+    let acc = open-accepted l key f w o number in
+    let over-it = opened-over l key f w o number in
+    let a = openFrame l key f o .answer in
+    let fits = answer-fits l (ciphOf key) f o bytes in
+    let sealed = sealed-mark (a .mark) (marked-if-accepted l key f o .accepted (acc .1)) (sym (clear-in (a .mark) (a .length)) ∙ ap clearIn (sym (over-it .answered)) ∙ clear) in
     let header = ap headerIn (over-it .recorded) ∙ header-in w a in
     let auxiliary = ap auxiliaryIn (over-it .recorded) ∙ auxiliary-in w a in
-    let n : lengthIn (openAnswer key f w o) ≡ a .length = ap lengthIn (over-it .answered) ∙ opened-length (a .mark) (a .length) (omega (arith, fits .short)) in
-    let counter : counterOf (a .aux) ≡ lastCounter → ⊥ = λ e. other (ap (λ (l : List ℕ). leAt 4 l 5) auxiliary ∙ counter-in (a .aux) (fits .aux) ∙ e) in
-    let again = frame-law.second-half key f o out bytes (acc .1) sealed control counter size in
-    let given : take (lengthIn (openAnswer key f w o)) (openOutput key f w o) ≡ frames.payloadGiven (openFrame key f o) = λ i. take (n i) (over-it .left i) in
-    rw (header, auxiliary, given) (seals-again key f (a .header) (a .aux) _ out (fits .header) (fits .relays) (fits .aux) again)
+    let n : lengthIn (openAnswer l key f w o) ≡ a .length = ap lengthIn (over-it .answered) ∙ opened-length (a .mark) (a .length) (omega (arith, fits .short)) in
+    let counter : counterOf (a .aux) ≡ lastCounter → ⊥ = λ e. other (ap (λ (y : List ℕ). leAt 4 y 5) auxiliary ∙ counter-in (a .aux) (fits .aux) ∙ e) in
+    let again = frame-law.second-half l key f o out bytes (acc .1) sealed control counter size in
+    let given : take (lengthIn (openAnswer l key f w o)) (openOutput l key f w o) ≡ frames.payloadGiven (openFrame l key f o) = λ i. take (n i) (over-it .left i) in
+    rw (header, auxiliary, given) (seals-again l key f (a .header) (a .aux) _ out (fits .header) (fits .relays) (fits .aux) again)
 
 -- ---- the payload's place
 
@@ -383,16 +386,18 @@ at-place Mark.Sealed n f o h k =
     λ i. take (size i) (drop (first i) (cond (eqb (which i) 1) f o))
 
 -- a frame that is opened has at most 118 bytes
-frame-short : (key f o : List ℕ) → openFrame key f o .answer .refusal ≡ 0 → length f ≤ 118
-frame-short key f o e = elim (decLt 118 (length f)) [ yes l ↦ absurd (omega (arith, open-long (ciphOf key) f o l, e)) | no l ↦ omega arith ]
+frame-short : (l : Level) (key f o : List ℕ) → openFrame l key f o .answer .refusal ≡ 0 → length f ≤ 118
+frame-short l key f o e =
+    let level = open-level l (ciphOf key) f o e in
+    elim (decLt 118 (length f)) [ yes h ↦ absurd (omega (arith, open-long l (ciphOf key) f o level h, e)) | no h ↦ omega arith ]
 
 -- nor has what it gives
-answer-short : (ciph : List ℕ → List ℕ) (f o : List ℕ) → length f ≤ 118 → openWith ciph f o .answer .length ≤ 118
+answer-short : (l : Level) (ciph : List ℕ → List ℕ) (f o : List ℕ) → length f ≤ 118 → openWith l ciph f o .answer .length ≤ 118
 unfolding openWith openRefused behind
-answer-short ciph f o h =
+answer-short l ciph f o h =
     let cut = length-drop (readFrame f .length) f in
-    run-either networkLevel micLength ciph f (readFrame f) o (λ (r : opening.Run). r .answer .length ≤ 118)
-    (λ w. omega (arith, payload-length networkLevel micLength ciph f (readFrame f), cut)) (λ e off. omega (arith, cut)) (omega arith)
+    run-either l ciph f (readFrame f) o (λ (r : opening.Run). r .answer .length ≤ 118)
+    (λ w. omega (arith, payload-length l ciph f (readFrame f), cut)) (λ level e off. omega (arith, cut)) (omega arith)
 
 mark-known : (m : Mark) → ltb 2 (markCode m) ≡ false
 mark-known Mark.Unmarked = refl
@@ -401,11 +406,11 @@ mark-known Mark.Sealed = refl
 
 pub payload-placed : PayloadPlaced
 unfolding payloadPlaceRefusal payloadPlace
-payload-placed key f o u e =
-    let a = openFrame key f o .answer in
-    let long = frame-short key f o e in
-    let short = answer-short (ciphOf key) f o long in
+payload-placed l key f o u e =
+    let a = openFrame l key f o .answer in
+    let long = frame-short l key f o e in
+    let short = answer-short l (ciphOf key) f o long in
     let number : payloadPlaceRefusal (markCode (a .mark)) (a .length) (length f) ≡ 0 =
     none-refuse _ (rw (le-ltb 118 (a .length) short) (le-ltb 118 (length f) long), (mark-known (a .mark), tt)) in
-    ap (λ (x : ℕ). bytesAt x f (openFrame key f o .out)) (accepted _ _ _ number ∙ ap (λ (m : Mark). placeOf m (a .length) (length f)) (mark-back (a .mark)))
-    ∙ at-place (a .mark) (a .length) f (openFrame key f o .out) short long
+    ap (λ (x : ℕ). bytesAt x f (openFrame l key f o .out)) (accepted _ _ _ number ∙ ap (λ (m : Mark). placeOf m (a .length) (length f)) (mark-back (a .mark)))
+    ∙ at-place (a .mark) (a .length) f (openFrame l key f o .out) short long

@@ -8,7 +8,9 @@ use mathlib.Core.List.{List, [], _∷_}
 use lib.ListN.{length}
 use lib.Dec.{eqb, ltb}
 use Rattle.octets.specs.Refusals.{unless, on, by, firstOf}
-use Rattle.ccm.specs.Operations.{micLength, ciphOf}
+use Rattle.types.specs.declared.level.Level.{Level}
+use Rattle.types.specs.Levels.{isOther}
+use Rattle.ccm.specs.Operations.{ciphOf}
 use Rattle.header.specs.Control.{typeCode, typeOf}
 use Rattle.frame.specs.declared.{NwkPayload.NwkPayload, Mark.Mark}
 use Rattle.frame.specs.Reading.{readFrame, payloadOf}
@@ -49,49 +51,53 @@ writeFrameAnswer r p o = answerBy (writeFrameRefusal r (length p) (length o)) (l
 abbrev pub writeFrameOutput : List ℕ → List ℕ → List ℕ → List ℕ
 writeFrameOutput r p o = given (writeFrameRefusal r (length p) (length o)) (frameBytes (headerOf r) p) o
 
--- ---- sealing: 13 for a record, then the frame's own 13, 28, 14, 28, 15, 21, 17 and 18, for n bytes of payload
+-- ---- sealing at the level l: 29, 13 for a record, then the frame's own 13, 28, 14, 28, 15, 21, 17 and 18, for n bytes of payload
 
-unfoldable pub sealRecordsRefusal : List ℕ → List ℕ → ℕ → ℕ → ℕ
-sealRecordsRefusal r x n room =
-    firstOf (on 13 (badHeaderRecord r) ∷ on 13 (badAuxRecord x) ∷ by (sealRefusal micLength (headerOf r) (optionOf x) n room) ∷ [])
+unfoldable pub sealRecordsRefusal : Level → List ℕ → List ℕ → ℕ → ℕ → ℕ
+sealRecordsRefusal l r x n room =
+    firstOf (on 29 (isOther l)
+    ∷ on 13 (badHeaderRecord r)
+    ∷ on 13 (badAuxRecord x)
+    ∷ by (sealRefusal l (headerOf r) (optionOf x) n room)
+    ∷ [])
 
 -- the sealed frame
-unfoldable pub sealedRecords : List ℕ → List ℕ → List ℕ → List ℕ → List ℕ
-sealedRecords key r x p = sealedBytes security.networkLevel micLength key (headerOf r) (security.orBlank (optionOf x)) p
+unfoldable pub sealedRecords : Level → List ℕ → List ℕ → List ℕ → List ℕ → List ℕ
+sealedRecords l key r x p = sealedBytes l key (headerOf r) (security.orBlank (optionOf x)) p
 
 -- of the two records r and x and the payload p, with o in the output before
-abbrev pub sealAnswer : List ℕ → List ℕ → List ℕ → List ℕ → List ℕ → ℕ
-sealAnswer key r x p o = answerBy (sealRecordsRefusal r x (length p) (length o)) (length (sealedRecords key r x p))
+abbrev pub sealAnswer : Level → List ℕ → List ℕ → List ℕ → List ℕ → List ℕ → ℕ
+sealAnswer l key r x p o = answerBy (sealRecordsRefusal l r x (length p) (length o)) (length (sealedRecords l key r x p))
 
-abbrev pub sealOutput : List ℕ → List ℕ → List ℕ → List ℕ → List ℕ → List ℕ
-sealOutput key r x p o = given (sealRecordsRefusal r x (length p) (length o)) (sealedRecords key r x p) o
+abbrev pub sealOutput : Level → List ℕ → List ℕ → List ℕ → List ℕ → List ℕ → List ℕ
+sealOutput l key r x p o = given (sealRecordsRefusal l r x (length p) (length o)) (sealedRecords l key r x p) o
 
--- ---- opening
+-- ---- opening at the level l
 
--- those that need no key: reading's number; then, of a sealed frame, 15, 16 and 18
-unfoldable pub openNumber : List ℕ → ℕ → ℕ
-openNumber f room =
-    firstOf (openRefusals micLength (readFrame f .refusal) (readFrame f .header) (readFrame f .aux) (length (behind f (readFrame f))) room)
+-- those that need no key: 29; reading's number; then, of a sealed frame, 15, 16 and 18
+unfoldable pub openNumber : Level → List ℕ → ℕ → ℕ
+openNumber l f room =
+    firstOf (openRefusals l (readFrame f .refusal) (readFrame f .header) (readFrame f .aux) (length (behind f (readFrame f))) room)
 
 -- a sealed frame whose MIC is not the one computed
-unfoldable pub wrongMic : List ℕ → List ℕ → Bool
-wrongMic key f = isSealed (readFrame f .header) && not (verified security.networkLevel micLength (ciphOf key) f (readFrame f) .valid)
+unfoldable pub wrongMic : Level → List ℕ → List ℕ → Bool
+wrongMic l key f = isSealed (readFrame f .header) && not (verified l (ciphOf key) f (readFrame f) .valid)
 
-unfoldable pub openRecordRefusal : List ℕ → List ℕ → ℕ → ℕ → ℕ
-openRecordRefusal key f recordRoom room =
-    firstOf (by (openNumber f room) ∷ on 18 (ltb recordRoom openedRecordSize) ∷ on 19 (wrongMic key f) ∷ [])
+unfoldable pub openRecordRefusal : Level → List ℕ → List ℕ → ℕ → ℕ → ℕ
+openRecordRefusal l key f recordRoom room =
+    firstOf (by (openNumber l f room) ∷ on 18 (ltb recordRoom openedRecordSize) ∷ on 19 (wrongMic l key f) ∷ [])
 
 -- of the frame f, with x in the record and o in the output before: what opening alone gives
-abbrev pub openAnswer : List ℕ → List ℕ → List ℕ → List ℕ → ℕ
-openAnswer key f x o =
-    unless (openRecordRefusal key f (length x) (length o)) (openedAnswer (openFrame key f o .answer .mark) (openFrame key f o .answer .length))
-    (answer (openRecordRefusal key f (length x) (length o)) 0)
+abbrev pub openAnswer : Level → List ℕ → List ℕ → List ℕ → List ℕ → ℕ
+openAnswer l key f x o =
+    unless (openRecordRefusal l key f (length x) (length o)) (openedAnswer (openFrame l key f o .answer .mark) (openFrame l key f o .answer .length))
+    (answer (openRecordRefusal l key f (length x) (length o)) 0)
 
-abbrev pub openRecord : List ℕ → List ℕ → List ℕ → List ℕ → List ℕ
-openRecord key f x o = given (openRecordRefusal key f (length x) (length o)) (openedRecord (openFrame key f o .answer)) x
+abbrev pub openRecord : Level → List ℕ → List ℕ → List ℕ → List ℕ → List ℕ
+openRecord l key f x o = given (openRecordRefusal l key f (length x) (length o)) (openedRecord (openFrame l key f o .answer)) x
 
-abbrev pub openOutput : List ℕ → List ℕ → List ℕ → List ℕ → List ℕ
-openOutput key f x o = unless (openRecordRefusal key f (length x) (length o)) (openFrame key f o .out) o
+abbrev pub openOutput : Level → List ℕ → List ℕ → List ℕ → List ℕ → List ℕ
+openOutput l key f x o = unless (openRecordRefusal l key f (length x) (length o)) (openFrame l key f o .out) o
 
 -- ---- what a payload is, by the frame type's code: 13 for a code that no type has, 2 or above 3
 

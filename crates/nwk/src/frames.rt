@@ -10,12 +10,14 @@ use records::auxiliary_record;
 use records::header_record;
 use records::opened_record;
 use types::Key;
+use types::level::Level;
 ghost use mathlib.Core.Path.{_≡_};
 ghost use mathlib.Core.Bool.{true};
 ghost use mathlib.Core.List.{[], _∷_};
 ghost use Prim.Native.Nat.{_≤_};
 ghost use Rattle.octets.specs.Refusals.{on, by, firstOf};
 ghost use Rattle.types.specs.Keys.{keyBytes};
+ghost use Rattle.types.specs.Levels.{networkLevel};
 ghost use Rattle.burst.specs.Burst.{openBurst};
 ghost use Rattle.nwk.specs.Answer.{answer};
 ghost use Rattle.nwk.specs.Frames.{openNumber, readFrameAnswer, readFrameHeader, readFrameAuxiliary, writeFrameAnswer, writeFrameOutput, sealAnswer, sealOutput, openAnswer, openRecord, openOutput, payloadCode, payloadKindAnswer, placeOf, payloadPlace};
@@ -60,10 +62,11 @@ pub extern "C" fn nwk_write_frame(header: &[u8], payload: &[u8], out: &mut [u8])
     answer(written.refusal, written.length)
 }
 
-// Seal a frame from the headers of two records and the payload, to the front of the output; refusals 13, 28, 14,
-// 28, 15, 21, 17 and 18.
+// Seal a frame from the headers of two records and the payload, to the front of the output; refusals 29, 13,
+// 28, 14, 28, 15, 21, 17 and 18.
 #[no_mangle]
 pub extern "C" fn nwk_seal(
+    level: u64,
     key_first: u64,
     key_second: u64,
     header: &[u8],
@@ -71,9 +74,13 @@ pub extern "C" fn nwk_seal(
     payload: &[u8],
     out: &mut [u8],
 ) -> u64
-    ensures answer { λ r. ⌜ r ≡ sealAnswer (keyBytes «key_first» «key_second») (now (header .entry)) (now (auxiliary .entry)) (now (payload .entry)) (now (out .entry)) ⌝ }
-    ensures out { λ _. ⌜ now (out .exit) ≡ sealOutput (keyBytes «key_first» «key_second») (now (header .entry)) (now (auxiliary .entry)) (now (payload .entry)) (now (out .entry)) ⌝ }
+    ensures answer { λ r. ⌜ r ≡ sealAnswer (networkLevel level) (keyBytes «key_first» «key_second») (now (header .entry)) (now (auxiliary .entry)) (now (payload .entry)) (now (out .entry)) ⌝ }
+    ensures out { λ _. ⌜ now (out .exit) ≡ sealOutput (networkLevel level) (keyBytes «key_first» «key_second») (now (header .entry)) (now (auxiliary .entry)) (now (payload .entry)) (now (out .entry)) ⌝ }
 {
+    let network = Level::of(level);
+    if network.is_other() {
+        return answer(refusals::LEVEL, 0);
+    }
     if header_record::is_bad(header) {
         return answer(refusals::FIELD, 0);
     }
@@ -82,41 +89,51 @@ pub extern "C" fn nwk_seal(
     }
     let key = Key::from_halves(key_first, key_second);
     let h = header_record::header_of(header);
-    let sealed = frame::sealing::seal(key, h, opened_record::option_of(auxiliary), payload, out);
+    let sealed = frame::sealing::seal(
+        network,
+        key,
+        h,
+        opened_record::option_of(auxiliary),
+        payload,
+        out,
+    );
     answer(sealed.refusal, sealed.length)
 }
 
 // The refusal of opening where the record has too little room: 18, unless a smaller number holds.
-fn short_refusal(bytes: &[u8], room: usize) -> u8
-    ensures { λ r. ⌜ r ≡ firstOf (by (openNumber (now (bytes .entry)) room) ∷ on 18 true ∷ []) ⌝ }
+fn short_refusal(level: Level, bytes: &[u8], room: usize) -> u8
+    ensures { λ r. ⌜ r ≡ firstOf (by (openNumber level (now (bytes .entry)) room) ∷ on 18 true ∷ []) ⌝ }
 {
     let read = frame::read_frame(bytes);
     let h = read.header;
     let a = read.aux;
     let part = frame::behind(bytes, read.length);
-    let number = frame::opening::open_refusal(read.refusal, h, a, part.len(), room);
+    let number = frame::opening::open_refusal(level, read.refusal, h, a, part.len(), room);
     octets::refuse(number, refusals::NO_ROOM, true)
 }
 
 // Open a frame: the answer with both headers goes to the opened record. A sealed frame's payload goes to the front of the
-// output; a clear one's stays in the frame, and the output is not touched. Refusals 1 to 12, 18 for the record, and of a sealed
-// frame 15, 16, 18 and 19.
+// output; a clear one's stays in the frame, and the output is not touched. Refusals 29, 1 to 12, 18 for the record, and of a
+// sealed frame 15, 16, 18 and 19.
 #[no_mangle]
 pub extern "C" fn nwk_open(
+    level: u64,
     key_first: u64,
     key_second: u64,
     bytes: &[u8],
     opened: &mut [u8],
     out: &mut [u8],
 ) -> u64
-    ensures answer { λ r. ⌜ r ≡ openAnswer (keyBytes «key_first» «key_second») (now (bytes .entry)) (now (opened .entry)) (now (out .entry)) ⌝ }
-    ensures opened { λ _. ⌜ now (opened .exit) ≡ openRecord (keyBytes «key_first» «key_second») (now (bytes .entry)) (now (opened .entry)) (now (out .entry)) ⌝ }
-    ensures out { λ _. ⌜ now (out .exit) ≡ openOutput (keyBytes «key_first» «key_second») (now (bytes .entry)) (now (opened .entry)) (now (out .entry)) ⌝ }
+    ensures answer { λ r. ⌜ r ≡ openAnswer (networkLevel level) (keyBytes «key_first» «key_second») (now (bytes .entry)) (now (opened .entry)) (now (out .entry)) ⌝ }
+    ensures opened { λ _. ⌜ now (opened .exit) ≡ openRecord (networkLevel level) (keyBytes «key_first» «key_second») (now (bytes .entry)) (now (opened .entry)) (now (out .entry)) ⌝ }
+    ensures out { λ _. ⌜ now (out .exit) ≡ openOutput (networkLevel level) (keyBytes «key_first» «key_second») (now (bytes .entry)) (now (opened .entry)) (now (out .entry)) ⌝ }
 {
+    let network = Level::of(level);
     if opened.len() < opened_record::OPENED_RECORD_SIZE {
-        return answer(short_refusal(bytes, out.len()), 0);
+        return answer(short_refusal(network, bytes, out.len()), 0);
     }
-    let run = frame::opening::open(Key::from_halves(key_first, key_second), bytes, out);
+    let key = Key::from_halves(key_first, key_second);
+    let run = frame::opening::open(network, key, bytes, out);
     if run.refusal != 0 {
         return answer(run.refusal, 0);
     }
@@ -125,10 +142,12 @@ pub extern "C" fn nwk_open(
     opened_answer(mark, run.length)
 }
 
-// Open a burst: frames end to end, as long as the lengths say, under one key. Frame k goes to the 108 bytes of the output from
+// Open a burst: frames end to end, as long as the lengths say, at one level and under one key. Frame k
+// goes to the 108 bytes of the output from
 // 108 × k, and its answer to place k of the answers; the length is the number of frames. Refusal 20.
 #[no_mangle]
 pub extern "C" fn nwk_open_burst(
+    level: u64,
     key_first: u64,
     key_second: u64,
     frames: &[u8],
@@ -136,12 +155,13 @@ pub extern "C" fn nwk_open_burst(
     answers: &mut [[u8; 182]],
     out: &mut [u8],
 ) -> u64
-    ensures answer { λ r. ⌜ r ≡ answer (openBurst (keyBytes «key_first» «key_second») (now (frames .entry)) (now (lengths .entry)) (now (out .entry)) (now (answers .entry)) .answer .refusal) (openBurst (keyBytes «key_first» «key_second») (now (frames .entry)) (now (lengths .entry)) (now (out .entry)) (now (answers .entry)) .answer .frames) ⌝ }
-    ensures answers { λ _. ⌜ now (answers .exit) ≡ openBurst (keyBytes «key_first» «key_second») (now (frames .entry)) (now (lengths .entry)) (now (out .entry)) (now (answers .entry)) .answers ⌝ }
-    ensures out { λ _. ⌜ now (out .exit) ≡ openBurst (keyBytes «key_first» «key_second») (now (frames .entry)) (now (lengths .entry)) (now (out .entry)) (now (answers .entry)) .out ⌝ }
+    ensures answer { λ r. ⌜ r ≡ answer (openBurst (networkLevel level) (keyBytes «key_first» «key_second») (now (frames .entry)) (now (lengths .entry)) (now (out .entry)) (now (answers .entry)) .answer .refusal) (openBurst (networkLevel level) (keyBytes «key_first» «key_second») (now (frames .entry)) (now (lengths .entry)) (now (out .entry)) (now (answers .entry)) .answer .frames) ⌝ }
+    ensures answers { λ _. ⌜ now (answers .exit) ≡ openBurst (networkLevel level) (keyBytes «key_first» «key_second») (now (frames .entry)) (now (lengths .entry)) (now (out .entry)) (now (answers .entry)) .answers ⌝ }
+    ensures out { λ _. ⌜ now (out .exit) ≡ openBurst (networkLevel level) (keyBytes «key_first» «key_second») (now (frames .entry)) (now (lengths .entry)) (now (out .entry)) (now (answers .entry)) .out ⌝ }
 {
+    let network = Level::of(level);
     let key = Key::from_halves(key_first, key_second);
-    let opened = burst::open_burst(key, frames, lengths, out, answers);
+    let opened = burst::open_burst(network, key, frames, lengths, out, answers);
     answer(opened.refusal, opened.frames)
 }
 

@@ -95,6 +95,12 @@ pub empty : firstOf [] ≡ 0
 unfolding firstOf
 empty = refl
 
+-- a number alone
+pub last-by : (n : ℕ) → firstOf (by n ∷ []) ≡ n
+unfolding firstOf unless
+last-by zero = refl
+last-by (suc n) = refl
+
 -- ---- a list gone down step by step
 
 -- what is left of the list cs behind the number n, each step looking at what the one before gave

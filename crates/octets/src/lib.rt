@@ -29,6 +29,16 @@ pub fn refuse(before: u8, number: u8, holds: bool) -> u8
     if holds { number } else { 0 }
 }
 
+// The number given before, or else the one that another list gave.
+pub fn or_else(before: u8, number: u8) -> u8
+    ensures { λ r. ⌜ r ≡ firstOf (by before ∷ by number ∷ []) ⌝ }
+{
+    if before != 0 {
+        return before;
+    }
+    number
+}
+
 // Whether both hold; both are evaluated.
 pub fn both(a: bool, b: bool) -> bool
     ensures { λ r. ⌜ r ≡ (a && b) ⌝ }

@@ -45,7 +45,7 @@ pub const NO_AUXILIARY: u8 = 14;
 // 15: sealing or opening has neither an auxiliary nor a header source IEEE
 pub const NO_IEEE: u8 = 15;
 
-// 16: ciphertext with MIC has fewer than 4 bytes
+// 16: ciphertext with MIC has fewer bytes than the tag
 pub const NO_MIC: u8 = 16;
 
 // 17: the bytes to write exceed 118 for a header or frame, or 108 for a payload, alone or in a frame
@@ -83,3 +83,6 @@ pub const NO_CEILING: u8 = 27;
 
 // 28: one of bits 8, 10, 11 and 12 of frame control disagrees with its field, or in sealing bit 9 is off or the extended nonce bit disagrees with the auxiliary IEEE
 pub const PRESENCE_BITS: u8 = 28;
+
+// 29: the network's level is not 5, 6 or 7
+pub const LEVEL: u8 = 29;

@@ -13,6 +13,7 @@ use Rattle.octets.specs.Numbers.{le, leAt}
 use Rattle.octets.proofs.Strings.{length-tab, drop-below}
 use Rattle.octets.proofs.Numbers.{leAt-le}
 use Rattle.types.specs.declared.OptionEui64.{OptionEui64}
+use Rattle.types.specs.declared.level.Level.{Level}
 use Rattle.header.specs.Control.{controlOf}
 use Rattle.header.specs.Reading.{relaysOf, headerBy, blankHeader, readHeader}
 use Rattle.header.specs.Auxiliary.{blankAux}
@@ -21,7 +22,7 @@ use Rattle.header.proofs.ReadFits.{read-fits}
 use Rattle.header.proofs.ReadFacts.{header-facts, aux-facts}
 use Rattle.frame.specs.declared.{OptionAuxHeader.OptionAuxHeader, Mark.Mark, FrameOpened.FrameOpened}
 use Rattle.frame.specs.Reading.{auxIf, auxBehind, readFrame}
-use Rattle.frame.specs.Security.{networkLevel, nonceIeee}
+use Rattle.frame.specs.Security.{nonceIeee}
 use Rattle.frame.specs.Opening.{isSealed, behind, verified, openRefused, Run, sealedGiven, clearGiven, openWith}
 use Rattle.frame.specs.Marks.{Openable}
 use Rattle.frame.specs.SealingLaw.{AuxOptionFits}
@@ -87,14 +88,14 @@ nonce-fits OptionEui64.Absent s f g = g
 nonce-fits (OptionEui64.Present x) s f g = f
 
 -- it has all that, for every frame of bytes: where the frame is sealed, and where it is clear
-sealed-fits : (ciph : List ℕ → List ℕ) (f o : List ℕ) → Below 256 f → Openable networkLevel 4 ciph f (readFrame f) (length o)
-    → AnswerFits (sealedGiven (readFrame f) (verified networkLevel 4 ciph f (readFrame f)) o .answer)
+sealed-fits : (l : Level) (ciph : List ℕ → List ℕ) (f o : List ℕ) → Below 256 f → Openable l ciph f (readFrame f) (length o)
+    → AnswerFits (sealedGiven (readFrame f) (verified l ciph f (readFrame f)) o .answer)
 unfolding behind
-sealed-fits ciph f o u p =
+sealed-fits l ciph f o u p =
     let facts = secured-facts f (p .reads) (p .on) in
     let hf = header-facts f u (facts .header) in
     let af = aux-facts (drop (readHeader f .length) f) (drop-below f (readHeader f .length) 256 u) (facts .aux) in
-    let size = payload-length networkLevel 4 ciph f (readFrame f) in
+    let size = payload-length l ciph f (readFrame f) in
     record {
       short = omega (arith, size, length-drop (readFrame f .length) f, hf .short);
       ieee = rw (facts .read) (nonce-fits (auxBehind f (readHeader f) .aux .«extended_source») (readHeader f .header .«source_ieee») (af .fits .ieee) (hf .fits .sourceIeee));
@@ -112,12 +113,12 @@ clear-fits f o u e off =
     let size = length-drop (readFrame f .length) f in
     record { short = omega (arith, size, hf .short); ieee = tt; header = rw (facts .read) (hf .fits); relays = rw (facts .read) (hf .places); aux = rw (facts .read) tt }
 
-pub answer-fits : (ciph : List ℕ → List ℕ) (f o : List ℕ) → Below 256 f → AnswerFits (openWith ciph f o .answer)
+pub answer-fits : (l : Level) (ciph : List ℕ → List ℕ) (f o : List ℕ) → Below 256 f → AnswerFits (openWith l ciph f o .answer)
 unfolding openWith openRefused blankHeader headerBy relaysOf
-answer-fits ciph f o u =
-    run-either networkLevel 4 ciph f (readFrame f) o (λ (r : Run). AnswerFits (r .answer)) (sealed-fits ciph f o u) (clear-fits f o u)
+answer-fits l ciph f o u =
+    run-either l ciph f (readFrame f) o (λ (r : Run). AnswerFits (r .answer)) (sealed-fits l ciph f o u) (λ level. clear-fits f o u)
     (record { short = omega arith; ieee = tt; header = read-fits [] (controlOf 0) (λ i. omega arith); relays = length-tab _ 54; aux = tt })
 
 -- so its record says it again
-pub answer-back : (ciph : List ℕ → List ℕ) (f o : List ℕ) → Below 256 f → openedOf (openedRecord (openWith ciph f o .answer)) ≡ openWith ciph f o .answer
-answer-back ciph f o u = opened-back (openWith ciph f o .answer) (answer-fits ciph f o u)
+pub answer-back : (l : Level) (ciph : List ℕ → List ℕ) (f o : List ℕ) → Below 256 f → openedOf (openedRecord (openWith l ciph f o .answer)) ≡ openWith l ciph f o .answer
+answer-back l ciph f o u = opened-back (openWith l ciph f o .answer) (answer-fits l ciph f o u)

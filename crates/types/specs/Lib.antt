@@ -1,5 +1,6 @@
--- What the contracts of addresses and keys cite.
+-- What the contracts of addresses, keys and levels cite.
 pub mod Addresses
 pub mod Keys
 pub mod Optional
 pub mod Counters
+pub mod Levels

@@ -11,6 +11,7 @@ ghost use Rattle.types.specs.Addresses.{readNwk, readPanId, readEui64, r
 ghost use Rattle.types.specs.Keys.{readKey, keyBytes};
 ghost use Rattle.types.specs.Optional.{hasIeee, ieeeIf, ieeeBytes};
 
+pub mod level;
 pub mod ranges;
 
 // The largest NWK payload, or command: 127 bytes less the smallest MAC and NWK headers.

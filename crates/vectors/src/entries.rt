@@ -1,5 +1,5 @@
 // The CCM entries: lines of a key, a nonce, associated data, a payload, a ciphertext, a tag, in hexadecimal digits, "-" for
-// nothing, and a verdict. An entry that passes is sealed and opened to the byte; one that fails is refused by 19 with the
+// nothing, and a verdict. The tag's length tells the level. An entry that passes is sealed and opened to the byte; one that fails is refused by 19 with the
 // lent output unchanged, and its payload is "?". Where the verdict is a number, sealing and opening are refused by it.
 use casefile::fields::field;
 use casefile::fields::whole;
@@ -9,38 +9,52 @@ use casefile::lines::shown;
 use casefile::outputs;
 use casefile::outputs::FILLER;
 use casefile::words;
+use types::level::Level;
 
 // The parts of an entry whose lengths are fixed.
 struct Fixed {
     good: bool,
+    level: Level,
     key: [u8; 16],
     nonce: [u8; 13],
-    mic: [u8; 4],
+    mic: [u8; 16],
+}
+
+// The level whose tag has n bytes.
+fn level_of(n: usize) -> Level {
+    match n {
+        4 => Level::EncMic32,
+        8 => Level::EncMic64,
+        16 => Level::EncMic128,
+        _ => Level::Other,
+    }
 }
 
 // Reads them, and sees that the line ends behind its seventh word.
 fn fixed_parts(line: &[u8]) -> Fixed {
     let mut key = [0u8; 16];
     let mut nonce = [0u8; 13];
-    let mut mic = [0u8; 4];
+    let mut mic = [0u8; 16];
     let k = field(line, 0, &mut key);
     let n = field(line, 1, &mut nonce);
     let t = field(line, 5, &mut mic);
-    let good = words::is_last(line, 6) && whole(k, 16) && whole(n, 13) && whole(t, 4);
+    let level = level_of(t.n);
+    let good = words::is_last(line, 6) && whole(k, 16) && whole(n, 13) && t.good;
     Fixed {
-        good,
+        good: good && !level.is_other(),
+        level,
         key,
         nonce,
         mic,
     }
 }
 
-// Whether a MIC is the expected one, and 0 beside a refusal.
-fn is_mic(given: [u8; 4], refusal: usize, expected: [u8; 4]) -> bool {
+// Whether a MIC is the expected one in all its places, and 0 beside a refusal.
+fn is_mic(given: [u8; 16], refusal: usize, expected: [u8; 16]) -> bool {
     if refusal == 0 {
         return check::same(&given, &expected);
     }
-    check::same(&given, &[0u8; 4])
+    check::same(&given, &[0u8; 16])
 }
 
 // Whether sealing to an output of the room given leaves the number, the MIC and the ciphertext, and the rest as it was.
@@ -56,8 +70,9 @@ fn seals(
     let key = f.key;
     let nonce = f.nonce;
     let expected = f.mic;
+    let level = f.level;
     let k = file::within(room, out);
-    let s = ccm::encrypt_ccm(key, nonce, auth, payload, &mut out[..k]);
+    let s = ccm::encrypt_ccm(level, key, nonce, auth, payload, &mut out[..k]);
     let mic = s.mic;
     if !is_mic(mic, refusal, expected) {
         return false;
@@ -78,8 +93,9 @@ fn opens(
     let key = f.key;
     let nonce = f.nonce;
     let mic = f.mic;
+    let level = f.level;
     let k = file::within(room, out);
-    let o = ccm::decrypt_ccm(key, nonce, auth, ciphertext, mic, &mut out[..k]);
+    let o = ccm::decrypt_ccm(level, key, nonce, auth, ciphertext, mic, &mut out[..k]);
     o.refusal as usize == refusal && o.length == payload.len() && outputs::holds(out, payload)
 }
 

@@ -47,6 +47,11 @@ fn run_file(kind: Kind, name: &[u8], things: &[u8]) {
 fn main() {
     run_file(Kind::Blocks, b"aes128_ecb.txt", b"blocks");
     run_file(Kind::Entries, b"ccm_13_4.txt", b"entries");
+    run_file(Kind::Entries, b"ccm_13_8.txt", b"entries");
+    run_file(Kind::Entries, b"ccm_13_8_rfc3610.txt", b"entries");
+    run_file(Kind::Entries, b"ccm_13_16_1.txt", b"entries");
+    run_file(Kind::Entries, b"ccm_13_16_2.txt", b"entries");
+    run_file(Kind::Entries, b"ccm_13_16_3.txt", b"entries");
     run_file(Kind::Entries, b"ccm_limits.txt", b"entries");
     run_file(Kind::Calls, b"types_rs.txt", b"calls");
 }

@@ -10,6 +10,8 @@ use Rattle.octets.specs.Strings.{tab, over, xored}
 use Rattle.octets.specs.Numbers.{le, leAt}
 use Rattle.octets.specs.Fields.{fields, packed}
 use Rattle.octets.specs.Refusals.{unless, firstOf}
+use Rattle.types.specs.declared.level.Level.{Level}
+use Rattle.types.specs.Levels.{tagLength}
 use Rattle.aes.specs.Cipher.{aes128}
 use Rattle.ccm.specs.Formatting.{twoBytes, headed, flags, firstBlock, encodedData, blocksOf, blockAt, lastBlock, formatted}
 use Rattle.ccm.specs.Counters.{counterBlock, keyBlock, keyStream, streamFor, counterMode}
@@ -24,7 +26,7 @@ use Rattle.header.specs.Same.{agrees, auxAgrees}
 use Rattle.header.specs.AuxiliaryControl.{securityByte, securityOf, withLevel}
 use Rattle.header.specs.Auxiliary.{keySequenceAt, auxRefusal, auxBy, blankAux, readAux, auxBytes}
 use Rattle.frame.specs.Reading.{frameRefusal, frameRefused, frameNumber, frameBy, readFrame}
-use Rattle.frame.specs.Security.{networkLevel, sentLevel, atLevel, orBlank, nonce, authenticated}
+use Rattle.frame.specs.Security.{sentLevel, atLevel, orBlank, nonce, authenticated}
 use Rattle.frame.specs.Writing.{lengthRefusals}
 use Rattle.frame.specs.Sealing.{generated, sealedBytes, sealedLength, headersRefusal, sealRefusals, sealRefusal, sealRefused, sealBy, sealFrame}
 use Rattle.frame.specs.Opening.{behind, ciphertextOf, micOf, verified, openRefusals, openRefusal, openRefused, sealedGiven, openNothing, openBy, openWith}
@@ -49,14 +51,14 @@ module _ (ciph : List ℕ → List ℕ) (b : ℕ → List ℕ) (y₀ y₁ y₂ y
 
 -- nonce and authenticated bytes under a counter
 abbrev nonceOf : ℕ → List ℕ
-nonceOf counter = nonce networkLevel probe (orBlank (counted probeIeee counter))
+nonceOf counter = nonce Level.EncMic32 probe (orBlank (counted probeIeee counter))
 
 abbrev dataOf : ℕ → List ℕ
-dataOf counter = authenticated networkLevel probe (orBlank (counted probeIeee counter))
+dataOf counter = authenticated Level.EncMic32 probe (orBlank (counted probeIeee counter))
 
-sealed : generated networkLevel 4 key probe (orBlank (counted probeIeee 0xFFFFFFFE)) (0xAA ∷ [])
+sealed : generated Level.EncMic32 key probe (orBlank (counted probeIeee 0xFFFFFFFE)) (0xAA ∷ [])
     ≡ record { ciphertext = hex 1 0xD9; tag = hex 4 0x6FB00333; blocks = 6 }
-unfolding generated encryptedTag generationEncryption tab xored le packed twoBytes headed flags firstBlock encodedData blocksOf blockAt lastBlock formatted counterBlock keyBlock
+unfolding tagLength generated encryptedTag generationEncryption tab xored le packed twoBytes headed flags firstBlock encodedData blocksOf blockAt lastBlock formatted counterBlock keyBlock
     keyStream streamFor counterMode chain macChain mac blocksOfRun
     controlWord relayBytes fixedBytes optionalBytes headerBytes securityByte withLevel auxBytes atLevel nonce authenticated
     fromProbe probe counted probeIeee hex
@@ -93,7 +95,8 @@ opened =
 
 seals-before : Holds (seals (counted probeIeee 0xFFFFFFFE) (0xAA ∷ []) sealedBefore)
 unfolding over unless firstOf tab le packed controlWord relayBytes fixedBytes optionalBytes headerBytes badControl badHeader agrees auxAgrees fieldRefusal
-    securityByte withLevel auxBytes atLevel sealedBytes sealedLength headersRefusal lengthRefusals sealRefusals sealRefusal sealBy sealFrame fromProbe probe counted probeIeee hex sealedBefore
+    securityByte withLevel auxBytes atLevel tagLength sealedBytes sealedLength headersRefusal lengthRefusals sealRefusals sealRefusal sealBy sealFrame
+    fromProbe probe counted probeIeee hex sealedBefore
 seals-before =
     ap (λ (g : Generated). sealBy 0 ((headerBytes probe ++ auxBytes (atLevel sentLevel (orBlank (counted probeIeee 0xFFFFFFFE)))) ++ (g .ciphertext ++ g .tag)) lent) sealed
 
@@ -101,12 +104,12 @@ opens-last : Holds (opens sealedLast (counted probeIeee 0xFFFFFFFF) probeIeee (0
 unfolding tab over le leAt fields packed unless firstOf controlOf sourceAt multicastAt routeAt relaysAnnounced headerEnd optionalRefusals
     headerRefusal relaysOf headerBy blankHeader readHeader securityOf withLevel keySequenceAt auxRefusal auxBy readAux
     frameRefusal frameRefused frameNumber frameBy readFrame
-    behind ciphertextOf micOf verified openRefusals openRefusal openRefused openBy openWith fromProbe probe counted probeIeee hex sealedLast
+    tagLength behind ciphertextOf micOf verified openRefusals openRefusal openRefused openBy openWith fromProbe probe counted probeIeee hex sealedLast
 opens-last =
     ap (λ (v : Verified). unless (cond (not (v .valid)) 19 0) (sealedGiven (readFrame sealedLast) v lent) (openNothing (cond (not (v .valid)) 19 0) lent)) opened
 
 pub cases-hold : All Holds cases
 unfolding unless firstOf tab le packed controlWord relayBytes fixedBytes optionalBytes headerBytes badControl badHeader agrees auxAgrees fieldRefusal
-    securityByte withLevel auxBytes blankAux sealedLength headersRefusal lengthRefusals sealRefusals sealRefusal sealRefused sealBy sealFrame
+    securityByte withLevel auxBytes blankAux tagLength sealedLength headersRefusal lengthRefusals sealRefusals sealRefusal sealRefused sealBy sealFrame
     fromProbe probe counted probeIeee cases
 cases-hold = (seals-before, (refl, (refl, (refl, (refl, (refl, (opens-last, tt)))))))

@@ -2,3 +2,4 @@
 pub mod Blocks
 pub mod LastCounter
 pub mod PresenceBits
+pub mod Levels

@@ -6,6 +6,7 @@ use Rattle.octets.specs.Numbers.{le}
 use Rattle.octets.specs.Fields.{packed}
 use Rattle.octets.specs.Refusals.{unless, firstOf}
 use Rattle.octets.specs.Writing.{written}
+use Rattle.types.specs.Levels.{tagLength}
 use Rattle.header.specs.Control.{controlWord}
 use Rattle.header.specs.Optional.{relayBytes}
 use Rattle.header.specs.Writing.{fixedBytes, optionalBytes, headerBytes, badControl, badHeader, fieldRefusal, headerWriteRefusal, writeHeader}
@@ -25,12 +26,12 @@ bits-written =
 
 bits-sealed : All Holds sealedBits
 unfolding unless firstOf tab le packed controlWord relayBytes fixedBytes optionalBytes headerBytes badControl badHeader agrees auxAgrees fieldRefusal securityByte auxBytes
-    lengthRefusals sealedLength headersRefusal sealRefusals sealRefusal sealRefused sealBy sealFrame made auxiliary agreeing each sealedBits
+    lengthRefusals tagLength sealedLength headersRefusal sealRefusals sealRefusal sealRefused sealBy sealFrame made auxiliary agreeing each sealedBits
 bits-sealed = (refl, (refl, (refl, (refl, (refl, (refl, (refl, (refl, (refl, (refl, (refl, (refl, tt))))))))))))
 
 order-kept : All Holds inOrder
 unfolding unless firstOf tab le packed written controlWord relayBytes fixedBytes optionalBytes headerBytes badControl badHeader agrees auxAgrees fieldRefusal headerWriteRefusal writeHeader
-    securityByte auxBytes blankAux lengthRefusals frameWriteRefusal writeFrame sealedLength headersRefusal sealRefusals sealRefusal sealRefused sealBy sealFrame
+    securityByte auxBytes blankAux lengthRefusals frameWriteRefusal writeFrame tagLength sealedLength headersRefusal sealRefusals sealRefusal sealRefused sealBy sealFrame
     made auxiliary agreeing each inOrder
 order-kept =
     ((refl, refl), (refl, (refl, (refl, (refl, (refl, (refl, (refl, (refl, (refl, (refl, (refl, (refl, ((refl, refl), (refl, (refl, (refl, tt)))))))))))))))))

@@ -9,7 +9,7 @@ use Prim.Native.Nat.{ℕ}
 use lib.ListN.{length, drop, replicate}
 use Rattle.types.specs.Addresses.{noNwk}
 use Rattle.types.specs.Optional.{hasIeee}
-use Rattle.types.specs.declared.OptionEui64.{OptionEui64}
+use Rattle.types.specs.declared.{OptionEui64.OptionEui64, level.Level.Level}
 use Rattle.header.specs.declared.{auxiliary.NwkSecurityLevel.NwkSecurityLevel, auxiliary.NwkSecurityHeaderKeyId.NwkSecurityHeaderKeyId, control.NwkFrameType.NwkFrameType, control.NwkRouteDiscovery.NwkRouteDiscovery, optional.NwkSourceRoute.NwkSourceRoute, nwk.NwkHeader.NwkHeader}
 use Rattle.frame.specs.declared.{OptionAuxHeader.OptionAuxHeader, Mark.Mark}
 use Rattle.frame.specs.Sealing.{sealFrame}
@@ -17,7 +17,7 @@ use Rattle.frame.specs.Opening.{openFrame}
 use Rattle.boundary.specs.Starred.{fromProbe}
 use Rattle.worked_frames.specs.Bytes.{hex}
 
--- ---- the rows, each under the one key and header
+-- ---- the rows, each at level 5 under the one key and header
 
 pub data Case : Type 0 where
   -- with this auxiliary header a payload is sealed as a byte string
@@ -54,10 +54,10 @@ lent = replicate 30 0xA5
 
 -- what a row says: the operation's whole answer and its whole output
 abbrev pub Holds : Case → Type 0
-Holds (seals a p f) = sealFrame key probe a p lent ≡ record { answer = record { refusal = 0; length = length f }; out = f ++ drop (length f) lent }
-Holds (refuses a p n) = sealFrame key probe a p lent ≡ record { answer = record { refusal = n; length = 0 }; out = lent }
+Holds (seals a p f) = sealFrame Level.EncMic32 key probe a p lent ≡ record { answer = record { refusal = 0; length = length f }; out = f ++ drop (length f) lent }
+Holds (refuses a p n) = sealFrame Level.EncMic32 key probe a p lent ≡ record { answer = record { refusal = n; length = 0 }; out = lent }
 Holds (opens f a ieee p) =
-    openFrame key f lent
+    openFrame Level.EncMic32 key f lent
     ≡ record {
       answer = record { refusal = 0; mark = Mark.Sealed; length = length p; «nonce_ieee» = ieee; header = probe; aux = a };
       out = p ++ drop (length p) lent;

@@ -9,7 +9,7 @@ use lib.ListN.{replicate}
 use lib.Dec.{eqb}
 use Rattle.types.specs.Addresses.{nwk, noNwk}
 use Rattle.types.specs.Optional.{ieeeIf}
-use Rattle.types.specs.declared.OptionEui64.{OptionEui64}
+use Rattle.types.specs.declared.{OptionEui64.OptionEui64, level.Level.Level}
 use Rattle.header.specs.declared.{auxiliary.NwkSecurityLevel.NwkSecurityLevel, auxiliary.NwkSecurityHeaderKeyId.NwkSecurityHeaderKeyId, control.NwkFrameType.NwkFrameType, control.NwkRouteDiscovery.NwkRouteDiscovery, nwk.NwkHeader.NwkHeader}
 use Rattle.header.specs.Optional.{multicastIf, routeIf}
 use Rattle.header.specs.Writing.{writeHeader}
@@ -32,7 +32,7 @@ lent = replicate 118 0xA5
 
 abbrev pub Holds : Case → Type 0
 Holds (writing h n) = (writeHeader h lent .answer .refusal ≡ n) × (writeFrame h [] lent .answer .refusal ≡ n)
-Holds (sealing h a n) = sealFrame key h a [] lent .answer .refusal ≡ n
+Holds (sealing h a n) = sealFrame Level.EncMic32 key h a [] lent .answer .refusal ≡ n
 
 -- ---- what the rows name
 

@@ -14,7 +14,7 @@ unfolding openBurst
 returns c =
     let r = c .before .refusal in
     let a = c .before .before .before .before .before .args in
-    let run = refused-by _ (r .result) (burstGiven (ciphOf (a .key .0)) (a .frames .now) (a .lengths .now) (a .out .now) (a .answers .now))
+    let run = refused-by _ (r .result) (burstGiven (a .level) (ciphOf (a .key .0)) (a .frames .now) (a .lengths .now) (a .out .now) (a .answers .now))
     (λ (n : ℕ). burstNothing n (a .out .now) (a .answers .now)) (r .ensures) (c .if1 .taken) in
     (ap (λ (x : Run). x .answer) run, (ap (λ (x : Run). x .out) run, ap (λ (x : Run). x .answers) run))
 
@@ -33,7 +33,7 @@ returns-2 c =
     let r = passed .before .refusal in
     let a = passed .before .before .before .before .before .args in
     let same = cipher-is _ _ (keys .expand .ensures) in
-    let run = accepted-by _ (r .result) (burstGiven (ciphOf (a .key .0)) (a .frames .now) (a .lengths .now) (a .out .now) (a .answers .now))
+    let run = accepted-by _ (r .result) (burstGiven (a .level) (ciphOf (a .key .0)) (a .frames .now) (a .lengths .now) (a .out .now) (a .answers .now))
     (burstNothing _ (a .out .now) (a .answers .now)) (r .ensures) (passed .if1 .left) in (
       ap (λ (x : Run). x .answer) run,
       (

@@ -14,13 +14,13 @@ use Rattle.burst.proofs.Accepted.{Ready, ready}
 use Rattle.burst.proofs.Turns.{out-more, answers-more}
 
 abbrev Inv-loop : tie.InvT-loop
-Inv-loop table keys frames lengths out₀ answers₀ at₀ k₀ out answers at k =
+Inv-loop level table keys frames lengths out₀ answers₀ at₀ k₀ out answers at k =
     (k ≤ length lengths) × (at ≤ k * 65535) × (at ≡ total (take k lengths)) × (length out ≡ length out₀) × (length answers ≡ length answers₀)
-    × (out ≡ outAfter (ciphUnder keys) frames lengths out₀ k)
-    × (answers ≡ answersAfter (ciphUnder keys) frames lengths out₀ answers₀ k)
+    × (out ≡ outAfter level (ciphUnder keys) frames lengths out₀ k)
+    × (answers ≡ answersAfter level (ciphUnder keys) frames lengths out₀ answers₀ k)
 
 abbrev μ-loop : tie.MeasureT-loop
-μ-loop table keys frames lengths out₀ answers₀ at₀ k₀ out answers at k = length lengths - k
+μ-loop level table keys frames lengths out₀ answers₀ at₀ k₀ out answers at k = length lengths - k
 
 loop-holds : tie.Need-loop-holds Inv-loop μ-loop
 unfolding joined total tab outAfter answersAfter
@@ -92,8 +92,8 @@ loop-again c =
       rw (l .inv .2) (sym (total-more (start read .args .lengths .now) (l .k) below)),
       c .before .out .given .1 ∙ l .inv .3,
       simp length-set (l .inv .4),
-      out-more _ _ _ _ (l .k) (l .at) _ (l .out) (f .burst .fits) below (l .inv .2) size (l .inv .5) _ (o .0),
-      answers-more _ _ _ _ (l .k) (l .at) _ (l .out) (f .burst .fits) below (l .inv .2) size (l .inv .5) (start read .args .answers .now) _ _
+      out-more _ _ _ _ _ (l .k) (l .at) _ (l .out) (f .burst .fits) below (l .inv .2) size (l .inv .5) _ (o .0),
+      answers-more _ _ _ _ _ (l .k) (l .at) _ (l .out) (f .burst .fits) below (l .inv .2) size (l .inv .5) (start read .args .answers .now) _ _
           (f .burst .listed) (l .inv .6) (o .1),
     )
 

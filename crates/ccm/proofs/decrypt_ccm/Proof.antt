@@ -11,7 +11,7 @@ returns : tie.Need-returns
 returns c =
     let a = c .before .before .before .before .before .args in
     let r = c .before .refusal in
-    let e = decrypt-refused (a .key) (a .nonce) (a .auth .now) (a .ciphertext .now) (a .mic) (a .out .now) (r .result) (r .ensures) (c .if1 .taken) in
+    let e = decrypt-refused (a .level) (a .key) (a .nonce) (a .auth .now) (a .ciphertext .now) (a .mic) (a .out .now) (r .result) (r .ensures) (c .if1 .taken) in
     (λ i. e i .answer, λ i. e i .out)
 
 open-under-requires : tie.Need-open-under-requires
@@ -20,8 +20,8 @@ open-under-requires c κs =
     let passed = made .before .before in
     let a = passed .before .before .before .before .before .args in
     let r = passed .before .refusal in
-    let w = within (length (a .auth .now)) (length (a .ciphertext .now)) (length (a .out .now)) (sym (r .ensures) ∙ passed .if1 .left) in
-    (made .cipher-table .ensures, w .0, w .1, w .2)
+    let w = within (a .level) (length (a .auth .now)) (length (a .ciphertext .now)) (length (a .out .now)) (sym (r .ensures) ∙ passed .if1 .left) in
+    (made .cipher-table .ensures, w .0, w .1, w .2, w .3)
 
 returns-2 : tie.Need-returns-2
 returns-2 c =
@@ -29,7 +29,7 @@ returns-2 c =
     let keys = opened .before .before .before .before .before in
     let passed = keys .before in
     let s = opened .open-under .ensures in
-    let e = decrypt-done _ _ _ _ _ _ _ _ _ (keys .expand .ensures) (sym (passed .before .refusal .ensures) ∙ passed .if1 .left) (s .0) (s .1) (c .if2 .taken) in
+    let e = decrypt-done _ _ _ _ _ _ _ _ _ _ (keys .expand .ensures) (sym (passed .before .refusal .ensures) ∙ passed .if1 .left) (s .0) (s .1) (c .if2 .taken) in
     (λ i. e i .answer, λ i. e i .out)
 
 returns-3 : tie.Need-returns-3
@@ -38,7 +38,7 @@ returns-3 c =
     let keys = opened .before .before .before .before .before in
     let passed = keys .before in
     let s = opened .open-under .ensures in
-    let e = decrypt-not _ _ _ _ _ _ _ _ _ (keys .expand .ensures) (sym (passed .before .refusal .ensures) ∙ passed .if1 .left) (s .0) (s .1) (c .if2 .left) in
+    let e = decrypt-not _ _ _ _ _ _ _ _ _ _ (keys .expand .ensures) (sym (passed .before .refusal .ensures) ∙ passed .if1 .left) (s .0) (s .1) (c .if2 .left) in
     (λ i. e i .answer, λ i. e i .out)
 
 pub decrypt-ccm-spec : {M : Type 1} → statement M

@@ -11,14 +11,14 @@ returns : tie.Need-returns
 returns c =
     let a = c .before .before .before .before .before .args in
     let r = c .before .refusal in
-    let e = encrypt-refused (a .key) (a .nonce) (a .auth .now) (a .payload .now) (a .out .now) (r .result) (r .ensures) (c .if1 .taken) in
+    let e = encrypt-refused (a .level) (a .key) (a .nonce) (a .auth .now) (a .payload .now) (a .out .now) (r .result) (r .ensures) (c .if1 .taken) in
     (λ i. e i .answer, λ i. e i .out)
 
 seal-requires : tie.Need-seal-requires
 seal-requires c κs =
     let a = c .before .before .before .before .before .before .args in
     let r = c .before .before .refusal in
-    within (length (a .auth .now)) (length (a .payload .now)) (length (a .out .now)) (sym (r .ensures) ∙ c .before .if1 .left)
+    within (a .level) (length (a .auth .now)) (length (a .payload .now)) (length (a .out .now)) (sym (r .ensures) ∙ c .before .if1 .left)
 
 returns-2 : tie.Need-returns-2
 returns-2 c =
@@ -26,7 +26,7 @@ returns-2 c =
     let r = c .before .before .before .before .before .refusal in
     let s = c .before .before .seal in
     let e =
-    encrypt-done (a .key) (a .nonce) (a .auth .now) (a .payload .now) (a .out .now) (s .result) _
+    encrypt-done (a .level) (a .key) (a .nonce) (a .auth .now) (a .payload .now) (a .out .now) (s .result) _
     (sym (r .ensures) ∙ c .before .before .before .before .if1 .left) (s .ensures .0) (s .ensures .1) in
     (λ i. e i .answer, λ i. e i .out)
 

@@ -1,25 +1,38 @@
--- `ccm::split_mic` meets its contract: below four bytes 16, else the last four. Assumes nothing.
+-- `ccm::split_mic` meets its contract: refused by its number, or the last bytes, as many as the tag has. Assumes nothing.
 use borrow.Author.Needs.{needs}
-use mathlib.Core.Path.{refl}
-use borrow.Author.Tests.{lt-ltb, le-ltb}
+use mathlib.Core.Path.{sym, _∙_}
+use Prim.Native.Nat.{_-_, _≤_}
+use native.Mathlib.Omega.{arith}
+use lib.ListN.{length, length-drop}
+use Rattle.ccm.proofs.Runs.{split-tagged, split-refused, split-done}
 use Rattle.ccm.proofs.split_mic.Statement.{statement}
 use Rattle.ccm.proofs.split_mic.Tie as tie
-use Rattle.octets.specs.Strings.{tab}
-use Rattle.ccm.specs.Operations.{splitMic}
-use Rattle.ccm.proofs.Answers.{split-last}
 
 returns : tie.Need-returns
-unfolding splitMic
-returns c = rw (lt-ltb _ _ (c .if1 .taken)) refl
+returns c = split-refused _ _ _ (c .before .split-refusal .ensures) (c .if1 .taken)
+
+-- there are as many bytes as the tag has
+tagged : (c : tie.After-tag-length) → c .tag-length .result ≤ length (c .before .before .before .before .args .s .now)
+tagged c =
+    let e = split-tagged _ _ (sym (c .before .before .split-refusal .ensures) ∙ c .before .if1 .left) in
+    omega (arith, e, c .tag-length .ensures .0)
+
+sub-n : tie.Need-sub-n
+sub-n c = tagged c
+
+places-from-requires : tie.Need-places-from-requires
+places-from-requires c κs =
+    let s = c .before .before .before .before .args .s .now in
+    let h = tagged c in
+    let l = length-drop (length s - c .tag-length .result) s in
+    (omega arith, omega (arith, l, c .tag-length .ensures .1))
 
 returns-2 : tie.Need-returns-2
-unfolding splitMic tab
 returns-2 c =
-    let s = c .before .before .before .before .before .args .s .now in
-    rw (le-ltb _ _ (c .before .before .before .before .if1 .left), ← split-last s (c .before .before .before .before .if1 .left)) refl
+    let t = c .before in
+    split-done _ _ _ _ (t .tag-length .ensures .0) (sym (t .before .before .split-refusal .ensures) ∙ t .before .if1 .left) (c .places-from .ensures)
 
 pub split-mic-spec : {M : Type 1} → statement M
 split-mic-spec =
     tie.close
-    (tie.spec returns (λ c. search needs) (λ c. search needs) (λ c. search needs) (λ c. search needs)
-    (λ c. search needs) (λ c. search needs) (λ c. search needs) (λ c. search needs) returns-2)
+    (tie.spec (λ c κs. search needs) returns (λ c κs. search needs) sub-n places-from-requires returns-2)

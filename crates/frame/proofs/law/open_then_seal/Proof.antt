@@ -15,14 +15,14 @@ returns c =
     let fit = opened .before .before in
     let o = opened .«open» .ensures in
     let s = sealed .seal .ensures in
-    let run = open-then-seal-run _ _ _ _ _ _ _ _ _ (o .0) (o .1) (payload .payload .ensures) (s .0) (s .1) in (
+    let run = open-then-seal-run _ _ _ _ _ _ _ _ _ _ (o .0) (o .1) (payload .payload .ensures) (s .0) (s .1) in (
       ap (λ (r : Run). r .answer) run,
       (
         o .1,
         (
           ap (λ (r : Run). r .out) run,
           λ accepted marked control other size.
-              rw run (second-half _ _ _ _ (fit .bytes-fit .ensures) accepted marked control other size),
+              rw run (second-half _ _ _ _ _ (fit .bytes-fit .ensures) accepted marked control other size),
         ),
       ),
     )

@@ -16,7 +16,7 @@ slice-reshare-prefix-open c =
     let sealed = c .before .before in
     let a = sealed .before .before .before .before .before .before .args in
     let e = ap (λ (r : FrameSealed). r .length) (sealed .seal .ensures .0) in
-    omega (arith, seal-within (a .key .0) (a .h) (a .aux) (a .payload .now) (a .frame .now), e, sealed .seal .kept .1 .1 .1 .1 .0)
+    omega (arith, seal-within (a .level) (a .key .0) (a .h) (a .aux) (a .payload .now) (a .frame .now), e, sealed .seal .kept .1 .1 .1 .1 .1 .0)
 
 slice-aggregate-open : tie.Need-slice-aggregate-open
 slice-aggregate-open c = sym (length-take-le _ _ (slice-reshare-prefix-open (c .before)))
@@ -28,13 +28,13 @@ returns c =
     let ranges = sealed .before .before in
     let s = sealed .seal .ensures in
     let o = opened .«open» .ensures in
-    let run = seal-then-open-run _ _ _ _ _ _ _ _ _ _ (s .0) (s .1) (o .0) (o .1) in (
+    let run = seal-then-open-run _ _ _ _ _ _ _ _ _ _ _ (s .0) (s .1) (o .0) (o .1) in (
       ap (λ (r : Run). r .answer) run,
       (
         s .1,
         (
           ap (λ (r : Run). r .out) run,
-          λ accepted room. rw run (first-half _ _ _ _ _ _ (ranges .in-range .ensures) accepted room),
+          λ accepted room. rw run (first-half _ _ _ _ _ _ _ (ranges .in-range .ensures) accepted room),
         ),
       ),
     )

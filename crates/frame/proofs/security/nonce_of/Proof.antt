@@ -7,9 +7,10 @@ use Rattle.frame.specs.Security.{nonce}
 returns : tie.Need-returns
 unfolding nonce
 returns c =
-    rw (c .nonce-bytes .ensures, c .before .before .before .source-ieee .ensures, c .before .to-byte .ensures .0, c .before .before .with-level .ensures)
+    let level = c .before .before .before in
+    rw (c .nonce-bytes .ensures, level .before .source-ieee .ensures, c .before .to-byte .ensures .0, c .before .before .with-level .ensures, level .field-level .ensures)
 
 pub nonce-of-spec : {M : Type 1} → statement M
 nonce-of-spec =
     tie.close
-    (tie.spec (λ c κs. search needs) (λ c κs. search needs) (λ c κs. search needs) (λ c κs. search needs) returns)
+    (tie.spec (λ c κs. search needs) (λ c κs. search needs) (λ c κs. search needs) (λ c κs. search needs) (λ c κs. search needs) returns)

@@ -9,9 +9,10 @@ returns : tie.Need-returns
 returns c =
     let opened = c .before .before .before in
     let k = opened .before .before .before .before .before .from-halves .ensures in
-    (rw (c .answer .ensures, opened .decrypt-ccm .ensures .0, k), opened .decrypt-ccm .ensures .1 ∙ rw k)
+    let l = opened .before .before .before .before .before .before .of .ensures in
+    (rw (c .answer .ensures, opened .decrypt-ccm .ensures .0, k, l), opened .decrypt-ccm .ensures .1 ∙ rw (k, l))
 
 pub nwk-decrypt-ccm-spec : {M : Type 1} → statement M
 nwk-decrypt-ccm-spec =
     tie.close
-    (tie.spec (λ c κs. search needs) (λ c κs. search needs) (λ c κs. search needs) (λ c. search needs) returns)
+    (tie.spec (λ c κs. search needs) (λ c κs. search needs) (λ c κs. search needs) (λ c κs. search needs) (λ c. search needs) returns)

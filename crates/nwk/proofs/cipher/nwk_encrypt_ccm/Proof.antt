@@ -12,10 +12,11 @@ returns : tie.Need-returns
 returns c =
     let sealed = c .before .before .before .before .before in
     let k = sealed .before .before .before .before .from-halves .ensures in
-    let e = rw k at (sealed .encrypt-ccm .ensures .0) in (
+    let l = sealed .before .before .before .before .before .of .ensures in
+    let e = rw (k, l) at (sealed .encrypt-ccm .ensures .0) in (
       rw (c .answer .ensures, e),
       (
-        sealed .encrypt-ccm .ensures .1 ∙ rw k,
+        sealed .encrypt-ccm .ensures .1 ∙ rw (k, l),
         ⊎-elim
             (λ w. w .2 ∙ (λ i. e i .mic) ∙ sym (accepted _ _ _ (ap (λ (r : Sealed). r .refusal) (sym e) ∙ w .0 .taken)))
             (λ w. w .1 ∙ sym (refused _ _ _ (λ z. w .0 .left (ap (λ (r : Sealed). r .refusal) e ∙ z))))
@@ -26,4 +27,4 @@ returns c =
 pub nwk-encrypt-ccm-spec : {M : Type 1} → statement M
 nwk-encrypt-ccm-spec =
     tie.close
-    (tie.spec (λ c κs. search needs) (λ c κs. search needs) (λ c κs. search needs) (λ c. search needs) returns)
+    (tie.spec (λ c κs. search needs) (λ c κs. search needs) (λ c κs. search needs) (λ c κs. search needs) (λ c. search needs) returns)

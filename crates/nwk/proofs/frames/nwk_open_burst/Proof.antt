@@ -10,9 +10,10 @@ returns c =
     let opened = c .before .before .before .before in
     let o = opened .open-burst .ensures in
     let k = opened .before .before .before .from-halves .ensures in
-    (rw (c .answer .ensures, o .0, k), (o .1 .1 ∙ rw k, o .1 .0 ∙ rw k))
+    let l = opened .before .before .before .before .of .ensures in
+    (rw (c .answer .ensures, o .0, k, l), (o .1 .1 ∙ rw (k, l), o .1 .0 ∙ rw (k, l)))
 
 pub nwk-open-burst-spec : {M : Type 1} → statement M
 nwk-open-burst-spec =
     tie.close
-    (tie.spec (λ c κs. search needs) (λ c κs. search needs) (λ c κs. search needs) (λ c. search needs) (λ c. search needs) returns)
+    (tie.spec (λ c κs. search needs) (λ c κs. search needs) (λ c κs. search needs) (λ c κs. search needs) (λ c. search needs) (λ c. search needs) returns)

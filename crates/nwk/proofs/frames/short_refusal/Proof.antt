@@ -6,7 +6,6 @@ use mathlib.Core.List.{[], _∷_}
 use Prim.Native.Nat.{ℕ}
 use lib.ListN.{length, drop}
 use Rattle.octets.specs.Refusals.{on, by, firstOf}
-use Rattle.ccm.specs.Operations.{micLength}
 use Rattle.frame.specs.Opening.{behind, openRefusals}
 use Rattle.nwk.specs.Frames.{openNumber}
 use Rattle.nwk.proofs.frames.short_refusal.Statement.{statement}
@@ -20,7 +19,7 @@ returns c =
     let part = ap length (c .before .before .behind .ensures ∙ (λ i. drop (e i .length) (a .bytes .now))) in
     c .refuse .ensures
     ∙ ap (λ (n : ℕ). firstOf (by n ∷ on 18 true ∷ []))
-    (c .before .open-refusal .ensures ∙ (λ i. firstOf (openRefusals micLength (e i .refusal) (e i .header) (e i .aux) (part i) (a .room))))
+    (c .before .open-refusal .ensures ∙ (λ i. firstOf (openRefusals (a .level) (e i .refusal) (e i .header) (e i .aux) (part i) (a .room))))
 
 pub short-refusal-spec : {M : Type 1} → statement M
 short-refusal-spec =
