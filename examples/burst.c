@@ -33,8 +33,8 @@ static uint16_t seal(struct nwk_key key, uint32_t counter, const char *reading, 
   nwk_put32(auxiliary + NWK_AUXILIARY_COUNTER, counter);
   auxiliary[NWK_AUXILIARY_HAS_IEEE] = 1;
   auxiliary[NWK_AUXILIARY_EXTENDED_NONCE_BIT] = auxiliary[NWK_AUXILIARY_HAS_IEEE];
-  return (uint16_t)NWK_LENGTH(nwk_seal(key.first, key.second, header, sizeof header, auxiliary, sizeof auxiliary,
-                                       (const uint8_t *)reading, 6, frame, room));
+  return (uint16_t)NWK_LENGTH(nwk_seal(NWK_LEVEL_ENC_MIC_32, key.first, key.second, header, sizeof header, auxiliary,
+                                       sizeof auxiliary, (const uint8_t *)reading, 6, frame, room));
 }
 
 /* Writes a clear reading of 6 bytes, and gives the frame's length, 0 where that is refused. */
@@ -83,7 +83,8 @@ int main(void) {
 
   uint8_t answers[NWK_MAX_BURST][NWK_OPENED_RECORD];
   uint8_t out[NWK_MAX_BURST * NWK_MAX_PAYLOAD];
-  uint64_t answer = nwk_open_burst(key.first, key.second, frames, end, lengths, 5, answers, NWK_MAX_BURST, out, sizeof out);
+  uint64_t answer = nwk_open_burst(NWK_LEVEL_ENC_MIC_32, key.first, key.second, frames, end, lengths, 5, answers, NWK_MAX_BURST,
+                                   out, sizeof out);
   if (NWK_REFUSAL(answer) != NWK_ACCEPTED) {
     printf("refused: %s\n", nwk_refusal_text(NWK_REFUSAL(answer)));
     return 1;

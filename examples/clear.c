@@ -38,7 +38,7 @@ static const uint8_t damaged_frame[] = {
 static uint64_t open_and_show(const uint8_t *frame, size_t n, uint8_t *out, size_t room) {
   const struct nwk_key key = nwk_key_of(key_bytes);
   uint8_t record[NWK_OPENED_RECORD];
-  const uint64_t answer = nwk_open(key.first, key.second, frame, n, record, sizeof record, out, room);
+  const uint64_t answer = nwk_open(NWK_LEVEL_ENC_MIC_32, key.first, key.second, frame, n, record, sizeof record, out, room);
   if (NWK_REFUSAL(answer) != NWK_ACCEPTED) {
     printf("refused by %u: %s\n", NWK_REFUSAL(answer), nwk_refusal_text(NWK_REFUSAL(answer)));
     return answer;

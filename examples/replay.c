@@ -37,7 +37,7 @@ static uint8_t take(const uint8_t *frame, size_t n) {
   const struct nwk_key key = nwk_key_of(key_bytes);
   uint8_t record[NWK_OPENED_RECORD];
   uint8_t out[NWK_MAX_PAYLOAD];
-  uint64_t answer = nwk_open(key.first, key.second, frame, n, record, sizeof record, out, sizeof out);
+  uint64_t answer = nwk_open(NWK_LEVEL_ENC_MIC_32, key.first, key.second, frame, n, record, sizeof record, out, sizeof out);
   if (NWK_REFUSAL(answer) != NWK_ACCEPTED || NWK_CLEAR(answer)) {
     return NWK_REFUSAL(answer);
   }

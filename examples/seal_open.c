@@ -13,6 +13,9 @@
 
 #define FILLER 0xA5
 
+/* The network's level: a MIC of 4 bytes. level.c has the others. */
+#define LEVEL NWK_LEVEL_ENC_MIC_32
+
 static const uint8_t key_bytes[16] = {
     0xC0, 0xC1, 0xC2, 0xC3, 0xC4, 0xC5, 0xC6, 0xC7, 0xC8, 0xC9, 0xCA, 0xCB, 0xCC, 0xCD, 0xCE, 0xCF,
 };
@@ -65,7 +68,7 @@ int main(void) {
   const struct nwk_key key = nwk_key_of(key_bytes);
 
   uint8_t frame[NWK_MAX_FRAME];
-  uint64_t sealed = nwk_seal(key.first, key.second, header, sizeof header, auxiliary, sizeof auxiliary, payload,
+  uint64_t sealed = nwk_seal(LEVEL, key.first, key.second, header, sizeof header, auxiliary, sizeof auxiliary, payload,
                              sizeof payload, frame, sizeof frame);
   if (NWK_REFUSAL(sealed) != NWK_ACCEPTED) {
     printf("sealing refused: %s\n", nwk_refusal_text(NWK_REFUSAL(sealed)));
@@ -80,7 +83,7 @@ int main(void) {
 
   uint8_t record[NWK_OPENED_RECORD];
   uint8_t plain[NWK_MAX_PAYLOAD];
-  uint64_t opened = nwk_open(key.first, key.second, frame, n, record, sizeof record, plain, sizeof plain);
+  uint64_t opened = nwk_open(LEVEL, key.first, key.second, frame, n, record, sizeof record, plain, sizeof plain);
   if (NWK_REFUSAL(opened) != NWK_ACCEPTED) {
     printf("opening refused: %s\n", nwk_refusal_text(NWK_REFUSAL(opened)));
     return 1;
@@ -107,7 +110,7 @@ int main(void) {
   frame[n - 5] ^= 1;
   memset(plain, FILLER, sizeof plain);
   memset(record, FILLER, sizeof record);
-  uint64_t damaged = nwk_open(key.first, key.second, frame, n, record, sizeof record, plain, sizeof plain);
+  uint64_t damaged = nwk_open(LEVEL, key.first, key.second, frame, n, record, sizeof record, plain, sizeof plain);
   printf("damaged: refusal %u, length %u\n", NWK_REFUSAL(damaged), NWK_LENGTH(damaged));
   if (NWK_REFUSAL(damaged) != NWK_REFUSED_WRONG_MIC || NWK_LENGTH(damaged) != 0 || !untouched(plain, sizeof plain) ||
       !untouched(record, sizeof record)) {
@@ -117,7 +120,7 @@ int main(void) {
   /* The last counter, whose frames receivers throw away: sealing refuses it by 21, and nothing is written. */
   nwk_put32(auxiliary + NWK_AUXILIARY_COUNTER, 0xFFFFFFFF);
   memset(frame, FILLER, sizeof frame);
-  uint64_t last = nwk_seal(key.first, key.second, header, sizeof header, auxiliary, sizeof auxiliary, payload,
+  uint64_t last = nwk_seal(LEVEL, key.first, key.second, header, sizeof header, auxiliary, sizeof auxiliary, payload,
                            sizeof payload, frame, sizeof frame);
   printf("last counter: refusal %u, length %u\n", NWK_REFUSAL(last), NWK_LENGTH(last));
   if (NWK_REFUSAL(last) != NWK_REFUSED_LAST_COUNTER || NWK_LENGTH(last) != 0 || !untouched(frame, sizeof frame)) {

@@ -23,8 +23,8 @@
 extern "C" {
 #endif
 
-#define NWK_VERSION "0.10.1"
-#define NWK_VERSION_NUMBER 0x000A01
+#define NWK_VERSION "0.11.0"
+#define NWK_VERSION_NUMBER 0x000B00
 
 #ifdef __cplusplus
 #define NWK_CAST(type, value) static_cast<type>(value)
@@ -51,6 +51,13 @@ extern "C" {
 #define NWK_MAX_PAYLOAD 108
 #define NWK_MAX_BURST 16
 #define NWK_MAX_SENDERS 64
+
+/* The network's level; any other number is 29. It is authenticated and not sent, and its MIC has 4, 8 or 16 bytes: at another level a
+ * frame is refused by 19 or 16. A MIC lent alone has 16 places, those past its bytes given as 0 and not read. */
+#define NWK_LEVEL_ENC_MIC_32 5
+#define NWK_LEVEL_ENC_MIC_64 6
+#define NWK_LEVEL_ENC_MIC_128 7
+#define NWK_MIC_PLACES 16
 
 /* ---- refusals; nwk_refusal_text gives their conditions in words */
 
@@ -83,7 +90,8 @@ enum nwk_refusal {
   NWK_REFUSED_JOURNAL_KIND = 25,
   NWK_REFUSED_COUNTERS_USED_UP = 26,
   NWK_REFUSED_NO_CEILING = 27,
-  NWK_REFUSED_PRESENCE_BITS = 28
+  NWK_REFUSED_PRESENCE_BITS = 28,
+  NWK_REFUSED_LEVEL = 29
 };
 
 /* ---- records
@@ -223,18 +231,19 @@ uint64_t nwk_read_frame(const uint8_t *bytes, size_t bytes_len, uint8_t *header,
 uint64_t nwk_write_frame(const uint8_t *header, size_t header_len, const uint8_t *payload, size_t payload_len, uint8_t *out,
     size_t out_len);
 
-/* Seal a frame to out. Length: the frame's bytes. The level does not matter: 5 is authenticated and 0 is sent. When the fields are filled
- * in, three lines set the bits:
+/* Seal a frame to out. Length: the frame's bytes. level is authenticated and 0 is sent; the auxiliary record's own does not matter. When
+ * the fields are filled in, three lines set the bits:
  *
  *   nwk_set_presence_bits(header);
  *   header[NWK_HEADER_SECURITY_BIT] = 1;
  *   auxiliary[NWK_AUXILIARY_EXTENDED_NONCE_BIT] = auxiliary[NWK_AUXILIARY_HAS_IEEE];
  *
- * Refusals: 13 a record; 28 as nwk_write_header, or the security bit is off; 14 the auxiliary record's presence byte is 0; 28 the extended
- * nonce bit disagrees with the auxiliary IEEE; 15 neither record has an IEEE for the nonce (the auxiliary one, else the header's source);
- * 21 the counter is FFFFFFFF, which receivers throw away; 17 a payload over 108 or a frame over 118; 18 out shorter. */
-uint64_t nwk_seal(uint64_t key_first, uint64_t key_second, const uint8_t *header, size_t header_len, const uint8_t *auxiliary,
-    size_t auxiliary_len, const uint8_t *payload, size_t payload_len, uint8_t *out, size_t out_len);
+ * Refusals: 29 level; 13 a record; 28 as nwk_write_header, or the security bit is off; 14 the auxiliary record's presence byte is 0; 28
+ * the extended nonce bit disagrees with the auxiliary IEEE; 15 neither record has an IEEE for the nonce (the auxiliary one, else the
+ * header's source); 21 the counter is FFFFFFFF, which receivers throw away; 17 a payload over 108 or a frame over 118; 18 out
+ * shorter. */
+uint64_t nwk_seal(uint64_t level, uint64_t key_first, uint64_t key_second, const uint8_t *header, size_t header_len,
+    const uint8_t *auxiliary, size_t auxiliary_len, const uint8_t *payload, size_t payload_len, uint8_t *out, size_t out_len);
 
 /* Open a frame into an opened record and out. Length: the payload's bytes. Look at NWK_CLEAR(answer) before you take the payload:
  *
@@ -242,19 +251,21 @@ uint64_t nwk_seal(uint64_t key_first, uint64_t key_second, const uint8_t *header
  *   1  the frame was clear, its security bit off: anyone may have sent it. Its payload stands in the last bytes of bytes; out is not
  *      touched, and may be shorter than the length, or empty.
  *
- * nwk_payload gives the address in either case. A payload of type 1 is a command, sealed or clear (nwk_payload_kind). Refusals: 1
- * to 12 as nwk_read_frame; of a sealed frame 15 no IEEE for the nonce, 16 fewer than 4 bytes behind the headers, 18 out shorter than
- * the payload; of any frame 18 opened shorter than 182; of a sealed frame 19 the MIC is not the one computed. */
-uint64_t nwk_open(uint64_t key_first, uint64_t key_second, const uint8_t *bytes, size_t bytes_len, uint8_t *opened,
-    size_t opened_len, uint8_t *out, size_t out_len);
+ * nwk_payload gives the address in either case. A payload of type 1 is a command, sealed or clear (nwk_payload_kind). Refusals: 29
+ * level, also of a clear frame; 1 to 12 as nwk_read_frame; of a sealed frame 15 no IEEE for the nonce, 16 fewer bytes than the
+ * MIC's behind the headers, 18 out shorter than the payload; of any frame 18 opened shorter than 182; of a sealed frame 19 the MIC is
+ * not the one computed. */
+uint64_t nwk_open(uint64_t level, uint64_t key_first, uint64_t key_second, const uint8_t *bytes, size_t bytes_len,
+    uint8_t *opened, size_t opened_len, uint8_t *out, size_t out_len);
 
-/* Open a burst: up to 16 frames under one key, frames being their bytes end to end and lengths the bytes of each. Length: the number of
- * frames, which may be 0. Refusals: 20 more than 16 lengths, lengths whose sum is not frames_len, out shorter than 108 times
- * lengths_count, or fewer answers than lengths. A refused frame does not stop the next one.
+/* Open a burst: up to 16 frames under one key and level, frames being their bytes end to end and lengths the bytes of each. Length: the
+ * number of frames, which may be 0. Refusals: 20 more than 16 lengths, lengths whose sum is not frames_len, out shorter than 108 times
+ * lengths_count, or fewer answers than lengths. A refused frame does not stop the next one; at any other level each is refused by 29.
  * Afterwards answers[k] is the opened record of frame k (from 0), and the 108 bytes of out from 108 * k are its part: both as nwk_open
  * leaves them for that frame and part alone, but that a refused frame's record is its number and zeros. Other records and bytes stay. */
-uint64_t nwk_open_burst(uint64_t key_first, uint64_t key_second, const uint8_t *frames, size_t frames_len, const uint16_t *lengths,
-    size_t lengths_count, uint8_t (*answers)[NWK_OPENED_RECORD], size_t answers_count, uint8_t *out, size_t out_len);
+uint64_t nwk_open_burst(uint64_t level, uint64_t key_first, uint64_t key_second, const uint8_t *frames, size_t frames_len,
+    const uint16_t *lengths, size_t lengths_count, uint8_t (*answers)[NWK_OPENED_RECORD], size_t answers_count, uint8_t *out,
+    size_t out_len);
 
 /* Where the payload is that nwk_open, or nwk_open_burst, spoke of: by the mark in the opened record, the payload's length and the
  * frame's. Length: the payload's bytes, 0 for NWK_MARK_NONE. NWK_CLEAR(answer) is 1 if they are in the frame, from
@@ -396,21 +407,21 @@ uint64_t nwk_timeout_seconds(uint8_t code);
 
 /* ---- CCM and AES alone */
 
-/* Seal a payload with CCM (SP 800-38C, AES-128): out is then the ciphertext and mic the MIC. out may not overlap payload: the MIC would
- * be wrong. Length: the payload's. Refusals: 1 auth or payload over 127; 18 out shorter than the payload. */
-uint64_t nwk_encrypt_ccm(uint64_t key_first, uint64_t key_second, const uint8_t nonce[13], const uint8_t *auth, size_t auth_len,
-    const uint8_t *payload, size_t payload_len, uint8_t *out, size_t out_len, uint8_t mic[4]);
+/* Seal a payload with CCM (SP 800-38C, AES-128): out is then the ciphertext and mic level's MIC. Length: the payload's. Refusals: 29
+ * level; 1 auth or payload over 127; 18 out shorter than the payload. */
+uint64_t nwk_encrypt_ccm(uint64_t level, uint64_t key_first, uint64_t key_second, const uint8_t nonce[13], const uint8_t *auth,
+    size_t auth_len, const uint8_t *payload, size_t payload_len, uint8_t *out, size_t out_len, uint8_t mic[16]);
 
-/* Open a ciphertext with its MIC: out, which may not overlap ciphertext, is then the payload. Length: the payload's. Refusals: 1 auth or
- * ciphertext over 127; 18 out shorter than the ciphertext; 19 the MIC is not the one computed. */
-uint64_t nwk_decrypt_ccm(uint64_t key_first, uint64_t key_second, const uint8_t nonce[13], const uint8_t *auth, size_t auth_len,
-    const uint8_t *ciphertext, size_t ciphertext_len, const uint8_t mic[4], uint8_t *out, size_t out_len);
+/* Open a ciphertext with level's MIC: out is then the payload. Length: the payload's. Refusals: 29 level; 1 auth or ciphertext over 127;
+ * 18 out shorter than the ciphertext; 19 the MIC is not the one computed. */
+uint64_t nwk_decrypt_ccm(uint64_t level, uint64_t key_first, uint64_t key_second, const uint8_t nonce[13], const uint8_t *auth,
+    size_t auth_len, const uint8_t *ciphertext, size_t ciphertext_len, const uint8_t mic[16], uint8_t *out, size_t out_len);
 
-/* Take the MIC, the last 4 bytes, off ciphertext with MIC: front is then the length of the ciphertext before it, whatever that is.
- * Length: the MIC's. Refusals: 16 fewer than 4 bytes. */
-uint64_t nwk_split_mic(const uint8_t *bytes, size_t bytes_len, uint8_t mic[4], uint64_t *front);
+/* Take the MIC, the last bytes, off ciphertext with MIC: front is then the length of the ciphertext before it, whatever that is. Length:
+ * the MIC's, 4, 8 or 16 by level. Refusals: 29 level; 16 fewer bytes. */
+uint64_t nwk_split_mic(uint64_t level, const uint8_t *bytes, size_t bytes_len, uint8_t mic[16], uint64_t *front);
 
-/* One block of AES-128 (FIPS 197); out may not overlap block. Length: 16. Nothing is refused. */
+/* One block of AES-128 (FIPS 197). Length: 16. Nothing is refused. */
 uint64_t nwk_encrypt_block(uint64_t key_first, uint64_t key_second, const uint8_t block[16], uint8_t out[16]);
 
 /* ---- helpers */
@@ -435,7 +446,7 @@ static inline const char *nwk_refusal_text(uint8_t refusal) {
       "a field to write exceeds its bits or has an undeclared code, or a list exceeds its places",
       "sealing has no auxiliary header",
       "sealing or opening has neither an auxiliary nor a header source IEEE",
-      "ciphertext with MIC has fewer than 4 bytes",
+      "ciphertext with MIC has fewer bytes than the tag",
       "the bytes to write exceed 118 for a header or frame, or 108 for a payload, alone or in a frame",
       "the lent output is shorter than what is to be written",
       "the MIC is not the one computed",
@@ -450,6 +461,7 @@ static inline const char *nwk_refusal_text(uint8_t refusal) {
       "no complete ceiling record of the journal covers the next counter",
       "one of bits 8, 10, 11 and 12 of frame control disagrees with its field, or in sealing bit 9 is off or the "
       "extended nonce bit disagrees with the auxiliary IEEE",
+      "the network's level is not 5, 6 or 7",
   };
   return refusal < sizeof texts / sizeof texts[0] ? texts[refusal] : "a number that the list does not have";
 }

@@ -44,23 +44,23 @@ static inline uint64_t nwk_write_frame_or_null(const uint8_t *header, size_t h, 
   return nwk_write_frame(nwk_given(header, h), h, nwk_given(payload, n), n, nwk_lent(out, room), room);
 }
 
-static inline uint64_t nwk_seal_or_null(uint64_t first, uint64_t second, const uint8_t *header, size_t h, const uint8_t *auxiliary,
-    size_t a, const uint8_t *payload, size_t n, uint8_t *out, size_t room) {
-  return nwk_seal(first, second, nwk_given(header, h), h, nwk_given(auxiliary, a), a, nwk_given(payload, n), n, nwk_lent(out, room),
-      room);
+static inline uint64_t nwk_seal_or_null(uint64_t level, uint64_t first, uint64_t second, const uint8_t *header, size_t h,
+    const uint8_t *auxiliary, size_t a, const uint8_t *payload, size_t n, uint8_t *out, size_t room) {
+  return nwk_seal(level, first, second, nwk_given(header, h), h, nwk_given(auxiliary, a), a, nwk_given(payload, n), n,
+      nwk_lent(out, room), room);
 }
 
-static inline uint64_t nwk_open_or_null(uint64_t first, uint64_t second, const uint8_t *bytes, size_t n, uint8_t *opened, size_t r,
-    uint8_t *out, size_t room) {
-  return nwk_open(first, second, nwk_given(bytes, n), n, nwk_lent(opened, r), r, nwk_lent(out, room), room);
+static inline uint64_t nwk_open_or_null(uint64_t level, uint64_t first, uint64_t second, const uint8_t *bytes, size_t n,
+    uint8_t *opened, size_t r, uint8_t *out, size_t room) {
+  return nwk_open(level, first, second, nwk_given(bytes, n), n, nwk_lent(opened, r), r, nwk_lent(out, room), room);
 }
 
-static inline uint64_t nwk_open_burst_or_null(uint64_t first, uint64_t second, const uint8_t *frames, size_t n,
+static inline uint64_t nwk_open_burst_or_null(uint64_t level, uint64_t first, uint64_t second, const uint8_t *frames, size_t n,
     const uint16_t *lengths, size_t k, uint8_t (*answers)[NWK_OPENED_RECORD], size_t places, uint8_t *out, size_t room) {
   static const uint16_t no_length = 0;
   static uint8_t no_answer[1][NWK_OPENED_RECORD];
-  return nwk_open_burst(first, second, nwk_given(frames, n), n, k == 0 ? &no_length : lengths, k, places == 0 ? no_answer : answers,
-      places, nwk_lent(out, room), room);
+  return nwk_open_burst(level, first, second, nwk_given(frames, n), n, k == 0 ? &no_length : lengths, k,
+      places == 0 ? no_answer : answers, places, nwk_lent(out, room), room);
 }
 
 static inline uint64_t nwk_inbound_network_key_or_null(uint64_t first, uint64_t second, uint8_t active, struct nwk_sender *senders,
@@ -91,18 +91,20 @@ static inline uint64_t nwk_next_counter_or_null(const uint8_t *journal, size_t n
   return nwk_next_counter(nwk_given(journal, n), n, last);
 }
 
-static inline uint64_t nwk_encrypt_ccm_or_null(uint64_t first, uint64_t second, const uint8_t nonce[13], const uint8_t *auth,
-    size_t a, const uint8_t *payload, size_t n, uint8_t *out, size_t room, uint8_t mic[4]) {
-  return nwk_encrypt_ccm(first, second, nonce, nwk_given(auth, a), a, nwk_given(payload, n), n, nwk_lent(out, room), room, mic);
+static inline uint64_t nwk_encrypt_ccm_or_null(uint64_t level, uint64_t first, uint64_t second, const uint8_t nonce[13],
+    const uint8_t *auth, size_t a, const uint8_t *payload, size_t n, uint8_t *out, size_t room, uint8_t mic[16]) {
+  return nwk_encrypt_ccm(level, first, second, nonce, nwk_given(auth, a), a, nwk_given(payload, n), n, nwk_lent(out, room), room,
+      mic);
 }
 
-static inline uint64_t nwk_decrypt_ccm_or_null(uint64_t first, uint64_t second, const uint8_t nonce[13], const uint8_t *auth,
-    size_t a, const uint8_t *ciphertext, size_t n, const uint8_t mic[4], uint8_t *out, size_t room) {
-  return nwk_decrypt_ccm(first, second, nonce, nwk_given(auth, a), a, nwk_given(ciphertext, n), n, mic, nwk_lent(out, room), room);
+static inline uint64_t nwk_decrypt_ccm_or_null(uint64_t level, uint64_t first, uint64_t second, const uint8_t nonce[13],
+    const uint8_t *auth, size_t a, const uint8_t *ciphertext, size_t n, const uint8_t mic[16], uint8_t *out, size_t room) {
+  return nwk_decrypt_ccm(level, first, second, nonce, nwk_given(auth, a), a, nwk_given(ciphertext, n), n, mic, nwk_lent(out, room),
+      room);
 }
 
-static inline uint64_t nwk_split_mic_or_null(const uint8_t *bytes, size_t n, uint8_t mic[4], uint64_t *front) {
-  return nwk_split_mic(nwk_given(bytes, n), n, mic, front);
+static inline uint64_t nwk_split_mic_or_null(uint64_t level, const uint8_t *bytes, size_t n, uint8_t mic[16], uint64_t *front) {
+  return nwk_split_mic(level, nwk_given(bytes, n), n, mic, front);
 }
 
 #define nwk_read_header nwk_read_header_or_null

@@ -1,7 +1,7 @@
 /* Calls the seventeen functions of nwk.h that take and give bytes with generated inputs, from a fixed seed, and prints one line for
  * each call:
  *
- *   name [key_first key_second] inputs = answer outputs
+ *   name [level] [key_first key_second] inputs = answer outputs
  *
  * in hexadecimal, an empty byte string as "-", a list as the bytes of its entries. The outputs were filled with A5 and are
  * printed whole. host/tests/agree.rs repeats each line from Rust. agree_senders.c and agree_journal.c have the other functions.
@@ -46,18 +46,18 @@ enum operation {
 
 struct shape {
   const char *name;
-  int keyed;
+  int levelled, keyed;
   size_t inputs;
   size_t outputs;
 };
 
 static const struct shape shapes[OPERATIONS] = {
-    {"nwk_read_header", 0, 1, 1},     {"nwk_write_header", 0, 1, 1},  {"nwk_read_auxiliary", 0, 1, 1},
-    {"nwk_write_auxiliary", 0, 1, 1}, {"nwk_read_frame", 0, 1, 2},    {"nwk_write_frame", 0, 2, 1},
-    {"nwk_seal", 1, 3, 1},            {"nwk_open", 1, 1, 2},          {"nwk_open_burst", 1, 2, 2},
-    {"nwk_payload_kind", 0, 1, 0},    {"nwk_read_command", 0, 1, 1},  {"nwk_write_command", 0, 1, 1},
-    {"nwk_timeout_seconds", 0, 1, 0}, {"nwk_encrypt_ccm", 1, 3, 2},   {"nwk_decrypt_ccm", 1, 4, 1},
-    {"nwk_split_mic", 0, 1, 2},       {"nwk_encrypt_block", 1, 1, 1},
+    {"nwk_read_header", 0, 0, 1, 1},     {"nwk_write_header", 0, 0, 1, 1}, {"nwk_read_auxiliary", 0, 0, 1, 1},
+    {"nwk_write_auxiliary", 0, 0, 1, 1}, {"nwk_read_frame", 0, 0, 1, 2},   {"nwk_write_frame", 0, 0, 2, 1},
+    {"nwk_seal", 1, 1, 3, 1},            {"nwk_open", 1, 1, 1, 2},         {"nwk_open_burst", 1, 1, 2, 2},
+    {"nwk_payload_kind", 0, 0, 1, 0},    {"nwk_read_command", 0, 0, 1, 1}, {"nwk_write_command", 0, 0, 1, 1},
+    {"nwk_timeout_seconds", 0, 0, 1, 0}, {"nwk_encrypt_ccm", 1, 1, 3, 2},  {"nwk_decrypt_ccm", 1, 1, 4, 1},
+    {"nwk_split_mic", 1, 0, 1, 2},       {"nwk_encrypt_block", 0, 1, 1, 1},
 };
 
 struct buffer {
@@ -67,7 +67,7 @@ struct buffer {
 
 struct call {
   enum operation operation;
-  uint64_t key_first, key_second;
+  uint64_t level, key_first, key_second;
   struct buffer in[4];
   struct buffer out[2];
 };
@@ -92,7 +92,7 @@ static uint64_t open_burst(struct call *c) {
   for (size_t i = 0; i < count; i++) {
     lengths[i] = nwk_get16(c->in[1].bytes + 2 * i);
   }
-  return nwk_open_burst(c->key_first, c->key_second, c->in[0].bytes, c->in[0].n, lengths, count,
+  return nwk_open_burst(c->level, c->key_first, c->key_second, c->in[0].bytes, c->in[0].n, lengths, count,
                         (uint8_t(*)[NWK_OPENED_RECORD])c->out[0].bytes, c->out[0].n / NWK_OPENED_RECORD, c->out[1].bytes,
                         c->out[1].n);
 }
@@ -100,7 +100,7 @@ static uint64_t open_burst(struct call *c) {
 /* The length of the ciphertext goes through a number of its own to its buffer of eight bytes. */
 static uint64_t split_mic(struct call *c) {
   uint64_t front = nwk_get64(c->out[1].bytes);
-  const uint64_t answer = nwk_split_mic(c->in[0].bytes, c->in[0].n, c->out[0].bytes, &front);
+  const uint64_t answer = nwk_split_mic(c->level, c->in[0].bytes, c->in[0].n, c->out[0].bytes, &front);
   for (int i = 0; i < 8; i++) {
     c->out[1].bytes[i] = (uint8_t)(front >> 8 * i);
   }
@@ -108,7 +108,7 @@ static uint64_t split_mic(struct call *c) {
 }
 
 static uint64_t perform(struct call *c) {
-  const uint64_t k1 = c->key_first, k2 = c->key_second;
+  const uint64_t level = c->level, k1 = c->key_first, k2 = c->key_second;
   struct buffer *in = c->in, *out = c->out;
 #define IN(i) in[i].bytes, in[i].n
 #define OUT(i) out[i].bytes, out[i].n
@@ -126,9 +126,9 @@ static uint64_t perform(struct call *c) {
   case WRITE_FRAME:
     return nwk_write_frame(IN(0), IN(1), OUT(0));
   case SEAL:
-    return nwk_seal(k1, k2, IN(0), IN(1), IN(2), OUT(0));
+    return nwk_seal(level, k1, k2, IN(0), IN(1), IN(2), OUT(0));
   case OPEN:
-    return nwk_open(k1, k2, IN(0), OUT(0), OUT(1));
+    return nwk_open(level, k1, k2, IN(0), OUT(0), OUT(1));
   case OPEN_BURST:
     return open_burst(c);
   case PAYLOAD_KIND:
@@ -140,9 +140,9 @@ static uint64_t perform(struct call *c) {
   case TIMEOUT_SECONDS:
     return nwk_timeout_seconds(in[0].bytes[0]);
   case ENCRYPT_CCM:
-    return nwk_encrypt_ccm(k1, k2, in[0].bytes, IN(1), IN(2), OUT(0), out[1].bytes);
+    return nwk_encrypt_ccm(level, k1, k2, in[0].bytes, IN(1), IN(2), OUT(0), out[1].bytes);
   case DECRYPT_CCM:
-    return nwk_decrypt_ccm(k1, k2, in[0].bytes, IN(1), IN(2), in[3].bytes, OUT(0));
+    return nwk_decrypt_ccm(level, k1, k2, in[0].bytes, IN(1), IN(2), in[3].bytes, OUT(0));
   case SPLIT_MIC:
     return split_mic(c);
   case ENCRYPT_BLOCK:
@@ -168,6 +168,9 @@ static void print_bytes(const struct buffer *b) {
 static void print_call(const struct call *c, uint64_t answer) {
   const struct shape *s = &shapes[c->operation];
   printf("%s", s->name);
+  if (s->levelled) {
+    printf(" %016" PRIX64, c->level);
+  }
   if (s->keyed) {
     printf(" %016" PRIX64 " %016" PRIX64, c->key_first, c->key_second);
   }
@@ -219,9 +222,9 @@ static size_t needed(const struct call *c, size_t output, uint64_t roomy_answer)
 static size_t array(const struct call *c, size_t output) {
   switch (c->operation) {
   case ENCRYPT_CCM:
-    return output == 1 ? 4 : 0;
+    return output == 1 ? NWK_MIC_PLACES : 0;
   case SPLIT_MIC:
-    return output == 0 ? 4 : 8;
+    return output == 0 ? NWK_MIC_PLACES : 8;
   case ENCRYPT_BLOCK:
     return 16;
   default:
@@ -364,9 +367,16 @@ static void result(struct call *c, struct buffer *to) {
   to->n = NWK_REFUSAL(answer) == 0 ? NWK_LENGTH(answer) : 0;
 }
 
-/* A frame sealed under the call's key, or one without an auxiliary header, which is clear where its security bit is off. */
+/* The bytes of a level's MIC; none where it is no level. */
+static size_t mic_length(uint64_t level) {
+  return level < NWK_LEVEL_ENC_MIC_32 || level > NWK_LEVEL_ENC_MIC_128 ? 0 : (size_t)4 << (level - NWK_LEVEL_ENC_MIC_32);
+}
+
+/* A frame sealed under the call's key, at its level, or at 5 where that is none; or one without an auxiliary header, which is clear
+ * where its security bit is off. */
 static void frame(const struct call *c, struct buffer *to) {
   static struct call writing;
+  writing.level = mic_length(c->level) != 0 ? c->level : NWK_LEVEL_ENC_MIC_32;
   writing.key_first = c->key_first;
   writing.key_second = c->key_second;
   writing.operation = percent(70) ? SEAL : WRITE_FRAME;
@@ -418,15 +428,15 @@ static void ccm_inputs(struct call *c) {
   random_bytes(&c->in[2], below(percent(90) ? 60 : 131));
 }
 
-/* Replaces the payload by its ciphertext, and gives the MIC, mostly undamaged. */
+/* Replaces the payload by its ciphertext, and gives the MIC, mostly undamaged, with any bytes in the places past its length. */
 static void seal_ccm(struct call *c) {
   static struct call sealing;
   sealing = *c;
   sealing.operation = ENCRYPT_CCM;
-  random_bytes(&c->in[3], 4);
+  random_bytes(&c->in[3], NWK_MIC_PLACES);
   if (NWK_REFUSAL(perform_roomy(&sealing)) == 0) {
     memcpy(c->in[2].bytes, sealing.out[0].bytes, c->in[2].n);
-    memcpy(c->in[3].bytes, sealing.out[1].bytes, 4);
+    memcpy(c->in[3].bytes, sealing.out[1].bytes, mic_length(c->level));
   }
   if (percent(20)) {
     c->in[below(4)].bytes[0] ^= 1;
@@ -437,6 +447,12 @@ static void seal_ccm(struct call *c) {
 static void code(struct buffer *b, unsigned bound) {
   random_bytes(b, 1);
   b->bytes[0] = (uint8_t)(b->bytes[0] % (percent(70) ? bound : 256));
+}
+
+/* A level of a network, and sometimes a number that is none. */
+static uint64_t network_level(void) {
+  static const uint64_t others[] = {0, 4, 8, 261, UINT64_C(0x100000005), UINT64_MAX};
+  return percent(90) ? NWK_LEVEL_ENC_MIC_32 + below(3) : others[below(sizeof others / sizeof others[0])];
 }
 
 static void generate(struct call *c) {
@@ -499,7 +515,7 @@ static void generate(struct call *c) {
     seal_ccm(c);
     return;
   case SPLIT_MIC:
-    random_bytes(&c->in[0], below(percent(30) ? 8 : 131));
+    random_bytes(&c->in[0], below(percent(30) ? 20 : 131));
     return;
   case ENCRYPT_BLOCK:
     random_bytes(&c->in[0], 16);
@@ -514,6 +530,7 @@ int main(void) {
   for (int round = 0; round < ROUNDS; round++) {
     for (int operation = 0; operation < OPERATIONS; operation++) {
       c.operation = (enum operation)operation;
+      c.level = network_level();
       c.key_first = number();
       c.key_second = number();
       generate(&c);

@@ -11,7 +11,7 @@
 #include <string.h>
 
 static void print_texts(void) {
-  for (unsigned number = 0; number <= 29; number++) {
+  for (unsigned number = 0; number <= 30; number++) {
     printf("%u %s\n", number, nwk_refusal_text(NWK_CAST(uint8_t, number)));
   }
 }
@@ -68,7 +68,7 @@ static void print_marks(void) {
  * nowhere. */
 static void print_place(const char *name, const uint8_t *frame, size_t n, uint8_t *out, size_t room) {
   uint8_t record[NWK_OPENED_RECORD] = {0};
-  const uint64_t answer = nwk_open(0, 0, frame, n, record, sizeof record, out, room);
+  const uint64_t answer = nwk_open(NWK_LEVEL_ENC_MIC_32, 0, 0, frame, n, record, sizeof record, out, room);
   const uint8_t *payload = nwk_payload(answer, frame, n, out);
   printf("%s %u clear %u mark %u length %u %u payload", name, NWK_REFUSAL(answer), NWK_CLEAR(answer), record[NWK_OPENED_MARK],
          NWK_LENGTH(answer), nwk_get16(record + NWK_OPENED_LENGTH));
@@ -96,7 +96,8 @@ static void print_payloads(void) {
   auxiliary[NWK_AUXILIARY_PRESENT] = 1;
   auxiliary[NWK_AUXILIARY_EXTENDED_NONCE_BIT] = 1;
   auxiliary[NWK_AUXILIARY_HAS_IEEE] = 1;
-  n = NWK_LENGTH(nwk_seal(0, 0, header, sizeof header, auxiliary, sizeof auxiliary, payload, sizeof payload, frame, sizeof frame));
+  n = NWK_LENGTH(nwk_seal(NWK_LEVEL_ENC_MIC_32, 0, 0, header, sizeof header, auxiliary, sizeof auxiliary, payload, sizeof payload,
+                          frame, sizeof frame));
   print_place("sealed", frame, n, out, sizeof out);
   print_place("sealed_no_room", frame, n, NULL, 0);
   frame[n - 1] ^= 1;
@@ -130,13 +131,13 @@ static void print_sealed(const char *name, const uint8_t *header, const uint8_t 
   uint8_t frame[NWK_MAX_FRAME] = {0};
   uint8_t record[NWK_OPENED_RECORD] = {0};
   uint8_t out[NWK_MAX_PAYLOAD] = {0};
-  const uint64_t answer = nwk_seal(0, 0, header, NWK_HEADER_RECORD, auxiliary, NWK_AUXILIARY_RECORD, payload, sizeof payload, frame,
-                                   sizeof frame);
+  const uint64_t answer = nwk_seal(NWK_LEVEL_ENC_MIC_32, 0, 0, header, NWK_HEADER_RECORD, auxiliary, NWK_AUXILIARY_RECORD, payload,
+                                   sizeof payload, frame, sizeof frame);
   if (NWK_REFUSAL(answer) != NWK_ACCEPTED) {
     print_answer(name, answer);
     return;
   }
-  nwk_open(0, 0, frame, NWK_LENGTH(answer), record, sizeof record, out, sizeof out);
+  nwk_open(NWK_LEVEL_ENC_MIC_32, 0, 0, frame, NWK_LENGTH(answer), record, sizeof record, out, sizeof out);
   printf("%s %u %u mark %u header %d\n", name, NWK_REFUSAL(answer), NWK_LENGTH(answer), record[NWK_OPENED_MARK],
          memcmp(record + NWK_OPENED_HEADER, header, NWK_HEADER_RECORD));
 }
@@ -261,16 +262,43 @@ static void print_journal(void) {
   printf(" %zu %zu\n", nwk_finished_journal(tail, n + 1), nwk_finished_journal(NULL, 0));
 }
 
+/* The levels with the length that the splitter gives a MIC, and the six functions at a level that is none. */
+static void print_levels(void) {
+  const uint64_t levels[3] = {NWK_LEVEL_ENC_MIC_32, NWK_LEVEL_ENC_MIC_64, NWK_LEVEL_ENC_MIC_128};
+  const uint8_t bytes[NWK_MAX_FRAME] = {0};
+  const uint8_t nonce[13] = {0};
+  const uint16_t lengths[1] = {0};
+  uint8_t answers[1][NWK_OPENED_RECORD] = {{0}};
+  uint8_t out[NWK_MAX_PAYLOAD] = {0};
+  uint8_t mic[NWK_MIC_PLACES] = {0};
+  uint64_t front = 0;
+  printf("levels");
+  for (int i = 0; i < 3; i++) {
+    const uint64_t answer = nwk_split_mic(levels[i], bytes, sizeof bytes, mic, &front);
+    printf(" %u %u %u", NWK_CAST(unsigned, levels[i]), NWK_LENGTH(answer), NWK_CAST(unsigned, front));
+  }
+  printf(" of %d\n", NWK_MIC_PLACES);
+  const uint64_t none = UINT64_C(1) << 32 | NWK_LEVEL_ENC_MIC_32;
+  print_answer("level_seal", nwk_seal(none, 0, 0, NULL, 0, NULL, 0, NULL, 0, NULL, 0));
+  print_answer("level_open", nwk_open(none, 0, 0, NULL, 0, NULL, 0, NULL, 0));
+  print_answer("level_open_burst", nwk_open_burst(none, 0, 0, NULL, 0, lengths, 1, answers, 1, out, sizeof out));
+  printf("its record %u\n", answers[0][NWK_OPENED_REFUSAL]);
+  print_answer("level_encrypt_ccm", nwk_encrypt_ccm(none, 0, 0, nonce, NULL, 0, NULL, 0, NULL, 0, mic));
+  print_answer("level_decrypt_ccm", nwk_decrypt_ccm(none, 0, 0, nonce, NULL, 0, NULL, 0, mic, NULL, 0));
+  print_answer("level_split_mic", nwk_split_mic(none, NULL, 0, mic, &front));
+}
+
 /* Bursts without frames, lengths or answers, and one whose only frame has no bytes. */
 static void print_empty_bursts(void) {
   const uint8_t bytes[1] = {0};
   const uint16_t lengths[1] = {0};
   uint8_t answers[1][NWK_OPENED_RECORD] = {{0}};
   uint8_t out[NWK_MAX_PAYLOAD] = {0};
-  print_answer("open_burst", nwk_open_burst(0, 0, NULL, 0, NULL, 0, NULL, 0, NULL, 0));
-  print_answer("open_burst_no_lengths", nwk_open_burst(0, 0, bytes, sizeof bytes, NULL, 0, NULL, 0, NULL, 0));
-  print_answer("open_burst_no_answers", nwk_open_burst(0, 0, NULL, 0, lengths, 1, NULL, 0, out, sizeof out));
-  print_answer("open_burst_empty_frame", nwk_open_burst(0, 0, NULL, 0, lengths, 1, answers, 1, out, sizeof out));
+  const uint64_t level = NWK_LEVEL_ENC_MIC_32;
+  print_answer("open_burst", nwk_open_burst(level, 0, 0, NULL, 0, NULL, 0, NULL, 0, NULL, 0));
+  print_answer("open_burst_no_lengths", nwk_open_burst(level, 0, 0, bytes, sizeof bytes, NULL, 0, NULL, 0, NULL, 0));
+  print_answer("open_burst_no_answers", nwk_open_burst(level, 0, 0, NULL, 0, lengths, 1, NULL, 0, out, sizeof out));
+  print_answer("open_burst_empty_frame", nwk_open_burst(level, 0, 0, NULL, 0, lengths, 1, answers, 1, out, sizeof out));
   printf("its record %u %u\n", answers[0][NWK_OPENED_REFUSAL], nwk_get16(answers[0] + NWK_OPENED_LENGTH));
 }
 
@@ -287,12 +315,13 @@ static void print_empty(void) {
   print_answer("write_auxiliary", nwk_write_auxiliary(NULL, 0, NULL, 0));
   print_answer("read_frame", nwk_read_frame(NULL, 0, NULL, 0, NULL, 0));
   print_answer("write_frame", nwk_write_frame(header, sizeof header, NULL, 0, out, sizeof out));
-  print_answer("seal", nwk_seal(0, 0, header, sizeof header, auxiliary, sizeof auxiliary, NULL, 0, NULL, 0));
+  const uint64_t level = NWK_LEVEL_ENC_MIC_32;
+  print_answer("seal", nwk_seal(level, 0, 0, header, sizeof header, auxiliary, sizeof auxiliary, NULL, 0, NULL, 0));
   header[NWK_HEADER_SECURITY_BIT] = 1;
-  print_answer("seal_secured", nwk_seal(0, 0, header, sizeof header, auxiliary, sizeof auxiliary, NULL, 0, NULL, 0));
+  print_answer("seal_secured", nwk_seal(level, 0, 0, header, sizeof header, auxiliary, sizeof auxiliary, NULL, 0, NULL, 0));
   print_answer("read_command", nwk_read_command(NULL, 0, command, sizeof command));
   print_answer("write_command", nwk_write_command(command, sizeof command, NULL, 0));
-  print_answer("open", nwk_open(0, 0, NULL, 0, NULL, 0, NULL, 0));
+  print_answer("open", nwk_open(level, 0, 0, NULL, 0, NULL, 0, NULL, 0));
   print_empty_bursts();
   uint8_t key[16] = {0};
   print_answer("inbound_network_key", nwk_inbound_network_key(0, 0, 0, NULL, 0, 0, 0, 0, key));
@@ -305,11 +334,11 @@ static void print_empty(void) {
   print_answer("next_counter", nwk_next_counter(NULL, 0, 0));
   print_answer("shrink_journal", nwk_shrink_journal(NULL, 0, NULL, 0));
   uint8_t nonce[13] = {0};
-  uint8_t mic[4] = {0};
-  print_answer("encrypt_ccm", nwk_encrypt_ccm(0, 0, nonce, NULL, 0, NULL, 0, NULL, 0, mic));
-  print_answer("decrypt_ccm", nwk_decrypt_ccm(0, 0, nonce, NULL, 0, NULL, 0, mic, NULL, 0));
+  uint8_t mic[NWK_MIC_PLACES] = {0};
+  print_answer("encrypt_ccm", nwk_encrypt_ccm(level, 0, 0, nonce, NULL, 0, NULL, 0, NULL, 0, mic));
+  print_answer("decrypt_ccm", nwk_decrypt_ccm(level, 0, 0, nonce, NULL, 0, NULL, 0, mic, NULL, 0));
   uint64_t front = 0;
-  print_answer("split_mic", nwk_split_mic(NULL, 0, mic, &front));
+  print_answer("split_mic", nwk_split_mic(level, NULL, 0, mic, &front));
 }
 
 int main(void) {
@@ -322,6 +351,7 @@ int main(void) {
   print_presence_bits();
   print_inbound();
   print_journal();
+  print_levels();
   print_empty();
   print_texts();
   return 0;

@@ -17,13 +17,17 @@ _store_reader() {
     mapfile -t COMPREPLY < <(compgen -W "day hour" -- "$word")
     return
     ;;
+  --level)
+    mapfile -t COMPREPLY < <(compgen -W "5 6 7" -- "$word")
+    return
+    ;;
   --key | --source | --ieee | --counter | --key-sequence | --jump | --forget | --margin) return ;;
   esac
   local of_frames="--full --json --csv --frames --by-sender --by --jump --local --summary-only --refused --source --flush --mac"
   case $command in
-  open) options="--key --key-file --replay --key-sequence $of_frames" ;;
+  open) options="--key --key-file --level --replay --key-sequence $of_frames" ;;
   read) options=$of_frames ;;
-  seal) options="--key --key-file --counter --ieee --key-sequence --json" ;;
+  seal) options="--key --key-file --level --counter --ieee --key-sequence --json" ;;
   command) options="--full --json --csv --summary-only --refused --flush" ;;
   journal) options="--shrink --forget --repair --margin --json" ;;
   refusals) options="--json --csv" ;;

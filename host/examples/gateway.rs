@@ -7,8 +7,8 @@
 use std::collections::BTreeMap;
 use std::path::Path;
 use store_reader::{
-    hex, open_burst, ClearFrame, Eui64, JournalError, JournalFile, Key, NwkCommand, NwkPayload, Opened, OpenedFrame,
-    OpenedRecord, Refusal, SenderRecord, Senders, MAX_BURST, MAX_BURST_OUTPUT, MAX_FRAME,
+    hex, open_burst, ClearFrame, Eui64, JournalError, JournalFile, Key, Network, NwkCommand, NwkPayload, Opened,
+    OpenedFrame, OpenedRecord, Refusal, SenderRecord, Senders, MAX_BURST, MAX_BURST_OUTPUT, MAX_FRAME,
 };
 
 /// The number of the network key in use.
@@ -50,12 +50,12 @@ impl Gateway {
 
     /// Takes a burst from the radio: its frames end to end, and their lengths. What was noted of all of them is on disk before any is
     /// handed on.
-    fn receive(&mut self, key: &Key, frames: &[u8], lengths: &[u16]) -> Result<(), JournalError> {
+    fn receive(&mut self, network: &Network, frames: &[u8], lengths: &[u16]) -> Result<(), JournalError> {
         let mut answers = [OpenedRecord::new(); MAX_BURST];
         let mut out = [0; MAX_BURST_OUTPUT];
         let mut taken = Vec::new();
-        for answer in open_burst(key, frames, lengths, &mut answers, &mut out)? {
-            match answer.and_then(|opened| self.take(key, opened)) {
+        for answer in open_burst(network, frames, lengths, &mut answers, &mut out)? {
+            match answer.and_then(|opened| self.take(&network.key, opened)) {
                 Ok(frame) => taken.extend(frame),
                 Err(refusal) => self.refuse(refusal)?,
             }
@@ -138,7 +138,8 @@ fn show_to_staff(frame: &ClearFrame<'_>) -> Result<(), Refusal> {
 }
 
 fn main() -> Result<(), Box<dyn std::error::Error>> {
-    let key: Key = "C0C1C2C3C4C5C6C7C8C9CACBCCCDCECF".parse()?;
+    // At level 5, as most networks are; `with_level` is for others.
+    let network = Network::new("C0C1C2C3C4C5C6C7C8C9CACBCCCDCECF".parse()?);
     let (mut frames, mut lengths, mut end) = ([0; HEARD.len() * MAX_FRAME], [0; HEARD.len()], 0);
     for (text, length) in HEARD.iter().zip(&mut lengths) {
         let n = hex(text, &mut frames[end..])?;
@@ -150,7 +151,7 @@ fn main() -> Result<(), Box<dyn std::error::Error>> {
     for start in ["the first start", "after a power cut, the same frames again"] {
         println!("{start}");
         let mut gateway = Gateway::start(&journal)?;
-        gateway.receive(&key, &frames[..end], &lengths)?;
+        gateway.receive(&network, &frames[..end], &lengths)?;
         gateway.report()?;
     }
     Gateway::start(&journal)?.replace("00:12:4B:00:1C:A1:B2:C3".parse()?)?;

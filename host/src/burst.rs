@@ -1,11 +1,11 @@
 //! Opening a burst: the frames that the radio hands over at once.
 use crate::refusal::length;
-use crate::{sys, Key, Opened, OpenedRecord, Refusal, MAX_PAYLOAD};
+use crate::{sys, Network, Opened, OpenedRecord, Refusal, MAX_PAYLOAD};
 use core::fmt;
 use core::iter::{FusedIterator, Zip};
 use core::slice::{ChunksExact, Iter};
 
-/// Opens a burst: up to [`MAX_BURST`](crate::MAX_BURST) frames under one key, handed over end to end with the length of
+/// Opens a burst: up to [`MAX_BURST`](crate::MAX_BURST) frames of one network, handed over end to end with the length of
 /// each. What comes back gives every frame, in its order, as [`open`](crate::open) would have. A refused frame stops no
 /// other.
 ///
@@ -17,11 +17,11 @@ use core::slice::{ChunksExact, Iter};
 ///
 /// ```
 /// use store_reader::{
-///     open, open_burst, seal, write, Eui64, Key, Nwk, NwkAuxHeader, NwkFrameType, NwkHeader, Opened, OpenedRecord, Refusal,
+///     open, open_burst, seal, write, Eui64, Network, Nwk, NwkAuxHeader, NwkFrameType, NwkHeader, Opened, OpenedRecord, Refusal,
 ///     MAX_BURST, MAX_BURST_OUTPUT, MAX_FRAME, MAX_PAYLOAD,
 /// };
 ///
-/// let key: Key = "C0C1C2C3C4C5C6C7C8C9CACBCCCDCECF".parse().unwrap();
+/// let network = Network::new("C0C1C2C3C4C5C6C7C8C9CACBCCCDCECF".parse().unwrap());
 /// let header = NwkHeader::new(NwkFrameType::Data, Nwk(0x1234), Nwk(0x0000));
 /// let probe = Eui64([1, 2, 3, 4, 5, 6, 7, 8]);
 ///
@@ -29,14 +29,14 @@ use core::slice::{ChunksExact, Iter};
 /// let mut frames = [0; 3 * MAX_FRAME];
 /// let m = write(&header, b"new here", &mut frames)?;
 /// let header = header.secured();
-/// let n = seal(&key, &header, Some(&NwkAuxHeader::new(1, probe)), b"21.5 C", &mut frames[m..])?;
-/// let end = m + n + seal(&key, &header, Some(&NwkAuxHeader::new(2, probe)), b"21.7 C", &mut frames[m + n..])?;
+/// let n = seal(&network, &header, Some(&NwkAuxHeader::new(1, probe)), b"21.5 C", &mut frames[m..])?;
+/// let end = m + n + seal(&network, &header, Some(&NwkAuxHeader::new(2, probe)), b"21.7 C", &mut frames[m + n..])?;
 /// frames[m + n - 1] ^= 1;
 ///
 /// let lengths = [m as u16, n as u16, n as u16];
 /// let mut answers = [OpenedRecord::new(); MAX_BURST];
 /// let mut out = [0; MAX_BURST_OUTPUT];
-/// let mut burst = open_burst(&key, &frames[..end], &lengths, &mut answers, &mut out)?;
+/// let mut burst = open_burst(&network, &frames[..end], &lengths, &mut answers, &mut out)?;
 /// assert_eq!(burst.len(), 3);
 /// match burst.next().unwrap()? {
 ///     Opened::Clear(frame) => assert_eq!(frame.payload, &frames[m - 8..m]),
@@ -45,7 +45,7 @@ use core::slice::{ChunksExact, Iter};
 /// assert_eq!(burst.next(), Some(Err(Refusal::WRONG_MIC)));
 ///
 /// let third = burst.next().unwrap();
-/// assert_eq!(third, open(&key, &frames[m + n..end], &mut [0; MAX_PAYLOAD]));
+/// assert_eq!(third, open(&network, &frames[m + n..end], &mut [0; MAX_PAYLOAD]));
 /// assert_eq!(third?.sealed().map(|frame| frame.payload), Some(&b"21.7 C"[..]));
 /// # Ok::<(), Refusal>(())
 /// ```
@@ -56,17 +56,18 @@ use core::slice::{ChunksExact, Iter};
 /// times their number, or there are fewer answers than lengths. A frame's own refusal, 1 to 12, 15, 16 or 19, is no error of
 /// the burst: it stands where that frame does.
 pub fn open_burst<'a>(
-    key: &Key,
+    network: &Network,
     frames: &'a [u8],
     lengths: &'a [u16],
     answers: &'a mut [OpenedRecord],
     out: &'a mut [u8],
 ) -> Result<Burst<'a>, Refusal> {
-    let (first, second) = key.halves();
+    let (level, first, second) = network.numbers();
     // SAFETY: each pointer goes with the length of its slice, a place of the answers is its 182 bytes and nothing else, and
     // no two slices overlap.
     let answer = unsafe {
         sys::nwk_open_burst(
+            level,
             first,
             second,
             frames.as_ptr(),

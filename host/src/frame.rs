@@ -1,7 +1,7 @@
 //! Reading, writing, sealing and opening frames.
 use crate::header::Records;
 use crate::refusal::{is_clear, length};
-use crate::{sys, Key, NwkAuxHeader, NwkHeader, Opened, OpenedRecord, Refusal};
+use crate::{sys, Network, NwkAuxHeader, NwkHeader, Opened, OpenedRecord, Refusal};
 
 /// A frame as read: its headers, and what is behind them. Behind an auxiliary header that is ciphertext with MIC, else
 /// the payload.
@@ -79,31 +79,36 @@ pub fn write(header: &NwkHeader, payload: &[u8], out: &mut [u8]) -> Result<usize
 }
 
 /// Seals a frame to the front of the output, and gives its length. The header has its security bit set ([`NwkHeader::secured`]) and
-/// its presence bits agree with its fields. The caller sees to it that no frame counter is sealed twice under one key by one
-/// device: two such frames repeat the key stream.
+/// its presence bits agree with its fields. The network's level is authenticated and 0 is sent, whatever level the auxiliary header
+/// has. The caller sees to it that no frame counter is sealed twice under one key by one device: two such frames repeat the key
+/// stream.
 ///
 /// ```
 /// use store_reader::{
-///     open, seal, Eui64, Key, Nwk, NwkAuxHeader, NwkFrameType, NwkHeader, Refusal, MAX_FRAME, MAX_PAYLOAD,
+///     open, seal, Eui64, Level, Network, Nwk, NwkAuxHeader, NwkFrameType, NwkHeader, Refusal, MAX_FRAME, MAX_PAYLOAD,
 /// };
 ///
-/// let key: Key = "C0C1C2C3C4C5C6C7C8C9CACBCCCDCECF".parse().unwrap();
+/// let network = Network::new("C0C1C2C3C4C5C6C7C8C9CACBCCCDCECF".parse().unwrap());
 /// let header = NwkHeader::new(NwkFrameType::Data, Nwk(0x1234), Nwk(0x0000)).secured();
 /// let auxiliary = NwkAuxHeader::new(0x12345, Eui64([1, 2, 3, 4, 5, 6, 7, 8]));
 ///
 /// let mut frame = [0; MAX_FRAME];
-/// let n = seal(&key, &header, Some(&auxiliary), b"21.5 C", &mut frame)?;
+/// let n = seal(&network, &header, Some(&auxiliary), b"21.5 C", &mut frame)?;
 /// assert_eq!(n, 8 + 14 + 6 + 4);
 ///
 /// let last = NwkAuxHeader { frame_counter: u32::MAX, ..auxiliary };
-/// assert_eq!(seal(&key, &header, Some(&last), b"21.5 C", &mut frame), Err(Refusal::LAST_COUNTER));
+/// assert_eq!(seal(&network, &header, Some(&last), b"21.5 C", &mut frame), Err(Refusal::LAST_COUNTER));
 ///
 /// let mut out = [0; MAX_PAYLOAD];
-/// let opened = open(&key, &frame[..n], &mut out)?.sealed().expect("a sealed frame");
-/// assert_eq!((opened.header, opened.auxiliary, opened.payload), (header, auxiliary, &b"21.5 C"[..]));
+/// let opened = open(&network, &frame[..n], &mut out)?.sealed().expect("a sealed frame");
+/// assert_eq!((&opened.header, opened.auxiliary, opened.payload), (&header, auxiliary, &b"21.5 C"[..]));
 ///
 /// frame[n - 1] ^= 1;
-/// assert_eq!(open(&key, &frame[..n], &mut out), Err(Refusal::WRONG_MIC));
+/// assert_eq!(open(&network, &frame[..n], &mut out), Err(Refusal::WRONG_MIC));
+///
+/// // At level 7 the MIC has 16 bytes.
+/// let (network, next) = (network.with_level(Level::EncMic128), NwkAuxHeader { frame_counter: 0x12346, ..auxiliary });
+/// assert_eq!(seal(&network, &header, Some(&next), b"21.5 C", &mut frame), Ok(8 + 14 + 6 + 16));
 /// # Ok::<(), Refusal>(())
 /// ```
 ///
@@ -112,18 +117,19 @@ pub fn write(header: &NwkHeader, payload: &[u8], out: &mut [u8]) -> Result<usize
 /// Refusals 13, 28, 14, 15, 21, 17, 18, in this order: a counter of [`u32::MAX`] is not sealed, however long the payload. 28 for
 /// the extended nonce bit comes between 14 and 15; [`NwkHeader::disagreement_in_sealing`] tells the bit.
 pub fn seal(
-    key: &Key,
+    network: &Network,
     header: &NwkHeader,
     auxiliary: Option<&NwkAuxHeader>,
     payload: &[u8],
     out: &mut [u8],
 ) -> Result<usize, Refusal> {
-    let (first, second) = key.halves();
+    let (level, first, second) = network.numbers();
     let header = header.record();
     let auxiliary = NwkAuxHeader::record(auxiliary);
     // SAFETY: each pointer goes with the length of its slice, and no two slices overlap.
     length(unsafe {
         sys::nwk_seal(
+            level,
             first,
             second,
             header.as_ptr(),
@@ -149,24 +155,24 @@ pub fn seal(
 ///
 /// ```
 /// use store_reader::{
-///     open, seal, write, Eui64, Key, Nwk, NwkAuxHeader, NwkFrameType, NwkHeader, Opened, Refusal, MAX_FRAME, MAX_PAYLOAD,
+///     open, seal, write, Eui64, Network, Nwk, NwkAuxHeader, NwkFrameType, NwkHeader, Opened, Refusal, MAX_FRAME, MAX_PAYLOAD,
 /// };
 ///
-/// let key: Key = "C0C1C2C3C4C5C6C7C8C9CACBCCCDCECF".parse().unwrap();
+/// let network = Network::new("C0C1C2C3C4C5C6C7C8C9CACBCCCDCECF".parse().unwrap());
 /// let header = NwkHeader::new(NwkFrameType::Data, Nwk(0x1234), Nwk(0x0000));
 /// let (mut sealed, mut clear) = ([0; MAX_FRAME], [0; MAX_FRAME]);
 /// let m = write(&header, b"new here", &mut clear)?;
 /// let auxiliary = NwkAuxHeader::new(1, Eui64([1, 2, 3, 4, 5, 6, 7, 8]));
-/// let n = seal(&key, &header.secured(), Some(&auxiliary), b"21.5 C", &mut sealed)?;
+/// let n = seal(&network, &header.secured(), Some(&auxiliary), b"21.5 C", &mut sealed)?;
 ///
 /// let mut out = [0; MAX_PAYLOAD];
-/// match open(&key, &sealed[..n], &mut out)? {
+/// match open(&network, &sealed[..n], &mut out)? {
 ///     Opened::Sealed(frame) => assert_eq!(frame.payload, b"21.5 C"),
 ///     Opened::Clear(_) => panic!("it was sealed"),
 /// }
 ///
 /// // A clear frame needs no output, and is no authenticated one.
-/// let opened = open(&key, &clear[..m], &mut [])?;
+/// let opened = open(&network, &clear[..m], &mut [])?;
 /// assert_eq!(opened.clone().sealed(), None);
 /// assert_eq!(opened.clear().map(|frame| frame.payload), Some(&b"new here"[..]));
 /// # Ok::<(), Refusal>(())
@@ -177,12 +183,13 @@ pub fn seal(
 /// # Errors
 ///
 /// Refusals 1 to 12; of a sealed frame also 15, 16, 18, 19.
-pub fn open<'a>(key: &Key, frame: &'a [u8], out: &'a mut [u8]) -> Result<Opened<'a>, Refusal> {
-    let (first, second) = key.halves();
+pub fn open<'a>(network: &Network, frame: &'a [u8], out: &'a mut [u8]) -> Result<Opened<'a>, Refusal> {
+    let (level, first, second) = network.numbers();
     let mut record = OpenedRecord::new();
     // SAFETY: each pointer goes with the length of its slice, and no two slices overlap.
     let answer = unsafe {
         sys::nwk_open(
+            level,
             first,
             second,
             frame.as_ptr(),

@@ -96,7 +96,8 @@ codes! {
 }
 
 codes! {
-    /// How a frame is protected. Sealing authenticates `EncMic32` and sends `NoSecurity`, whatever it is handed.
+    /// How a frame is protected, as its auxiliary header says. Sealing authenticates the network's [`Level`](crate::Level) and sends
+    /// `NoSecurity`, whatever it is handed.
     NwkSecurityLevel {
         /// Neither; the level that is sent.
         NoSecurity = 0,
@@ -108,7 +109,7 @@ codes! {
         Mic128 = 3,
         /// Encryption alone.
         Enc = 4,
-        /// Encryption and a MIC of 4 bytes; the level that is authenticated.
+        /// Encryption and a MIC of 4 bytes.
         EncMic32 = 5,
         /// Encryption and a MIC of 8 bytes.
         EncMic64 = 6,

@@ -7,25 +7,27 @@
 //!
 //! ```
 //! use store_reader::{
-//!     open, seal, Eui64, Key, Nwk, NwkAuxHeader, NwkFrameType, NwkHeader, Refusal, MAX_FRAME, MAX_PAYLOAD,
+//!     open, seal, Eui64, Network, Nwk, NwkAuxHeader, NwkFrameType, NwkHeader, Refusal, MAX_FRAME, MAX_PAYLOAD,
 //! };
 //!
-//! let key: Key = "C0C1C2C3C4C5C6C7C8C9CACBCCCDCECF".parse().unwrap();
+//! let network = Network::new("C0C1C2C3C4C5C6C7C8C9CACBCCCDCECF".parse().unwrap());
 //! let header = NwkHeader::new(NwkFrameType::Data, Nwk(0x1234), Nwk(0x0000)).secured();
 //! let probe: Eui64 = "00:12:4B:00:1C:A1:B2:C3".parse().unwrap();
 //!
 //! let mut frame = [0; MAX_FRAME];
-//! let n = seal(&key, &header, Some(&NwkAuxHeader::new(1, probe)), b"21.5 C", &mut frame)?;
+//! let n = seal(&network, &header, Some(&NwkAuxHeader::new(1, probe)), b"21.5 C", &mut frame)?;
 //! let mut out = [0; MAX_PAYLOAD];
-//! let opened = open(&key, &frame[..n], &mut out)?.sealed().expect("a sealed frame");
+//! let opened = open(&network, &frame[..n], &mut out)?.sealed().expect("a sealed frame");
 //! assert_eq!(opened.payload, b"21.5 C");
 //!
 //! // The last byte lost: the MIC is then not the one computed.
-//! let refusal = open(&key, &frame[..n - 1], &mut out).unwrap_err();
+//! let refusal = open(&network, &frame[..n - 1], &mut out).unwrap_err();
 //! assert_eq!(refusal, Refusal::WRONG_MIC);
 //! assert_eq!(refusal.to_string(), "refused by 19: the MIC is not the one computed");
 //! # Ok::<(), Refusal>(())
 //! ```
+//!
+//! A network has one key and one security level: [`Network`] holds both, level 5 unless another [`Level`] is given.
 //!
 //! [`open`] accepts clear frames too: their security bit is off, and nothing authenticates them. So what it gives has a mark,
 //! [`Opened`], and there is no way to a payload but through it. [`open_burst`] opens the frames that a radio hands over at once.
@@ -83,6 +85,7 @@ mod journal;
 #[cfg(feature = "std")]
 mod journal_file;
 mod list;
+mod network;
 mod opened;
 mod presence;
 mod record;
@@ -114,6 +117,7 @@ pub use journal_file::{keep_owner, open_journal_to_copy, JournalReading};
 #[cfg(feature = "std")]
 pub use journal_file::{JournalError, JournalFile};
 pub use list::{Full, List};
+pub use network::{Level, Network, MIC_PLACES};
 pub use opened::{ClearFrame, Opened, OpenedFrame};
 pub use presence::PresenceBit;
 pub use refusal::Refusal;

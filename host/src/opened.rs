@@ -9,10 +9,10 @@ use crate::{sys, Eui64, NwkAuxHeader, NwkHeader, OpenedRecord, Refusal};
 /// authenticated. So there is no way to the payload but through the mark:
 ///
 /// ```compile_fail,E0609
-/// # use store_reader::{open, Key, Refusal, MAX_PAYLOAD};
-/// # fn payload(key: &Key, frame: &[u8]) -> Result<usize, Refusal> {
+/// # use store_reader::{open, Network, Refusal, MAX_PAYLOAD};
+/// # fn payload(network: &Network, frame: &[u8]) -> Result<usize, Refusal> {
 /// let mut out = [0; MAX_PAYLOAD];
-/// let opened = open(key, frame, &mut out)?;
+/// let opened = open(network, frame, &mut out)?;
 /// Ok(opened.payload.len())
 /// # }
 /// ```

@@ -33,7 +33,7 @@ refusals! {
     FIELD = 13, "a field to write exceeds its bits or has an undeclared code, or a list exceeds its places";
     NO_AUXILIARY = 14, "sealing has no auxiliary header";
     NO_IEEE = 15, "sealing or opening has neither an auxiliary nor a header source IEEE";
-    NO_MIC = 16, "ciphertext with MIC has fewer than 4 bytes";
+    NO_MIC = 16, "ciphertext with MIC has fewer bytes than the tag";
     LENGTH = 17, "the bytes to write exceed 118 for a header or frame, or 108 for a payload, alone or in a frame";
     NO_ROOM = 18, "the lent output is shorter than what is to be written";
     WRONG_MIC = 19, "the MIC is not the one computed";
@@ -46,6 +46,7 @@ refusals! {
     COUNTERS_USED_UP = 26, "the last counter is FFFFFFFE or above";
     NO_CEILING = 27, "no complete ceiling record of the journal covers the next counter";
     PRESENCE_BITS = 28, "one of bits 8, 10, 11 and 12 of frame control disagrees with its field, or in sealing bit 9 is off or the extended nonce bit disagrees with the auxiliary IEEE";
+    LEVEL = 29, "the network's level is not 5, 6 or 7";
 }
 
 /// A refusal. Nothing that was lent to the operation has changed.
@@ -56,7 +57,7 @@ refusals! {
 /// let refusal = read(&[0x08, 0x00, 0x00]).unwrap_err();
 /// assert_eq!(refusal.number(), 2);
 /// assert_eq!(refusal.to_string(), "refused by 2: a header has fewer than 8 bytes");
-/// assert_eq!(Refusal::all().count(), 28);
+/// assert_eq!(Refusal::all().count(), 29);
 ///
 /// let why = match refusal {
 ///     Refusal::WRONG_MIC => "damaged, or another key",

@@ -61,8 +61,8 @@ impl Eq for SenderRecord {}
 ///
 /// ```
 /// use store_reader::{
-///     open, seal, Eui64, Key, Nwk, NwkAuxHeader, NwkFrameType, NwkHeader, OpenedFrame, Refusal, Senders, MAX_FRAME,
-///     MAX_PAYLOAD,
+///     open, seal, Eui64, Key, Network, Nwk, NwkAuxHeader, NwkFrameType, NwkHeader, OpenedFrame, Refusal, Senders,
+///     MAX_FRAME, MAX_PAYLOAD,
 /// };
 ///
 /// /// The counter that the sender had before, or why the frame is not taken. Key sequence number 0 is the active one.
@@ -72,27 +72,27 @@ impl Eq for SenderRecord {}
 ///     senders.note_inbound_frame_counter(sender, auxiliary.frame_counter)
 /// }
 ///
-/// let key: Key = "C0C1C2C3C4C5C6C7C8C9CACBCCCDCECF".parse().unwrap();
+/// let network = Network::new("C0C1C2C3C4C5C6C7C8C9CACBCCCDCECF".parse().unwrap());
 /// let probe: Eui64 = "00:12:4B:00:1C:A1:B2:C3".parse().unwrap();
 /// let header = NwkHeader::new(NwkFrameType::Data, Nwk(0x7A10), Nwk(0x0000)).secured();
 /// let mut frame = [0; MAX_FRAME];
-/// let n = seal(&key, &header, Some(&NwkAuxHeader::new(74565, probe)), b"21.5 C", &mut frame)?;
+/// let n = seal(&network, &header, Some(&NwkAuxHeader::new(74565, probe)), b"21.5 C", &mut frame)?;
 ///
 /// let mut out = [0; MAX_PAYLOAD];
-/// let opened = open(&key, &frame[..n], &mut out)?.sealed().expect("a sealed frame");
+/// let opened = open(&network, &frame[..n], &mut out)?.sealed().expect("a sealed frame");
 /// let mut senders = Senders::new();
-/// assert_eq!(take(&mut senders, &key, &opened), Ok(None));
+/// assert_eq!(take(&mut senders, &network.key, &opened), Ok(None));
 ///
 /// // The same frame again is a replay. It opens, and is refused by 23.
-/// assert_eq!(take(&mut senders, &key, &opened), Err(Refusal::FRAME_COUNTER));
+/// assert_eq!(take(&mut senders, &network.key, &opened), Err(Refusal::FRAME_COUNTER));
 ///
 /// // Under the next counter another frame is taken. A probe that was forgotten is new again.
-/// let n = seal(&key, &header, Some(&NwkAuxHeader::new(74566, probe)), b"21.7 C", &mut frame)?;
+/// let n = seal(&network, &header, Some(&NwkAuxHeader::new(74566, probe)), b"21.7 C", &mut frame)?;
 /// let mut out = [0; MAX_PAYLOAD];
-/// let next = open(&key, &frame[..n], &mut out)?.sealed().expect("a sealed frame");
-/// assert_eq!(take(&mut senders, &key, &next), Ok(Some(74565)));
+/// let next = open(&network, &frame[..n], &mut out)?.sealed().expect("a sealed frame");
+/// assert_eq!(take(&mut senders, &network.key, &next), Ok(Some(74565)));
 /// senders.forget(probe);
-/// assert_eq!(take(&mut senders, &key, &next), Ok(None));
+/// assert_eq!(take(&mut senders, &network.key, &next), Ok(None));
 /// # Ok::<(), Refusal>(())
 /// ```
 #[derive(Debug, Clone)]

@@ -23,6 +23,7 @@ extern "C" {
         out_len: usize,
     ) -> u64;
     pub fn nwk_seal(
+        level: u64,
         key_first: u64,
         key_second: u64,
         header: *const u8,
@@ -35,6 +36,7 @@ extern "C" {
         out_len: usize,
     ) -> u64;
     pub fn nwk_open(
+        level: u64,
         key_first: u64,
         key_second: u64,
         bytes: *const u8,
@@ -45,6 +47,7 @@ extern "C" {
         out_len: usize,
     ) -> u64;
     pub fn nwk_open_burst(
+        level: u64,
         key_first: u64,
         key_second: u64,
         frames: *const u8,
@@ -99,6 +102,7 @@ extern "C" {
     pub fn nwk_write_command(command: *const u8, command_len: usize, out: *mut u8, out_len: usize) -> u64;
     pub fn nwk_timeout_seconds(code: u8) -> u64;
     pub fn nwk_encrypt_ccm(
+        level: u64,
         key_first: u64,
         key_second: u64,
         nonce: *const [u8; 13],
@@ -108,9 +112,10 @@ extern "C" {
         payload_len: usize,
         out: *mut u8,
         out_len: usize,
-        mic: *mut [u8; 4],
+        mic: *mut [u8; 16],
     ) -> u64;
     pub fn nwk_decrypt_ccm(
+        level: u64,
         key_first: u64,
         key_second: u64,
         nonce: *const [u8; 13],
@@ -118,10 +123,10 @@ extern "C" {
         auth_len: usize,
         ciphertext: *const u8,
         ciphertext_len: usize,
-        mic: *const [u8; 4],
+        mic: *const [u8; 16],
         out: *mut u8,
         out_len: usize,
     ) -> u64;
-    pub fn nwk_split_mic(bytes: *const u8, bytes_len: usize, mic: *mut [u8; 4], front: *mut u64) -> u64;
+    pub fn nwk_split_mic(level: u64, bytes: *const u8, bytes_len: usize, mic: *mut [u8; 16], front: *mut u64) -> u64;
     pub fn nwk_encrypt_block(key_first: u64, key_second: u64, block: *const [u8; 16], out: *mut [u8; 16]) -> u64;
 }

@@ -5,10 +5,10 @@ mod support;
 
 use std::path::{Path, PathBuf};
 use std::process::{Command, Output};
-use support::calls::{check_boundary, perform, Call, Outcome};
+use support::calls::{check_boundary, perform, Call, Outcome, LEVEL};
 use support::hex::unhex;
 use support::model;
-use support::operations::{Operation, OPERATIONS};
+use support::operations::{Operation, LEVELLED, OPERATIONS};
 
 /// `ROUNDS` of `tests/agree.c`.
 const ROUNDS: usize = 300;
@@ -46,10 +46,12 @@ fn parsed(line: &str) -> Option<(Call, Outcome)> {
     let (called, answered) = line.split_once(" = ")?;
     let mut words = called.split(' ');
     let operation = Operation::named(words.next()?)?;
+    let mut number = || u64::from_str_radix(words.next()?, 16).ok();
+    let level = if operation.levelled() { number()? } else { LEVEL };
     let mut key = [0; 16];
     if operation.shape().keyed {
         for half in key.chunks_mut(8) {
-            half.copy_from_slice(&u64::from_str_radix(words.next()?, 16).ok()?.to_le_bytes());
+            half.copy_from_slice(&number()?.to_le_bytes());
         }
     }
     let inputs: Vec<Vec<u8>> = words.map(unhex).collect::<Option<_>>()?;
@@ -59,7 +61,7 @@ fn parsed(line: &str) -> Option<(Call, Outcome)> {
     let rooms = outputs.iter().map(Vec::len).collect();
     let shape = operation.shape();
     let complete = inputs.len() == shape.inputs.len() && outputs.len() == shape.outputs.len();
-    complete.then_some((Call { operation, key, inputs, rooms }, Outcome { answer, outputs }))
+    complete.then_some((Call { operation, level, key, inputs, rooms }, Outcome { answer, outputs }))
 }
 
 #[test]
@@ -71,6 +73,7 @@ fn c_and_rust_get_the_same_answers() {
     let mut accepted = [0; OPERATIONS.len()];
     let mut presence_bits = [0; OPERATIONS.len()];
     let (mut clear, mut last_counter) = (0, 0);
+    let mut no_level = [0; OPERATIONS.len()];
     for line in printed.lines() {
         let (call, from_c) = parsed(line).unwrap_or_else(|| panic!("a line that says no call: {line}"));
         let from_rust = perform(&call, FILL, 0x69);
@@ -82,6 +85,9 @@ fn c_and_rust_get_the_same_answers() {
         clear += usize::from(from_c.clear());
         presence_bits[call.operation as usize] += usize::from(from_c.refusal() == 28);
         last_counter += usize::from(from_c.refusal() == 21);
+        let refused = from_c.refusal() == 29;
+        let of_frames = call.operation == Operation::OpenBurst && from_c.frames().any(|(record, _)| record[0] == 29);
+        no_level[call.operation as usize] += usize::from(refused || of_frames);
     }
     println!("{} lines, accepted by operation {accepted:?}, {clear} clear frames", printed.lines().count());
     assert_eq!(printed.lines().count(), ROUNDS * OPERATIONS.len());
@@ -89,6 +95,9 @@ fn c_and_rust_get_the_same_answers() {
     assert!(accepted.iter().all(|&n| n >= ROUNDS / 8), "accepted by operation {accepted:?}");
     let sealed = accepted[Operation::Open as usize] - clear;
     assert!(last_counter >= ROUNDS / 50, "{last_counter} calls refused by 21");
+    for operation in LEVELLED {
+        assert!(no_level[operation as usize] >= ROUNDS / 30, "refused by 29 by operation {no_level:?}");
+    }
     for writer in [Operation::WriteHeader, Operation::WriteFrame, Operation::Seal] {
         assert!(presence_bits[writer as usize] >= ROUNDS / 20, "refused by 28 by operation {presence_bits:?}");
     }

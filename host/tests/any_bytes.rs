@@ -4,8 +4,8 @@ mod support;
 
 use std::fs;
 use store_reader::{
-    decrypt_ccm, encrypt_ccm, hex, open, open_burst, read, seal, split_mic, write, Eui64, Key, NwkAuxHeader,
-    NwkCommand, NwkHeader, Opened, OpenedRecord, Refusal, MAX_BURST, MAX_FRAME, MAX_PAYLOAD,
+    decrypt_ccm, encrypt_ccm, hex, open, open_burst, read, seal, split_mic, write, Eui64, Key, Level, Network,
+    NwkAuxHeader, NwkCommand, NwkHeader, Opened, OpenedRecord, Refusal, MAX_BURST, MAX_FRAME, MAX_PAYLOAD,
 };
 use support::command::{root, run, KEY};
 use support::random::Random;
@@ -21,6 +21,11 @@ fn bytes(random: &mut Random) -> Vec<u8> {
         *first = random.pick(&[0x08, 0x48, 0x09, 0x0B, 0x01, 0x05, 0x08, 0x0D]);
     }
     bytes
+}
+
+/// Any key at any level.
+fn network(random: &mut Random) -> Network {
+    Network::new(Key::new(random.array())).with_level(random.pick(&Level::ALL))
 }
 
 /// Any bytes may be a clear frame, whose payload is then that frame's last bytes. They are no sealed one, since no MIC is right
@@ -46,7 +51,7 @@ fn safe_operations_take_any_bytes() {
     let mut random = Random::new(SEED);
     let (mut headers, mut clear, mut commands) = (0, 0, 0);
     for _ in 0..ROUNDS {
-        let (input, key) = (bytes(&mut random), Key::new(random.array()));
+        let (input, network) = (bytes(&mut random), network(&mut random));
         let room = random.below(MAX_FRAME + 4);
         let mut out = vec![0xA5; room];
         let number = |refusal: Refusal| assert!((1..=19).contains(&refusal.number()), "{refusal}");
@@ -56,11 +61,11 @@ fn safe_operations_take_any_bytes() {
             // What was read has presence bits that agree: with the security bit it is not refused by 28.
             let _ = write(&frame.header, frame.rest, &mut out).map_err(number);
             let header = frame.header.secured();
-            let _ = seal(&key, &header, Some(&auxiliary), frame.rest, &mut out).map_err(number);
-            let _ = seal(&key, &header, None, frame.rest, &mut out).map_err(number);
+            let _ = seal(&network, &header, Some(&auxiliary), frame.rest, &mut out).map_err(number);
+            let _ = seal(&network, &header, None, frame.rest, &mut out).map_err(number);
         }
         out.fill(0xA5);
-        clear += usize::from(is_clear(open(&key, &input, &mut out), &input));
+        clear += usize::from(is_clear(open(&network, &input, &mut out), &input));
         assert!(out.iter().all(|byte| *byte == 0xA5));
         let _ = NwkHeader::read(&input).map_err(number);
         let _ = NwkAuxHeader::read(&input).map_err(number);
@@ -71,9 +76,9 @@ fn safe_operations_take_any_bytes() {
             assert_eq!(NwkCommand::read(&out[..n]).as_ref(), Ok(&command));
         }
         let (nonce, mic) = (random.array(), random.array());
-        let _ = encrypt_ccm(&key, &nonce, &input, &input, &mut out).map_err(number);
-        let _ = decrypt_ccm(&key, &nonce, &input, &input, &mic, &mut out).map_err(number);
-        let _ = split_mic(&input).map_err(number);
+        let _ = encrypt_ccm(&network, &nonce, &input, &input, &mut out).map_err(number);
+        let _ = decrypt_ccm(&network, &nonce, &input, &input, &mic, &mut out).map_err(number);
+        let _ = split_mic(network.level, &input).map_err(number);
         let _ = hex(&String::from_utf8_lossy(&input), &mut out);
     }
     println!("{ROUNDS} inputs, {headers} read as frames, {clear} opened as clear, {commands} read as commands");
@@ -97,11 +102,11 @@ fn a_burst_takes_any_bytes_and_lengths() {
     let mut random = Random::new(SEED + 2);
     let (mut bursts, mut frames, mut clear) = (0, 0, 0);
     for _ in 0..ROUNDS / 4 {
-        let (input, key) = (bytes(&mut random), Key::new(random.array()));
+        let (input, network) = (bytes(&mut random), network(&mut random));
         let lengths = lengths(&input, &mut random);
         let mut answers = vec![OpenedRecord::new(); random.below(MAX_BURST + 3)];
         let mut out = vec![0xA5; MAX_PAYLOAD * random.below(MAX_BURST + 3)];
-        match open_burst(&key, &input, &lengths, &mut answers, &mut out) {
+        match open_burst(&network, &input, &lengths, &mut answers, &mut out) {
             Err(refusal) => assert_eq!(refusal, Refusal::BURST),
             Ok(burst) => {
                 assert_eq!(burst.len(), lengths.len());

@@ -5,8 +5,9 @@ mod support;
 
 use support::calls::{check_boundary, length_of, lengths_of, payload_of, perform, Call, Outcome};
 use support::compare::compare;
-use support::generate::bursts;
+use support::generate::{any_level, bursts};
 use support::hex::unhex;
+use support::model::level::LEVELS;
 use support::operations::{Operation, MARK_CLEAR, MARK_SEALED, MAX_BURST, OPENED_MARK, OPENED_RECORD, PART};
 use support::random::Random;
 
@@ -48,7 +49,7 @@ fn answer(alone: &Outcome) -> Vec<u8> {
 fn compare_with_open(call: &Call, opened: &Outcome, fill: u8) -> Vec<(u8, u8)> {
     let mut own = Vec::new();
     for (k, (frame, (record, part))) in call.frames().into_iter().zip(opened.frames()).enumerate() {
-        let its_call = Call::open(call.key, frame, PART);
+        let its_call = Call::open(call.key, frame, PART).at(call.level);
         let alone = perform(&its_call, fill, 0x69);
         assert_eq!(record, answer(&alone), "answer {k}: {}", call.line());
         assert_eq!(part, alone.outputs[1], "part {k}: {}", call.line());
@@ -66,7 +67,7 @@ fn compare_with_open(call: &Call, opened: &Outcome, fill: u8) -> Vec<(u8, u8)> {
 #[derive(Default, Debug)]
 struct Compared {
     sizes: [usize; MAX_BURST + 1],
-    numbers: [usize; 20],
+    numbers: [usize; 30],
     marks: [usize; 3],
 }
 
@@ -81,7 +82,7 @@ impl Compared {
 
     fn check(&self) {
         assert!(self.sizes.iter().chain(&self.marks).all(|&met| met >= AT_LEAST), "{self:?}");
-        for number in 0..20 {
+        for number in (0..20).chain([29]) {
             let met = self.numbers[number];
             // A part has room for every payload, opening writes nothing from a record, and it never gives 14.
             let never = [13, 14, 17, 18].contains(&number);
@@ -96,10 +97,10 @@ fn each_frame_is_as_opened_alone() {
     let mut compared = Compared::default();
     for _ in 0..ROUNDS {
         let (key, fill) = (random.array(), random.byte());
-        let inputs = bursts::inputs(&key, &mut random);
+        let inputs = bursts::inputs(random.pick(&LEVELS), &key, &mut random);
         let count = lengths_of(&inputs[1]).len();
         let rooms = vec![OPENED_RECORD * (count + random.below(3)), PART * count + random.below(3)];
-        let call = Call { operation: Operation::OpenBurst, key, inputs, rooms };
+        let call = Call::new(Operation::OpenBurst, key, inputs, rooms).at(any_level(&mut random));
         let opened = perform(&call, fill, random.byte());
         check_boundary(&call, &opened, fill);
         let expected = if count <= MAX_BURST { count as u64 } else { 20 << 32 };

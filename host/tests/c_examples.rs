@@ -59,6 +59,18 @@ address without its bit: refusal 28, length 0
     assert!(printed.ends_with(refused), "{printed}");
 }
 
+/// Headers of 8 and 14 bytes, 6 of payload, and a MIC of 4, 8 or 16. By document 02 a frame behind whose headers fewer bytes stand than
+/// the MIC has is refused by 16, and a level that is not 5, 6 or 7 by 29.
+#[test]
+fn the_example_at_each_level() {
+    let expected = "level 5: 32 bytes, opens at 5, at 6 refused by 19, at 7 refused by 16
+level 6: 36 bytes, at 5 refused by 19, opens at 6, at 7 refused by 16
+level 7: 44 bytes, at 5 refused by 19, at 6 refused by 19, opens at 7
+level 4: refused by 29: the network's level is not 5, 6 or 7
+";
+    assert_eq!(output("level", &root().join("examples/level.c")), expected);
+}
+
 /// By document 02 a refused frame stops no other: the damaged one has its own answer, 19, and the empty one 2. The clear one
 /// is accepted and marked so.
 #[test]

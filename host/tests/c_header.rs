@@ -1,5 +1,5 @@
 //! What `include/nwk.h` adds to the functions, from C and from C++: names, texts, offsets, numbers of a key, marks, where a
-//! payload is, the presence bits, the list of senders, the journal, NULL for an empty slice.
+//! payload is, the presence bits, the list of senders, the journal, the levels, NULL for an empty slice.
 #[allow(dead_code)]
 mod support;
 
@@ -56,6 +56,7 @@ fn c_and_cpp_print_the_same() {
         check_presence_bits(&mut lines);
         check_senders(&mut lines);
         check_journal(&mut lines);
+        check_levels(&mut lines);
         check_empty(&mut lines);
         check_texts(lines);
     }
@@ -91,6 +92,23 @@ fn check_presence_bits<'a>(lines: &mut impl Iterator<Item = &'a str>) {
         "seal_with_bits 0 27 mark 2 header 0",
         "seal_without_extended_nonce 28 0",
         "seal_with_extended_nonce 0 35 mark 2 header 0",
+    ] {
+        assert_eq!(lines.next(), Some(expected));
+    }
+}
+
+/// By document 02, request 9: the MIC has 4, 8 or 16 of 16 places, the rest of 118 bytes is in front of it, and a number that has the
+/// lowest bits of a level is none: 29, of a burst's frame too.
+fn check_levels<'a>(lines: &mut impl Iterator<Item = &'a str>) {
+    for expected in [
+        "levels 5 4 114 6 8 110 7 16 102 of 16",
+        "level_seal 29 0",
+        "level_open 29 0",
+        "level_open_burst 0 1",
+        "its record 29",
+        "level_encrypt_ccm 29 0",
+        "level_decrypt_ccm 29 0",
+        "level_split_mic 29 0",
     ] {
         assert_eq!(lines.next(), Some(expected));
     }
@@ -200,7 +218,7 @@ fn check_texts<'a>(mut lines: impl Iterator<Item = &'a str>) {
     for refusal in Refusal::all() {
         assert_eq!(lines.next(), Some(format!("{} {}", refusal.number(), refusal.condition()).as_str()));
     }
-    assert_eq!(lines.next(), Some("29 a number that the list does not have"));
+    assert_eq!(lines.next(), Some("30 a number that the list does not have"));
     assert_eq!(lines.next(), None);
 }
 

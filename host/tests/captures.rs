@@ -6,6 +6,7 @@ mod support;
 use std::collections::BTreeMap;
 use std::fs;
 use support::command::{not_installed, root, run, scratch, tool, KEY};
+use support::hex::unhex;
 
 /// A MAC data frame of PAN 0x1A62 from 0x1234 to 0x0000 around a NWK frame without security, and its FCS. The FCS is that
 /// which tshark calls correct.
@@ -425,6 +426,57 @@ fn files_that_text2pcap_and_mergecap_write() {
 fn value<'a>(line: &'a str, field: &str) -> &'a str {
     let behind = line.split_once(&format!("\"{field}\":")).map_or("", |(_, behind)| behind);
     behind.split([',', '}']).next().unwrap_or("").trim_matches('"')
+}
+
+/// A pcap capture of NWK frames, each in a MAC frame from 0x7A10 without FCS.
+fn without_fcs(frames: &[Vec<u8>]) -> Vec<u8> {
+    let mut capture = pcap_header(230, false);
+    for (number, frame) in (0..).zip(frames) {
+        let mac = [&[0x41, 0x88, number, 0x62, 0x1A, 0, 0, 0x10, 0x7A][..], frame].concat();
+        capture.extend([0; 8]);
+        capture.extend((mac.len() as u32).to_le_bytes());
+        capture.extend((mac.len() as u32).to_le_bytes());
+        capture.extend(mac);
+    }
+    capture
+}
+
+/// The payloads that tshark decrypts in a capture with the sample's key at a security level, in hexadecimal digits.
+fn decrypted_by_tshark(capture: &str, bits: u32) -> Option<Vec<String>> {
+    let key = format!("uat:zigbee_pc_keys:\"{KEY}\",\"Normal\",\"\"");
+    let level = format!("zbee_nwk.seclevel:AES-128 Encryption, {bits}-bit Integrity Protection");
+    let printed = tool("tshark", &["-r", capture, "--disable-protocol", "lwm", "-o", &key, "-o", &level, "-x"])?;
+    let printed = String::from_utf8(printed.stdout).expect("UTF-8");
+    let dumps =
+        printed.split("\n\n").filter_map(|dump| dump.split_once("Decrypted ZigBee Payload")?.1.split_once('\n'));
+    // An offset, two blanks and 16 bytes at most, three characters each.
+    let digits = |line: &str| line.chars().skip(6).take(48).filter(|c| !c.is_whitespace()).collect::<String>();
+    Some(dumps.map(|(_, lines)| lines.lines().map(digits).collect::<String>().to_uppercase()).collect())
+}
+
+/// Frames that `seal` sealed at each level are decrypted by tshark with that level in its preferences, and by no other level; `open` gives
+/// the same payloads.
+#[test]
+fn tshark_opens_what_is_sealed_at_each_level() {
+    for (level, bits, largest) in [("5", 32, 92), ("6", 64, 88), ("7", 128, 80)] {
+        let payloads: Vec<String> =
+            ["000102040401010118010A0000296608".to_string(), "AA".to_string(), "5C".repeat(largest)].into();
+        let lines: String = payloads.iter().map(|payload| format!("08000000107A1E07{payload}\n")).collect();
+        let sealing = ["seal", "--key", KEY, "--level", level, "--counter=74565", "--ieee=00:12:4B:00:1C:A1:B2:C3"];
+        let sealed = run(&sealing, lines.as_bytes()).out;
+        let frames: Vec<Vec<u8>> = sealed.lines().map(|line| unhex(line).expect("hexadecimal digits")).collect();
+        let path = scratch(&format!("level-{level}.pcap"));
+        let name = path.to_str().expect("UTF-8");
+        fs::write(&path, without_fcs(&frames)).expect("a capture");
+        let opened = run(&["open", "--key", KEY, "--level", level, "--json", name], b"").out;
+        assert_eq!(opened.lines().map(|line| value(line, "payload")).collect::<Vec<_>>()[..3], payloads);
+        let Some(decrypted) = decrypted_by_tshark(name, bits) else {
+            return;
+        };
+        assert_eq!(decrypted, payloads, "level {level}");
+        let other = if bits == 32 { 64 } else { 32 };
+        assert_eq!(decrypted_by_tshark(name, other).expect("tshark"), Vec::<String>::new(), "level {level}");
+    }
 }
 
 /// tshark, given the keys, reads the same addresses, counters and kinds, and opens the same frames. A clear frame has no counter.

@@ -38,7 +38,7 @@ const SUMMARY: &str = "14 frames: 9 opened, 1 clear, 4 refused
      1 refused by 3: the frame type is 2
      1 refused by 10: an auxiliary header with extended nonce has 6 to 12 bytes
      2 refused by 19: the MIC is not the one computed
-         2 with a right frame check sequence: under another key, or altered
+         2 with a right frame check sequence: under another key or level, or altered
      1 with a wrong frame check sequence
 6 records without a NWK frame to open
      1 6LoWPAN frame
@@ -320,7 +320,7 @@ fn the_sender_of_a_refused_frame_is_kept() {
         ),
         (
             format!("{header} {auxiliary} 00 00 00"),
-            format!("{shown}  counter 74565  ieee 08:07:06:05:04:03:02:01  refused by 16: ciphertext with MIC has fewer than 4 bytes"),
+            format!("{shown}  counter 74565  ieee 08:07:06:05:04:03:02:01  refused by 16: ciphertext with MIC has fewer bytes than the tag"),
         ),
         ("0A 00 00 00 34 12 1E 07".to_string(), "refused by 3: the frame type is 2".to_string()),
     ] {
@@ -328,7 +328,7 @@ fn the_sender_of_a_refused_frame_is_kept() {
         assert_eq!(ran.out.lines().next(), Some(format!("   1  {line}").as_str()));
     }
     let ran = run(&["open", "--key", KEY, "--json"], format!("{header} {auxiliary} 00 00 00").as_bytes());
-    let json = r#"{"line":1,"refusal":16,"condition":"ciphertext with MIC has fewer than 4 bytes","type":"data","source":"0x1234","#;
+    let json = r#"{"line":1,"refusal":16,"condition":"ciphertext with MIC has fewer bytes than the tag","type":"data","source":"0x1234","#;
     assert!(ran.out.starts_with(json), "{}", ran.out);
     assert!(ran.out.contains(r#""auxiliary":{"counter":74565,"#), "{}", ran.out);
     assert!(ran.out.contains(r#""ieee":"08:07:06:05:04:03:02:01"}"#), "{}", ran.out);
@@ -443,7 +443,7 @@ clear,,1,
 refused,3,1,the frame type is 2
 refused,10,1,an auxiliary header with extended nonce has 6 to 12 bytes
 refused,19,2,the MIC is not the one computed
-of these,19,2,\"with a right frame check sequence: under another key, or altered\"
+of these,19,2,\"with a right frame check sequence: under another key or level, or altered\"
 not a NWK frame,,1,6LoWPAN frame
 not a NWK frame,,1,Green Power frame
 not a NWK frame,,1,MAC acknowledgement
@@ -716,6 +716,13 @@ fn wrong_arguments_are_named() {
         (&["opne"], "\"opne\" is no command; did you mean open?"),
         (&["help", "raed"], "\"raed\" is no command; did you mean read?"),
         (&["read", "--by", "week"], "--by: \"week\" is neither day nor hour"),
+        (&["open", "--key", KEY, "--level", "4"], "--level: \"4\" is not 5, 6 or 7"),
+        (&["open", "--key", KEY, "--level=05"], "--level: \"05\" is not 5, 6 or 7"),
+        (&["seal", "--key", KEY, "--level", "8", "--counter=1"], "--level: \"8\" is not 5, 6 or 7"),
+        (&["open", "--key", KEY, "--level", "5", "--level", "6"], "--level is given twice"),
+        (&["open", "--key", KEY, "--levle=6"], "open has no option --levle; did you mean --level?"),
+        (&["open", "--key", KEY, "--level"], "--level needs a value"),
+        (&["read", "--level=5"], "read has no option --level"),
         (&["read", "--by-sender", "--jump", "0"], "--jump: a counter rises by 1 at least"),
         (&["read", "--jump", "7"], "read has --jump only beside --by-sender or --by"),
         (&["read", "--frames"], "--frames is given only beside --csv"),
@@ -790,7 +797,7 @@ fn the_examples_of_the_help_run() {
     let path =
         format!("{}:{}", folder.parent().expect("a folder").display(), std::env::var("PATH").unwrap_or_default());
     let lines: Vec<&str> = examples.lines().filter(|line| !line.trim().is_empty()).collect();
-    assert_eq!(lines.len(), 13);
+    assert_eq!(lines.len(), 14);
     for line in lines {
         let ran =
             Command::new("sh").args(["-c", line]).env("PATH", &path).current_dir(root()).output().expect("a shell");

@@ -6,7 +6,8 @@ mod support;
 use support::calls::{Call, Outcome};
 use support::compare::compare;
 use support::hex::unhex;
-use support::operations::{Operation, AUXILIARY_RECORD, COMMAND_RECORD, HEADER_RECORD, OPENED_RECORD};
+use support::model::level::LEVELS;
+use support::operations::{Operation, AUXILIARY_RECORD, COMMAND_RECORD, HEADER_RECORD, MIC_PLACES, OPENED_RECORD};
 
 const FILL: u8 = 0xA5;
 
@@ -16,7 +17,7 @@ fn bytes(text: &str) -> Vec<u8> {
 
 /// The outcome of a call, which codec and model agree on.
 fn asked(operation: Operation, key: [u8; 16], inputs: Vec<Vec<u8>>, rooms: Vec<usize>) -> Outcome {
-    compare(&Call { operation, key, inputs, rooms }, FILL, 0x96)
+    compare(&Call::new(operation, key, inputs, rooms), FILL, 0x96)
 }
 
 fn read_header(text: &str) -> Outcome {
@@ -134,13 +135,15 @@ fn ciphertext_with_mic_has_at_least_4_bytes() {
 #[test]
 fn the_mic_is_split_off() {
     let split = |n: usize| {
-        let outcome = asked(Operation::SplitMic, [0; 16], vec![(0..n).map(|i| i as u8).collect()], vec![4, 8]);
+        let bytes = (0..n).map(|i| i as u8).collect();
+        let outcome = asked(Operation::SplitMic, [0; 16], vec![bytes], vec![MIC_PLACES, 8]);
         (outcome.answer, outcome.outputs[0].clone(), outcome.outputs[1].clone())
     };
     let front = |n: u64| n.to_le_bytes().to_vec();
-    assert_eq!(split(3), (16 << 32, vec![FILL; 4], vec![FILL; 8]));
-    assert_eq!(split(4), (4, vec![0, 1, 2, 3], front(0)));
-    assert_eq!(split(6), (4, vec![2, 3, 4, 5], front(2)));
+    let mic = |bytes: [u8; 4]| [&bytes[..], &[0; 12]].concat();
+    assert_eq!(split(3), (16 << 32, vec![FILL; MIC_PLACES], vec![FILL; 8]));
+    assert_eq!(split(4), (4, mic([0, 1, 2, 3]), front(0)));
+    assert_eq!(split(6), (4, mic([2, 3, 4, 5]), front(2)));
     assert_eq!(split(70_000).2, front(69_996));
 }
 
@@ -346,19 +349,46 @@ fn a_block_of_fips_197() {
     assert_eq!(outcome.outputs[0], bytes("69C4E0D86A7B0430D8CDB78070B4C55A"));
 }
 
-/// The first entry of NIST's VTT128.rsp with a tag of 4 bytes.
+/// Key, nonce, authenticated data, payload, ciphertext and tag: the first entries of NIST's VTT128.rsp with tags of 4, 8 and 16 bytes.
+const OF_NIST: [[&str; 6]; 3] = [
+    [
+        "43b1a6bc8d0d22d6d1ca95c18593cca5",
+        "9882578e750b9682c6ca7f8f86",
+        "2084f3861c9ad0ccee7c63a7e05aece5db8b34bd8724cc06b4ca99a7f9c4914f",
+        "a2b381c7d1545c408fe29817a21dc435a154c87256346b05",
+        "cc69ed76985e0ed4c8365a72775e5a19bfccc71aeb116c85",
+        "a8c74677",
+    ],
+    [
+        "368f35a1f80eaaacd6bb136609389727",
+        "842a8445847502ea77363a16b6",
+        "34396dfcfa6f742aea7040976bd596497a7a6fa4fb85ee8e4ca394d02095b7bf",
+        "1cccd55825316a94c5979e049310d1d717cdfb7624289dac",
+        "1a58094f0e8c6035a5584bfa8d1009c5f78fd2ca487ff222",
+        "f6d1d897d6051618",
+    ],
+    [
+        "4189351b5caea375a0299e81c621bf43",
+        "48c0906930561e0ab0ef4cd972",
+        "40a27c1d1e23ea3dbe8056b2774861a4a201cce49f19997d19206d8c8a343951",
+        "4535d12b4377928a7c0a61c9f825a48671ea05910748c8ef",
+        "26c56961c035a7e452cce61bc6ee220d77b3f94d18fd10b6",
+        "d80e8bf80f4a46cab06d4313f0db9be9",
+    ],
+];
+
 #[test]
-fn a_sealed_payload_of_nist() {
-    let key = bytes("43b1a6bc8d0d22d6d1ca95c18593cca5");
-    let key: [u8; 16] = std::array::from_fn(|i| key[i]);
-    let nonce = bytes("9882578e750b9682c6ca7f8f86");
-    let auth = bytes("2084f3861c9ad0ccee7c63a7e05aece5db8b34bd8724cc06b4ca99a7f9c4914f");
-    let payload = bytes("a2b381c7d1545c408fe29817a21dc435a154c87256346b05");
-    let ciphertext = bytes("cc69ed76985e0ed4c8365a72775e5a19bfccc71aeb116c85");
-    let mic = bytes("a8c74677");
-    let inputs = vec![nonce.clone(), auth.clone(), payload.clone()];
-    let sealed = asked(Operation::EncryptCcm, key, inputs, vec![24, 4]);
-    assert_eq!((sealed.answer, &sealed.outputs), (24, &vec![ciphertext.clone(), mic.clone()]));
-    let opened = asked(Operation::DecryptCcm, key, vec![nonce, auth, ciphertext, mic], vec![24]);
-    assert_eq!((opened.answer, &opened.outputs[0]), (24, &payload));
+fn sealed_payloads_of_nist() {
+    for (level, entry) in LEVELS.into_iter().zip(OF_NIST) {
+        let [key, nonce, auth, payload, ciphertext, tag] = entry.map(bytes);
+        let key: [u8; 16] = std::array::from_fn(|i| key[i]);
+        let mic = [&tag[..], &vec![0; MIC_PLACES - tag.len()]].concat();
+        let at_level = |operation, inputs, rooms| Call::new(operation, key, inputs, rooms).at(level.number);
+        let inputs = vec![nonce.clone(), auth.clone(), payload.clone()];
+        let sealed = compare(&at_level(Operation::EncryptCcm, inputs, vec![24, MIC_PLACES]), FILL, 0x96);
+        assert_eq!((sealed.answer, &sealed.outputs), (24, &vec![ciphertext.clone(), mic.clone()]));
+        let inputs = vec![nonce, auth, ciphertext, mic];
+        let opened = compare(&at_level(Operation::DecryptCcm, inputs, vec![24]), FILL, 0x96);
+        assert_eq!((opened.answer, &opened.outputs[0]), (24, &payload));
+    }
 }

@@ -9,6 +9,7 @@ use support::compare::compare;
 use support::generate::{commands, headers};
 use support::model::auxiliary::{record as auxiliary_record, Auxiliary};
 use support::model::header::{self, Header, SourceRoute};
+use support::model::level::FIVE;
 use support::model::{frame, LAST_COUNTER};
 use support::operations::{
     Operation, AUXILIARY_COUNTER, AUXILIARY_RECORD, COMMAND_RECORD, HEADER_RECORD, MARK_CLEAR, MARK_SEALED,
@@ -20,7 +21,7 @@ const SEED: u64 = 0xE4A0_571E;
 const FILL: u8 = 0xA5;
 
 fn asked(operation: Operation, input: Vec<u8>, room: usize) -> Outcome {
-    compare(&Call { operation, key: [0; 16], inputs: vec![input], rooms: vec![room] }, FILL, 0x5A)
+    compare(&Call::new(operation, [0; 16], vec![input], vec![room]), FILL, 0x5A)
 }
 
 /// Puts each value in turn at one place of an input, and counts how often the call is accepted.
@@ -88,7 +89,7 @@ fn sealed(front: &[u8], payload: &[u8], random: &mut Random) -> Option<Vec<u8>> 
     let ieee = random.array();
     let auxiliary = Auxiliary { extended_nonce: true, ieee: Some(ieee), ..headers::auxiliary(random) };
     let (header, _) = header::read(front).ok()?;
-    Some(frame::seal(&KEY, &header, &auxiliary, &ieee, payload))
+    Some(frame::seal(FIVE, &KEY, &header, &auxiliary, &ieee, payload))
 }
 
 /// What opening makes of every frame control, the payload having 6 bytes: those refused, clear and sealed are counted.
@@ -132,7 +133,7 @@ fn every_security_control_opened() {
         let read = frame::read(&bytes).expect("two headers");
         let (header, auxiliary) = (read.header, read.auxiliary.expect("an auxiliary header"));
         if let Some(ieee) = auxiliary.ieee {
-            let mut bytes = frame::seal(&KEY, &header, &auxiliary, &ieee, &[1, 2]);
+            let mut bytes = frame::seal(FIVE, &KEY, &header, &auxiliary, &ieee, &[1, 2]);
             bytes[front.len()] = control;
             let opened = opened(&bytes, 2);
             assert_eq!((opened.answer, opened.outputs[0][OPENED_MARK]), (2, MARK_SEALED), "{control:02X}");
@@ -277,7 +278,7 @@ fn every_presence_bit_beside_every_field() {
         let agrees = fields == (bits & 1 | bits >> 1 & 14);
         let written = if agrees { 0 } else { 28 };
         assert_eq!(asked(Operation::WriteHeader, record.clone(), 118).refusal(), written, "{fields:X} {bits:02X}");
-        let call = |operation, inputs| Call { operation, key: KEY, inputs, rooms: vec![118] };
+        let call = |operation, inputs| Call::new(operation, KEY, inputs, vec![118]);
         let frame = compare(&call(Operation::WriteFrame, vec![record.clone(), vec![7]]), FILL, 0x5A);
         assert_eq!(frame.refusal(), written, "{fields:X} {bits:02X}");
         for choice in [None, Some((false, false)), Some((false, true)), Some((true, false)), Some((true, true))] {
@@ -321,7 +322,7 @@ fn every_byte_beside_the_last_counter() {
         let mut record = auxiliary_record(&Some(auxiliary));
         record[at] = value;
         let inputs = vec![header.record(), record, random.bytes(2)];
-        let sealed = compare(&Call { operation: Operation::Seal, key: KEY, inputs, rooms: vec![118] }, FILL, 0x5A);
+        let sealed = compare(&Call::new(Operation::Seal, KEY, inputs, vec![118]), FILL, 0x5A);
         assert_eq!(sealed.answer, if value == 0xFF { 21 << 32 } else { 8 + 14 + 2 + 4 }, "{value:02X} at {at}");
     }
 }

@@ -218,7 +218,7 @@ fn a_header_with_every_field() {
 #[test]
 fn a_clear_frame_with_every_field() {
     let frame = [&FULL_HEADER[..], &[0x04, 0x40]].concat();
-    let opened = open(&Key::new([0; 16]), &frame, &mut []).expect("a clear frame");
+    let opened = open(&Network::new(Key::new([0; 16])), &frame, &mut []).expect("a clear frame");
     let clear = opened.clear().expect("the security bit is off");
     assert_eq!(clear.header, full_header());
     assert_eq!(clear.payload.as_ptr_range(), frame[FULL_HEADER.len()..].as_ptr_range());

@@ -10,6 +10,7 @@ use support::compare::compare;
 use support::counter_tally::CounterTally;
 use support::generate;
 use support::header_comments;
+use support::level_tally::LevelTally;
 use support::operations::{Extent, Operation, OPERATIONS};
 use support::presence_tally::PresenceTally;
 use support::random::Random;
@@ -20,13 +21,15 @@ const CALLS_EACH: usize = 24_000;
 const CALLS_IN_ALL: usize = 200_000;
 /// Every refusal of every operation, every kind of content, every length and every room is met at least this often.
 const AT_LEAST: usize = 10;
+/// Every answer at each of the three levels, and 29 before it, at least this often.
+const AT_EACH_LEVEL: usize = 3;
 
 #[test]
 fn every_operation_answers_as_the_model() {
     let mut random = Random::new(SEED);
     let (mut tally, mut bursts) = (Tally::new(), BurstTally::default());
     let (mut clear, mut counters) = (ClearTally::default(), CounterTally::default());
-    let mut presence = PresenceTally::default();
+    let (mut presence, mut levels) = (PresenceTally::default(), LevelTally::default());
     for number in 0..CALLS_EACH {
         for operation in OPERATIONS {
             let generated = generate::call(operation, number, &mut random);
@@ -35,19 +38,21 @@ fn every_operation_answers_as_the_model() {
             clear.count(&generated.call, &outcome);
             counters.count(&generated.call, &outcome);
             presence.count(&generated.call, &outcome);
+            levels.count(&generated.call, &outcome);
             if operation == Operation::OpenBurst {
                 bursts.count(&generated.call, &outcome);
             }
         }
     }
     println!("{} calls\n{}\n{}", tally.all_calls(), tally.report(), bursts.report());
-    println!("{}\n{}\n{}", clear.report(), counters.report(), presence.report());
+    println!("{}\n{}\n{}\n{}", clear.report(), counters.report(), presence.report(), levels.report());
     assert!(tally.all_calls() >= CALLS_IN_ALL);
     OPERATIONS.into_iter().for_each(|operation| check_tally(&tally, operation));
     bursts.check(AT_LEAST);
     clear.check(AT_LEAST);
     counters.check(AT_LEAST);
     presence.check(AT_LEAST);
+    levels.check(AT_EACH_LEVEL);
     // "Opening no longer gives 14, sealing still does"; of a burst's frames its own tally says so.
     assert_eq!(tally.answers(Operation::Open, 14), 0);
     assert!(tally.answers(Operation::Seal, 14) >= AT_LEAST);
@@ -90,7 +95,7 @@ fn the_refusals_are_those_of_the_header() {
 /// The codes that an operation over a code alone accepts.
 fn accepted_codes(operation: Operation) -> Vec<u8> {
     let accepted = |code: &u8| {
-        let call = Call { operation, key: [0; 16], inputs: vec![vec![*code]], rooms: Vec::new() };
+        let call = Call::new(operation, [0; 16], vec![vec![*code]], Vec::new());
         compare(&call, 0, *code).refusal() == 0
     };
     (0..=255).filter(accepted).collect()

@@ -54,6 +54,7 @@ fn printed() -> String {
     all += &run(&[&["open", "--key-file=samples/store.keys", "--json", "--by=day"][..], &files].concat(), b"").out;
     all += &run(&["open", "--key", KEY, "--json", "--by-sender", "samples/store.pcap"], b"").out;
     all += &run(&["open", "--key", &"01".repeat(16), "--json", "samples/store.pcap"], b"").out;
+    all += &run(&["open", "--key", KEY, "--level=6", "--json", "samples/store.pcap"], b"").out;
     // The sample with zeros in the place of the frame check sequences: 24 bytes in front, 16 in front of each record.
     let mut replaced = fs::read(root().join("samples/store.pcap")).expect("the sample");
     let mut at = 24;

@@ -3,7 +3,7 @@ use std::alloc::{GlobalAlloc, Layout, System};
 use std::cell::Cell;
 use store_reader::{
     decrypt_ccm, encrypt_block, encrypt_ccm, hex, next_counter, open, open_burst, read, recover, seal, shrink,
-    split_mic, timeout_seconds, write, write_record, Eui64, JournalRecord, Key, Nwk, NwkAuxHeader, NwkCommand,
+    split_mic, timeout_seconds, write, write_record, Eui64, JournalRecord, Key, Network, Nwk, NwkAuxHeader, NwkCommand,
     NwkFrameType, NwkHeader, NwkSourceRoute, OpenedFrame, OpenedRecord, Refusal, SenderRecord, Senders, MAX_BURST,
     MAX_BURST_OUTPUT, MAX_FRAME, MAX_JOURNAL_RECORD, MAX_PAYLOAD, MAX_SENDERS, MAX_SHRUNK_JOURNAL,
 };
@@ -36,6 +36,7 @@ fn allocations() -> u64 {
 /// Every operation once, with the longest lists.
 fn everything() -> Result<(), Refusal> {
     let key: Key = "C0C1C2C3C4C5C6C7C8C9CACBCCCDCECF".parse().map_err(|_| Refusal::INTERNAL)?;
+    let network = Network::new(key).with_level("6".parse()?);
     let probe: Eui64 = "00:12:4B:00:1C:A1:B2:C3".parse().map_err(|_| Refusal::INTERNAL)?;
     let route = NwkSourceRoute { relay_index: 0, relays: [Nwk(3); 9][..].try_into().unwrap_or_default() };
     let mut header = NwkHeader::new(NwkFrameType::Command, Nwk(1), Nwk(2)).with_source_route(route).secured();
@@ -45,27 +46,27 @@ fn everything() -> Result<(), Refusal> {
     let length = NwkCommand::RouteRecord { relays }.write(&mut record)?;
     let auxiliary = NwkAuxHeader::new(1, probe);
     assert_eq!(header.disagreement_in_sealing(Some(&auxiliary)), None);
-    let n = seal(&key, &header, Some(&auxiliary), &record[..length], &mut frame)?;
-    let opened = open(&key, &frame[..n], &mut out)?.sealed().ok_or(Refusal::INTERNAL)?;
+    let n = seal(&network, &header, Some(&auxiliary), &record[..length], &mut frame)?;
+    let opened = open(&network, &frame[..n], &mut out)?.sealed().ok_or(Refusal::INTERNAL)?;
     opened.header.frame_control.frame_type.payload()?;
     NwkCommand::read(opened.payload)?;
-    inbound(&key, &opened)?;
+    inbound(&network.key, &opened)?;
     journal()?;
     read(&frame[..n])?;
-    burst(&key, &frame[..n])?;
+    burst(&network, &frame[..n])?;
     header.frame_control.security = false;
     let n = write(&header, &record[..length], &mut frame)?;
-    let clear = open(&key, &frame[..n], &mut [])?.clear().ok_or(Refusal::INTERNAL)?;
+    let clear = open(&network, &frame[..n], &mut [])?.clear().ok_or(Refusal::INTERNAL)?;
     NwkCommand::read(clear.payload)?;
     NwkHeader::read(&frame[..n])?.0.write(&mut frame)?;
     NwkAuxHeader::read(&[0x28; 14])?.0.write(&mut frame)?;
-    let (n, mic) = encrypt_ccm(&key, &[0; 13], b"auth", b"payload", &mut out)?;
-    decrypt_ccm(&key, &[0; 13], b"auth", &out[..n], &mic, &mut frame)?;
-    let _ = encrypt_block(&key, &[0; 16]);
-    split_mic(&[0; 5])?;
+    let (n, mic) = encrypt_ccm(&network, &[0; 13], b"auth", b"payload", &mut out)?;
+    decrypt_ccm(&network, &[0; 13], b"auth", &out[..n], &mic, &mut frame)?;
+    let _ = encrypt_block(&network.key, &[0; 16]);
+    split_mic(network.level, &[0; 8])?;
     timeout_seconds(14)?;
     hex("08 00", &mut out).map_err(|_| Refusal::INTERNAL)?;
-    assert_eq!(open(&key, &[0; 3], &mut out).map(|_| ()), Err(Refusal::SHORT_HEADER));
+    assert_eq!(open(&network, &[0; 3], &mut out).map(|_| ()), Err(Refusal::SHORT_HEADER));
     Ok(())
 }
 
@@ -106,13 +107,13 @@ fn journal() -> Result<(), Refusal> {
 }
 
 /// A frame as often as a burst has places.
-fn burst(key: &Key, frame: &[u8]) -> Result<(), Refusal> {
+fn burst(network: &Network, frame: &[u8]) -> Result<(), Refusal> {
     let mut frames = [0; MAX_BURST * MAX_FRAME];
     let end = MAX_BURST * frame.len();
     frames[..end].chunks_mut(frame.len()).for_each(|place| place.copy_from_slice(frame));
     let lengths = [frame.len() as u16; MAX_BURST];
     let (mut answers, mut out) = ([OpenedRecord::new(); MAX_BURST], [0; MAX_BURST_OUTPUT]);
-    let opened = open_burst(key, &frames[..end], &lengths, &mut answers, &mut out)?;
+    let opened = open_burst(network, &frames[..end], &lengths, &mut answers, &mut out)?;
     assert_eq!(opened.len(), MAX_BURST);
     for answer in opened {
         NwkCommand::read(answer?.sealed().ok_or(Refusal::INTERNAL)?.payload)?;

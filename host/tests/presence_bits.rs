@@ -1,7 +1,7 @@
 //! Presence bits in the safe types (document 02, request 8): builders that set them, and which bit 28 is about.
 use store_reader::{
-    open, seal, write, Eui64, Key, Nwk, NwkAuxHeader, NwkFrameType, NwkHeader, NwkSourceRoute, PresenceBit, Refusal,
-    MAX_FRAME, MAX_PAYLOAD,
+    open, seal, write, Eui64, Key, Network, Nwk, NwkAuxHeader, NwkFrameType, NwkHeader, NwkSourceRoute, PresenceBit,
+    Refusal, MAX_FRAME, MAX_PAYLOAD,
 };
 
 const PROBE: Eui64 = Eui64([1, 2, 3, 4, 5, 6, 7, 8]);
@@ -41,7 +41,7 @@ fn with_bits(mut header: NwkHeader, bits: u8) -> NwkHeader {
 }
 
 fn sealed(header: &NwkHeader, auxiliary: Option<&NwkAuxHeader>, frame: &mut [u8]) -> Result<usize, Refusal> {
-    seal(&Key::new([7; 16]), header, auxiliary, PAYLOAD, frame)
+    seal(&Network::new(Key::new([7; 16])), header, auxiliary, PAYLOAD, frame)
 }
 
 /// As a new user meets it: a header with an address, and an auxiliary header, the bits left as they were.
@@ -66,7 +66,8 @@ fn a_header_filled_in_by_hand() {
 
     let n = sealed(&header, Some(&auxiliary), &mut frame).expect("a sealed frame");
     let mut out = [0; MAX_PAYLOAD];
-    let opened = open(&Key::new([7; 16]), &frame[..n], &mut out).expect("a frame").sealed().expect("a sealed one");
+    let opened =
+        open(&Network::new(Key::new([7; 16])), &frame[..n], &mut out).expect("a frame").sealed().expect("a sealed one");
     assert_eq!((opened.header, opened.auxiliary, opened.payload), (header, auxiliary, PAYLOAD));
 }
 

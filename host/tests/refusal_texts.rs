@@ -155,7 +155,7 @@ fn names_are_found_by_number_and_match_in_patterns() {
         assert_eq!(Some(refusal.number()), numbers.next());
         assert_eq!(Refusal::from_number(refusal.number()), Some(refusal));
     }
-    assert_eq!((Refusal::from_number(0), Refusal::from_number(29), Refusal::from_number(255)), (None, None, None));
+    assert_eq!((Refusal::from_number(0), Refusal::from_number(30), Refusal::from_number(255)), (None, None, None));
     const NUMBER: u8 = Refusal::NO_AUXILIARY.number();
     assert_eq!(NUMBER, 14);
     assert!(matches!(Refusal::from_number(19), Some(Refusal::WRONG_MIC)));
@@ -168,6 +168,7 @@ fn names_are_found_by_number_and_match_in_patterns() {
     assert!(matches!(Refusal::from_number(26), Some(Refusal::COUNTERS_USED_UP)));
     assert!(matches!(Refusal::from_number(27), Some(Refusal::NO_CEILING)));
     assert!(matches!(Refusal::from_number(28), Some(Refusal::PRESENCE_BITS)));
+    assert!(matches!(Refusal::from_number(29), Some(Refusal::LEVEL)));
     assert_eq!(format!("{:?}", Refusal::WRONG_MIC), "WRONG_MIC(19)");
 }
 

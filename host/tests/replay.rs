@@ -4,7 +4,7 @@
 mod support;
 
 use std::fs;
-use store_reader::{seal, Eui64, Key, Nwk, NwkAuxHeader, NwkFrameType, NwkHeader, MAX_FRAME};
+use store_reader::{seal, Eui64, Network, Nwk, NwkAuxHeader, NwkFrameType, NwkHeader, MAX_FRAME};
 use support::command::{root, run, Ran, KEY};
 use support::hex::hex;
 
@@ -41,9 +41,9 @@ impl Frame {
     }
 
     fn sealed(self, header: NwkHeader, auxiliary: NwkAuxHeader) -> String {
-        let key: Key = KEY.parse().expect("a key");
+        let network = Network::new(KEY.parse().expect("a key"));
         let mut frame = [0; MAX_FRAME];
-        let n = seal(&key, &header, Some(&auxiliary), &[self.counter as u8], &mut frame).expect("a sealed frame");
+        let n = seal(&network, &header, Some(&auxiliary), &[self.counter as u8], &mut frame).expect("a sealed frame");
         hex(&frame[..n]) + "\n"
     }
 }
@@ -126,7 +126,7 @@ fn the_sample_twice() {
      2 refused by 3: the frame type is 2
      2 refused by 10: an auxiliary header with extended nonce has 6 to 12 bytes
      4 refused by 19: the MIC is not the one computed
-         4 with a right frame check sequence: under another key, or altered
+         4 with a right frame check sequence: under another key or level, or altered
      9 {BY_23}
 "
     );

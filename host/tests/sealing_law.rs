@@ -1,5 +1,6 @@
 //! The sealing law of document 01, both halves, on generated data through the C boundary. It speaks of sealed frames only, and has no
-//! premise on the security bit or the presence bits, "since sealing ensures them" (document 02, requests 3 and 8).
+//! premise on the security bit or the presence bits, "since sealing ensures them" (document 02, requests 3 and 8). One level is taken
+//! "for both calls" (request 9).
 #[allow(dead_code)]
 mod support;
 
@@ -8,6 +9,7 @@ use support::generate::headers::{any_auxiliary_record, any_header_record};
 use support::generate::sealed::{clear_frame, secured_frame};
 use support::model::auxiliary::{self, record as auxiliary_record};
 use support::model::header::{self, Header};
+use support::model::level::{Level, LEVELS};
 use support::model::{frame, LAST_COUNTER, MAX_FRAME, MAX_PAYLOAD};
 use support::operations::{
     Operation, AUXILIARY_COUNTER, HEADER_RECORD, MARK_CLEAR, MARK_SEALED, OPENED_HEADER, OPENED_MARK,
@@ -29,13 +31,13 @@ fn made(call: &Call) -> Outcome {
     outcome
 }
 
-fn seal(key: [u8; 16], header: &[u8], auxiliary: &[u8], payload: &[u8]) -> Outcome {
+fn seal(level: Level, key: [u8; 16], header: &[u8], auxiliary: &[u8], payload: &[u8]) -> Outcome {
     let inputs = vec![header.to_vec(), auxiliary.to_vec(), payload.to_vec()];
-    made(&Call { operation: Operation::Seal, key, inputs, rooms: vec![MAX_FRAME] })
+    made(&Call::new(Operation::Seal, key, inputs, vec![MAX_FRAME]).at(level.number))
 }
 
-fn open(key: [u8; 16], bytes: &[u8], room: usize) -> Outcome {
-    made(&Call::open(key, bytes, room))
+fn open(level: Level, key: [u8; 16], bytes: &[u8], room: usize) -> Outcome {
+    made(&Call::open(key, bytes, room).at(level.number))
 }
 
 /// The mark of an opened record; none beside a refusal.
@@ -54,7 +56,8 @@ fn records(opened: &Outcome) -> (&[u8], &[u8]) {
 fn sealed_frames_open_to_what_was_sealed() {
     let mut random = Random::new(SEED);
     let (mut accepted, mut disagreed) = (0, 0);
-    for _ in 0..ROUNDS {
+    for round in 0..ROUNDS {
+        let level = LEVELS[round % 3];
         let (key, handed) = (random.array(), any_header_record(92, &mut random));
         let handed_auxiliary = any_auxiliary_record(&mut random);
         let n = random.below(90);
@@ -62,7 +65,7 @@ fn sealed_frames_open_to_what_was_sealed() {
         let header = Header::of_record(&handed).expect("a header's record");
         let auxiliary = auxiliary::of_record(&handed_auxiliary).expect("an auxiliary header's record");
 
-        let sealed = seal(key, &handed, &handed_auxiliary, &payload);
+        let sealed = seal(level, key, &handed, &handed_auxiliary, &payload);
         if sealed.refusal() != 0 {
             assert!([28, 14, 15, 21, 17].contains(&sealed.refusal()));
             let last = auxiliary.is_some_and(|auxiliary| auxiliary.counter == LAST_COUNTER);
@@ -72,7 +75,7 @@ fn sealed_frames_open_to_what_was_sealed() {
         }
         let auxiliary = auxiliary.expect("an auxiliary header");
         assert!(header.agrees() && header.bits[header::SECURITY] && auxiliary.agrees(), "{handed:02X?}");
-        let opened = open(key, &sealed.outputs[0][..sealed.length()], n + random.below(3));
+        let opened = open(level, key, &sealed.outputs[0][..sealed.length()], n + random.below(3));
         assert_eq!((mark(&opened), opened.clear(), opened.length()), (Some(MARK_SEALED), false, n));
         let (header_record, auxiliary_given) = records(&opened);
         assert_eq!(header_record, header.record());
@@ -92,16 +95,16 @@ fn opened_frames_seal_to_their_bytes() {
     let mut random = Random::new(SEED + 1);
     let (mut plain, mut other, mut last) = (0, 0, 0);
     for round in 0..ROUNDS {
-        let key = random.array();
+        let (level, key) = (LEVELS[round % 3], random.array());
         let wanted = (round % 2 == 0).then_some(round / 2 % (MAX_FRAME + 1));
-        let bytes = secured_frame(&key, wanted, &mut random);
-        let opened = open(key, &bytes, MAX_PAYLOAD);
+        let bytes = secured_frame(level, &key, wanted, &mut random);
+        let opened = open(level, key, &bytes, MAX_PAYLOAD);
         if opened.refusal() != 0 {
             continue;
         }
         assert_eq!(mark(&opened), Some(MARK_SEALED));
         let (header, auxiliary) = records(&opened);
-        let sealed = seal(key, header, auxiliary, &opened.outputs[1][..opened.length()]);
+        let sealed = seal(level, key, header, auxiliary, &opened.outputs[1][..opened.length()]);
         if auxiliary[AUXILIARY_COUNTER] == LAST_COUNTER {
             assert_eq!(sealed.answer, 21 << 32);
             last += 1;
@@ -127,8 +130,8 @@ fn opened_clear_frames_are_not_sealed_again() {
     let mut random = Random::new(SEED + 3);
     let mut clear = 0;
     for _ in 0..ROUNDS / 10 {
-        let key = random.array();
-        let call = Call::open(key, &clear_frame(false, &mut random), MAX_PAYLOAD);
+        let (level, key) = (random.pick(&LEVELS), random.array());
+        let call = Call::open(key, &clear_frame(false, &mut random), MAX_PAYLOAD).at(level.number);
         let opened = made(&call);
         if opened.refusal() != 0 {
             assert!([1, 12].contains(&opened.refusal()));
@@ -136,10 +139,10 @@ fn opened_clear_frames_are_not_sealed_again() {
         }
         assert_eq!(mark(&opened), Some(MARK_CLEAR));
         let (header, auxiliary) = records(&opened);
-        assert_eq!(seal(key, header, auxiliary, opened.payload(&call)).answer, 28 << 32);
+        assert_eq!(seal(level, key, header, auxiliary, opened.payload(&call)).answer, 28 << 32);
         let mut secured = header.to_vec();
         secured[SECURITY_BYTE] = 1;
-        assert_eq!(seal(key, &secured, auxiliary, opened.payload(&call)).answer, 14 << 32);
+        assert_eq!(seal(level, key, &secured, auxiliary, opened.payload(&call)).answer, 14 << 32);
         clear += 1;
     }
     println!("{clear} clear frames opened");
@@ -164,24 +167,28 @@ fn with_plain_control(bytes: &[u8]) -> Vec<u8> {
 fn no_other_bit_may_be_flipped() {
     let mut random = Random::new(SEED + 2);
     let mut frames = 0;
-    while frames < 20 {
-        let key = random.array();
-        let bytes = secured_frame(&key, None, &mut random);
-        if open(key, &bytes, MAX_PAYLOAD).refusal() != 0 {
+    for _ in 0..ROUNDS {
+        if frames == 30 {
+            break;
+        }
+        let (level, key) = (LEVELS[frames % 3], random.array());
+        let bytes = secured_frame(level, &key, None, &mut random);
+        if open(level, key, &bytes, MAX_PAYLOAD).refusal() != 0 {
             continue;
         }
         frames += 1;
-        assert_eq!(open(random.array(), &bytes, MAX_PAYLOAD).refusal(), 19);
+        assert_eq!(open(level, random.array(), &bytes, MAX_PAYLOAD).refusal(), 19);
         let control = control_place(&bytes);
         for bit in 0..8 * bytes.len() {
             let mut flipped = bytes.clone();
             flipped[bit / 8] ^= 1 << (bit % 8);
             let free = bit / 8 == control && UNAUTHENTICATED >> (bit % 8) & 1 == 1;
-            let call = Call::open(key, &flipped, MAX_PAYLOAD);
+            let call = Call::open(key, &flipped, MAX_PAYLOAD).at(level.number);
             let opened = made(&call);
             assert_eq!(mark(&opened) == Some(MARK_SEALED), free, "bit {bit} of {bytes:02X?}");
             assert_eq!(mark(&opened) == Some(MARK_CLEAR), bit == SECURITY, "bit {bit} of {bytes:02X?}");
             assert!(bit != SECURITY || opened.payload(&call) == &bytes[control..], "{bytes:02X?}");
         }
     }
+    assert_eq!(frames, 30);
 }

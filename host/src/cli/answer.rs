@@ -187,7 +187,7 @@ pub fn opened(keys: &[NumberedKey], replays: Option<&mut Replays>, bytes: &[u8])
     match open_with(keys, bytes) {
         Err(refusal) => Answer::refused(bytes, refusal),
         Ok(Accepted::Sealed { header, auxiliary, nonce_ieee, payload, key }) => {
-            let taken = replays.map(|replays| replays.take(&keys[key - 1].key, nonce_ieee, &auxiliary));
+            let taken = replays.map(|replays| replays.take(&keys[key - 1].network.key, nonce_ieee, &auxiliary));
             if let Some(Err(refusal)) = taken {
                 return Answer::refused(bytes, refusal);
             }

@@ -5,7 +5,7 @@ use super::nearest::nearest;
 use super::period::By;
 use super::senders::Telling;
 use super::source::Reading;
-use store_reader::{Eui64, Nwk};
+use store_reader::{Eui64, Level, Nwk};
 
 /// How the answers are shown.
 #[derive(Debug, Clone, Copy, PartialEq)]
@@ -106,9 +106,10 @@ pub enum Parsed {
 const COMMANDS: [&str; 6] = ["open", "read", "seal", "command", "journal", "refusals"];
 
 /// The options: the commands that have them, whether they take a value, and whether they may be given more than once.
-const OPTIONS: [(&str, &[&str], bool, bool); 25] = [
+const OPTIONS: [(&str, &[&str], bool, bool); 26] = [
     ("--key", &["open", "seal"], true, true),
     ("--key-file", &["open", "seal"], true, true),
+    ("--level", &["open", "seal"], true, false),
     ("--full", &["open", "read", "command"], false, false),
     ("--json", &COMMANDS, false, false),
     ("--csv", &["open", "read", "command", "refusals"], false, false),
@@ -317,13 +318,14 @@ fn show(given: &Given) -> Result<Show, String> {
     }
 }
 
-/// The keys of `--key` and `--key-file`, in the order given.
+/// The keys of `--key` and `--key-file`, in the order given, at the level of `--level`.
 fn keys(given: &Given) -> Result<Vec<NumberedKey>, String> {
+    let level = given.value("--level").map_or(Ok(Level::default()), level)?;
     let mut keys = Vec::new();
     for (option, value) in &given.options {
         match *option {
-            "--key" => keys.push(NumberedKey::parse(value).map_err(|e| format!("--key: {e}"))?),
-            "--key-file" => keys.extend(keys::of_file(value)?),
+            "--key" => keys.push(NumberedKey::parse(value, level).map_err(|e| format!("--key: {e}"))?),
+            "--key-file" => keys.extend(keys::of_file(value, level)?),
             _ => {}
         }
     }
@@ -331,6 +333,10 @@ fn keys(given: &Given) -> Result<Vec<NumberedKey>, String> {
         true => Err("--key HEX or --key-file FILE is missing".to_string()),
         false => Ok(keys),
     }
+}
+
+fn level(text: &str) -> Result<Level, String> {
+    text.parse().map_err(|_| format!("--level: {text:?} is not 5, 6 or 7"))
 }
 
 fn opening(given: &Given) -> Result<Opening, String> {

@@ -7,12 +7,12 @@ use super::rows::{rates, shown, Layout, Row, Whose};
 use super::summary::Names;
 use store_reader::Refusal;
 
-/// The refusals that have a column: document 01's, since the command opens each frame alone, counters and presence bits are refused to
-/// writers only, and a journal is no frame; and those of opened frames where replays are refused. Those that opening into room enough
-/// never answers stay 0.
+/// The refusals that have a column: document 01's, since the command opens each frame alone and at a level, counters and presence bits
+/// are refused to writers only, and a journal is no frame; and those of opened frames where replays are refused. Those that opening
+/// into room enough never answers stay 0.
 fn refusals(names: Names) -> impl Iterator<Item = Refusal> {
     Refusal::all().filter(move |refusal| match *refusal {
-        Refusal::BURST | Refusal::LAST_COUNTER | Refusal::PRESENCE_BITS => false,
+        Refusal::BURST | Refusal::LAST_COUNTER | Refusal::PRESENCE_BITS | Refusal::LEVEL => false,
         Refusal::JOURNAL_KIND | Refusal::COUNTERS_USED_UP | Refusal::NO_CEILING => false,
         other => names.replay || !was_opened(other),
     })

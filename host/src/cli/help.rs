@@ -18,7 +18,7 @@ const JOURNAL: &str = include_str!("help/journal.txt");
 const REFUSALS: &str = include_str!("help/refusals.txt");
 
 /// Examples, each of the command that its first word behind `store-reader` names.
-const EXAMPLES: [(&str, &str); 13] = [
+const EXAMPLES: [(&str, &str); 14] = [
     ("open", "store-reader open --key-file samples/store.key samples/store.pcap"),
     ("open", "store-reader open --key-file samples/store.keys --by-sender --summary-only samples/store.pcap"),
     ("open", "store-reader open --key-file samples/store.keys --by day --by-sender --csv samples/store.pcap"),
@@ -32,6 +32,11 @@ const EXAMPLES: [(&str, &str); 13] = [
         "seal",
         "echo 08 00 00 00 34 12 1E 07 AA | store-reader seal --key C0C1C2C3C4C5C6C7C8C9CACBCCCDCECF \\\n      \
          --ieee 00:12:4B:00:1C:A1:B2:C3 --counter 74565",
+    ),
+    (
+        "seal",
+        "echo 08 00 00 00 34 12 1E 07 AA | store-reader seal --key-file samples/store.key --level 7 \\\n      \
+         --ieee 00:12:4B:00:1C:A1:B2:C3 --counter 74566",
     ),
     ("command", "echo 08 E1 34 12 B9 | store-reader command"),
     ("journal", "store-reader journal samples/store.journal"),

@@ -10,7 +10,7 @@ pub struct Refusals {
 }
 
 /// Frames refused by 19: a wrong frame check sequence says that they were damaged on air, a right one that they were sealed under
-/// another key or altered. The rest came without one.
+/// another key or level, or altered. The rest came without one.
 #[derive(Debug, Default, Clone, Copy, PartialEq)]
 pub struct WrongMic {
     pub wrong_fcs: u64,
@@ -72,7 +72,7 @@ impl WrongMic {
     pub fn parts(self) -> Vec<(&'static str, u64, &'static str)> {
         let parts = [
             ("wrong", self.wrong_fcs, "with a wrong frame check sequence: damaged on air"),
-            ("right", self.right_fcs, "with a right frame check sequence: under another key, or altered"),
+            ("right", self.right_fcs, "with a right frame check sequence: under another key or level, or altered"),
             ("no", self.without_fcs, "without a frame check sequence: either"),
         ];
         let is_checked = self.wrong_fcs + self.right_fcs > 0;

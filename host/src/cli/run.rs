@@ -6,6 +6,7 @@ use super::csv_table::csv_table;
 use super::frames;
 use super::interrupt;
 use super::journal::recovered;
+use super::keys::{other_level, NumberedKey};
 use super::progress::Progress;
 use super::protocol::is_inter_pan;
 use super::replay::Replays;
@@ -14,13 +15,13 @@ use super::seal::seal_each;
 use super::senders::{Senders, MOST_DEVICES, MOST_ROWS};
 use super::show::{complain, note_mac, note_offset, Printer};
 use super::source::{name, Content, Entry, Source};
-use super::summary::Summary;
+use super::summary::{Summary, UNOPENED};
 use super::text_table::table;
 use super::time::Time;
 use super::value::{write_json_line, Fields, Value};
 use std::fs;
 use std::io::{self, Write};
-use store_reader::Refusal;
+use store_reader::{Level, Refusal};
 
 /// Why a run ended early.
 pub enum Failure {
@@ -107,8 +108,11 @@ fn refusals(show: Show, out: &mut impl Write) -> Result<u8, Failure> {
 }
 
 /// A run over inputs and what it counts.
-struct Run {
+struct Run<'a> {
     summary: Summary,
+    /// The keys that frames are opened with, and the first sealed frame that none opened.
+    keys: &'a [NumberedKey],
+    unopened: Option<Vec<u8>>,
     senders: Option<Senders>,
     /// The inputs are frames, of which inter-PAN frames are not handed over: their NWK header is short.
     of_frames: bool,
@@ -123,9 +127,14 @@ struct Run {
     not_opened: bool,
 }
 
-impl Run {
-    fn new(arguments: &Arguments, summary: Summary, of_frames: bool) -> Self {
+impl<'a> Run<'a> {
+    fn new(arguments: &'a Arguments, summary: Summary, of_frames: bool) -> Self {
         Self {
+            keys: match &arguments.task {
+                Task::Open(opening) => &opening.keys,
+                _ => &[],
+            },
+            unopened: None,
             layout: Layout {
                 names: summary.names(),
                 by: arguments.telling.and_then(|telling| telling.by),
@@ -261,6 +270,9 @@ impl Run {
             Content::Frame(bytes) => {
                 let answer = operation(bytes);
                 self.summary.count(&answer, entry.fcs);
+                if self.unopened.is_none() && answer.refusal.is_some_and(|refusal| UNOPENED.contains(&refusal)) {
+                    self.unopened = Some(bytes.to_vec());
+                }
                 if let Some(senders) = &mut self.senders {
                     senders.note(&answer, entry);
                 }
@@ -277,8 +289,15 @@ impl Run {
         }
     }
 
+    /// Another level at which the first sealed frame opens, where none was opened.
+    fn opens_at(&self) -> Option<Level> {
+        let frame = self.unopened.as_ref().filter(|_| !self.summary.any_opened())?;
+        other_level(self.keys, frame)
+    }
+
     /// Prints the senders and the summary, and gives the exit status.
-    fn end<W: Write>(self, printer: &mut Printer<'_, W>) -> Result<u8, Failure> {
+    fn end<W: Write>(mut self, printer: &mut Printer<'_, W>) -> Result<u8, Failure> {
+        self.summary.opens_at = self.opens_at();
         let out = &mut printer.out;
         let status = match () {
             () if interrupt::is_interrupted() => interrupt::STATUS,
@@ -307,6 +326,7 @@ impl Run {
             (_, Some(rows)) => write!(out, "{}{}", table(rows, self.layout), self.summary)?,
             (_, None) => write!(out, "{}", self.summary)?,
         }
+        self.summary.wrong_level().iter().for_each(|why| complain(why));
         Ok(status)
     }
 }

@@ -82,7 +82,7 @@ fn seal_frame(bytes: &[u8], sealing: &Sealing, counter: u32) -> Result<Vec<u8>, 
     };
     auxiliary.key_sequence_number = sealing.key_sequence;
     let mut out = vec![0; MAX_FRAME];
-    let n = seal(&sealing.key.key, &frame.header.secured(), Some(&auxiliary), frame.rest, &mut out)?;
+    let n = seal(&sealing.key.network, &frame.header.secured(), Some(&auxiliary), frame.rest, &mut out)?;
     out.truncate(n);
     Ok(out)
 }

@@ -8,10 +8,13 @@ use super::source::Kind;
 use super::value::{Fields, Value};
 use std::collections::BTreeMap;
 use std::fmt;
-use store_reader::Refusal;
+use store_reader::{Level, Refusal};
 
 /// The version of what `--json` prints: it rises where a field goes or changes its meaning, and stays where one is added.
 const JSON_VERSION: u8 = 1;
+
+/// The refusals of a frame that another level may open.
+pub const UNOPENED: [Refusal; 2] = [Refusal::NO_MIC, Refusal::WRONG_MIC];
 
 /// By what names accepted inputs are counted.
 #[derive(Debug, Clone, Copy)]
@@ -50,6 +53,8 @@ pub struct Summary {
     pub broken: u64,
     /// The bytes of damaged captures that were not read.
     pub unread: u64,
+    /// The other level that opens the first sealed frame, where none was opened.
+    pub opens_at: Option<Level>,
     /// Replays are refused.
     replay: bool,
     /// What the inputs are called, what is done with them, and the same of those to come.
@@ -106,10 +111,16 @@ impl Summary {
         self.refused.all()
     }
 
-    /// How many frames were sealed and not opened, where none was. Clear frames say nothing of the keys.
+    /// Whether a frame was opened, also one that is then refused as a replay.
+    pub fn any_opened(&self) -> bool {
+        self.accepted > 0 || self.refused.iter().any(|(refusal, _)| was_opened(refusal))
+    }
+
+    /// How many frames were sealed and not opened, where none was. Clear frames say nothing of the keys, and at another level they
+    /// are right.
     fn keys_look_wrong(&self) -> Option<u64> {
-        let any_opened = self.accepted > 0 || self.refused.iter().any(|(refusal, _)| was_opened(refusal));
-        Some(self.refused.of(Refusal::WRONG_MIC)).filter(|frames| *frames > 0 && !any_opened)
+        let says = !self.any_opened() && self.opens_at.is_none();
+        Some(self.refused.of(Refusal::WRONG_MIC)).filter(|frames| *frames > 0 && says)
     }
 
     /// Whether most frames that a key opened have a wrong frame check sequence: then the sniffer has put something else there.
@@ -121,6 +132,13 @@ impl Summary {
     pub fn wrong_keys(&self) -> Option<String> {
         let frames = counted(self.keys_look_wrong()?, "sealed frame");
         Some(format!("no key opened any of {frames}: the keys look wrong"))
+    }
+
+    /// What is said where the level looks wrong.
+    pub fn wrong_level(&self) -> Option<String> {
+        let level = self.opens_at?;
+        let frames = counted(UNOPENED.map(|refusal| self.refused.of(refusal)).iter().sum(), "sealed frame");
+        Some(format!("no key opened any of {frames}, and the first of them opens at level {level}: look at --level"))
     }
 
     /// Of frames refused by 19, how many had which frame check sequence, where there are any.
@@ -166,6 +184,7 @@ impl Summary {
         if self.keys_look_wrong().is_some() {
             counts.push(("keys_look_wrong", Value::Flag(true)));
         }
+        counts.extend(self.opens_at.map(|level| ("opens_at_level", level.number().into())));
         vec![("summary", Value::Object(counts))]
     }
 

@@ -1,7 +1,7 @@
 //! What devices send and a sniffer hears: captures whose truth is known.
 use super::command::KEY;
 use super::random::Random;
-use store_reader::{seal, Eui64, Key, Nwk, NwkAuxHeader, NwkFrameType, NwkHeader, MAX_FRAME};
+use store_reader::{seal, Eui64, Network, Nwk, NwkAuxHeader, NwkFrameType, NwkHeader, MAX_FRAME};
 
 const PAN: u16 = 0x1A62;
 
@@ -130,12 +130,12 @@ pub struct Air {
     /// Seconds since 1970.
     pub now: u64,
     records: Vec<(u64, Vec<u8>)>,
-    key: Key,
+    network: Network,
 }
 
 impl Air {
     pub fn new(seed: u64, now: u64) -> Self {
-        Self { random: Random::new(seed), now, records: Vec::new(), key: KEY.parse().expect("a key") }
+        Self { random: Random::new(seed), now, records: Vec::new(), network: Network::new(KEY.parse().expect("a key")) }
     }
 
     /// A device sends a frame of its own.
@@ -171,7 +171,7 @@ impl Air {
         header.sequence_number = sequence;
         let auxiliary = NwkAuxHeader::new(counter, Eui64::from(sealer.address));
         let mut frame = [0; MAX_FRAME];
-        let n = seal(&self.key, &header, Some(&auxiliary), b"21.5 C", &mut frame).expect("a sealed frame");
+        let n = seal(&self.network, &header, Some(&auxiliary), b"21.5 C", &mut frame).expect("a sealed frame");
         let mut mac = mac(sealer.short, counter as u8, &frame[..n]);
         if fate == Fate::Damaged {
             // A bit of the payload or the MIC, and not of the frame check sequence.

@@ -5,8 +5,10 @@ use super::operations::{MARK_CLEAR, MARK_SEALED, MAX_BURST, OPENED_MARK, OPENED_
 use super::tally::NUMBERS;
 use std::collections::{BTreeMap, BTreeSet};
 
-/// What a frame of a burst can answer: 0, and each number of opening but 18, since a part has room for every payload.
+/// What a frame of a burst can answer at a level: 0, and each number of opening but 18, since a part has room for every payload. Where
+/// the level is none each frame answers 29.
 pub const OWN_ANSWERS: [usize; 16] = [0, 1, 2, 3, 4, 5, 6, 7, 8, 9, 10, 11, 12, 15, 16, 19];
+const NO_LEVEL: usize = 29;
 
 /// The ways to meet one condition of 20 and none of the others.
 pub const ALONE: [&str; 9] = [
@@ -83,7 +85,8 @@ impl BurstTally {
         }
         let before = self.clear_before_a_good_one;
         assert!(before >= at_least, "a good frame stood behind a clear one only {before} times");
-        let own: usize = OWN_ANSWERS.iter().map(|&number| self.own[number]).sum();
+        assert!(self.own[NO_LEVEL] >= at_least, "a frame answered 29 only {} times", self.own[NO_LEVEL]);
+        let own: usize = OWN_ANSWERS.iter().chain(&[NO_LEVEL]).map(|&number| self.own[number]).sum();
         assert_eq!(own, self.own.iter().sum::<usize>(), "a frame answered what no frame can");
     }
 

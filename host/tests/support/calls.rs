@@ -1,7 +1,7 @@
 //! One call through the C boundary, made between guard bytes, and what must hold after every call.
 use super::guarded::Guarded;
 use super::hex::hex;
-use super::operations::{Extent, Operation, MARK_CLEAR, MARK_SEALED, OPENED_MARK, OPENED_RECORD, PART};
+use super::operations::{Extent, Operation, MARK_CLEAR, MARK_SEALED, MIC_PLACES, OPENED_MARK, OPENED_RECORD, PART};
 use store_reader::sys;
 
 /// An operation with its inputs and the lengths of its lent outputs, in the order of its parameters. The lengths of a burst
@@ -9,11 +9,15 @@ use store_reader::sys;
 #[derive(Clone, Debug)]
 pub struct Call {
     pub operation: Operation,
+    /// The network's level, of the operations that take it.
+    pub level: u64,
     pub key: [u8; 16],
     pub inputs: Vec<Vec<u8>>,
     pub rooms: Vec<usize>,
 }
 
+/// The level of a call that does not choose one: the level that is compared with the Rust.
+pub const LEVEL: u64 = 5;
 /// The bit of opening's answer that marks a clear frame.
 pub const CLEAR_BIT: u32 = 40;
 /// The security bit in the second byte of a frame: bit 9 of frame control.
@@ -82,15 +86,25 @@ pub fn lengths_of(list: &[u8]) -> Vec<usize> {
 }
 
 impl Call {
+    /// A call at level 5, where it takes one.
+    pub fn new(operation: Operation, key: [u8; 16], inputs: Vec<Vec<u8>>, rooms: Vec<usize>) -> Self {
+        Self { operation, level: LEVEL, key, inputs, rooms }
+    }
+
     /// A burst that is lent so many answers and so many bytes of output.
     pub fn burst(key: [u8; 16], frames: &[u8], lengths: &[u16], answers: usize, room: usize) -> Self {
         let inputs = vec![frames.to_vec(), list_of(lengths)];
-        Self { operation: Operation::OpenBurst, key, inputs, rooms: vec![OPENED_RECORD * answers, room] }
+        Self::new(Operation::OpenBurst, key, inputs, vec![OPENED_RECORD * answers, room])
     }
 
     /// The opening of a frame that is lent a record and so many bytes of output.
     pub fn open(key: [u8; 16], frame: &[u8], room: usize) -> Self {
-        Self { operation: Operation::Open, key, inputs: vec![frame.to_vec()], rooms: vec![OPENED_RECORD, room] }
+        Self::new(Operation::Open, key, vec![frame.to_vec()], vec![OPENED_RECORD, room])
+    }
+
+    /// The same call at another level.
+    pub fn at(&self, level: impl Into<u64>) -> Self {
+        Self { level: level.into(), ..self.clone() }
     }
 
     /// The frames of a burst whose lengths add up.
@@ -108,7 +122,7 @@ impl Call {
     pub fn line(&self) -> String {
         let inputs: Vec<String> = self.inputs.iter().map(|input| hex(input)).collect();
         let name = self.operation.shape().name;
-        format!("{name} key {} inputs {} rooms {:?}", hex(&self.key), inputs.join(" "), self.rooms)
+        format!("{name} level {} key {} inputs {} rooms {:?}", self.level, hex(&self.key), inputs.join(" "), self.rooms)
     }
 }
 
@@ -202,7 +216,7 @@ fn check_arrays(call: &Call) {
     }
     let sizes = match call.operation {
         Operation::EncryptCcm => vec![(0, 13)],
-        Operation::DecryptCcm => vec![(0, 13), (3, 4)],
+        Operation::DecryptCcm => vec![(0, 13), (3, MIC_PLACES)],
         Operation::EncryptBlock => vec![(0, 16)],
         _ => Vec::new(),
     };
@@ -213,7 +227,7 @@ fn check_arrays(call: &Call) {
 
 fn through_c(call: &Call, inputs: &[Guarded], outputs: &mut [Guarded]) -> u64 {
     use Operation::*;
-    let (first, second) = key_numbers(&call.key);
+    let (level, (first, second)) = (call.level, key_numbers(&call.key));
     let p = |i: usize| inputs[i].pointer();
     let n = |i: usize| inputs[i].len();
     let out: Vec<*mut u8> = outputs.iter_mut().map(Guarded::pointer_mut).collect();
@@ -229,9 +243,10 @@ fn through_c(call: &Call, inputs: &[Guarded], outputs: &mut [Guarded]) -> u64 {
             WriteAuxiliary => sys::nwk_write_auxiliary(p(0), n(0), out[0], room(0)),
             ReadFrame => sys::nwk_read_frame(p(0), n(0), out[0], room(0), out[1], room(1)),
             WriteFrame => sys::nwk_write_frame(p(0), n(0), p(1), n(1), out[0], room(0)),
-            Seal => sys::nwk_seal(first, second, p(0), n(0), p(1), n(1), p(2), n(2), out[0], room(0)),
-            Open => sys::nwk_open(first, second, p(0), n(0), out[0], room(0), out[1], room(1)),
+            Seal => sys::nwk_seal(level, first, second, p(0), n(0), p(1), n(1), p(2), n(2), out[0], room(0)),
+            Open => sys::nwk_open(level, first, second, p(0), n(0), out[0], room(0), out[1], room(1)),
             OpenBurst => sys::nwk_open_burst(
+                level,
                 first,
                 second,
                 p(0),
@@ -248,15 +263,17 @@ fn through_c(call: &Call, inputs: &[Guarded], outputs: &mut [Guarded]) -> u64 {
             WriteCommand => sys::nwk_write_command(p(0), n(0), out[0], room(0)),
             TimeoutSeconds => sys::nwk_timeout_seconds(inputs[0].content()[0]),
             EncryptCcm => {
-                sys::nwk_encrypt_ccm(first, second, p(0).cast(), p(1), n(1), p(2), n(2), out[0], room(0), out[1].cast())
+                let (nonce, mic) = (p(0).cast(), out[1].cast());
+                sys::nwk_encrypt_ccm(level, first, second, nonce, p(1), n(1), p(2), n(2), out[0], room(0), mic)
             }
             DecryptCcm => {
-                sys::nwk_decrypt_ccm(first, second, p(0).cast(), p(1), n(1), p(2), n(2), p(3).cast(), out[0], room(0))
+                let (nonce, mic) = (p(0).cast(), p(3).cast());
+                sys::nwk_decrypt_ccm(level, first, second, nonce, p(1), n(1), p(2), n(2), mic, out[0], room(0))
             }
             SplitMic => {
                 // A number has a place of its own; its bytes are compared as those of the other outputs are.
                 let mut front = out[1].cast::<u64>().read_unaligned();
-                let answer = sys::nwk_split_mic(p(0), n(0), out[0].cast(), &mut front);
+                let answer = sys::nwk_split_mic(level, p(0), n(0), out[0].cast(), &mut front);
                 out[1].cast::<u64>().write_unaligned(front);
                 answer
             }

@@ -75,14 +75,14 @@ impl ClearTally {
             count_one(&mut self.marks[1], usize::from(record[OPENED_MARK]));
             if record[OPENED_MARK] == MARK_CLEAR {
                 count_one(&mut self.in_bursts, length_of(record));
-                let turned_off = turned_off(&call.key, frame);
+                let turned_off = turned_off(call, frame);
                 self.count_name(turned_off.then_some("a sealed frame with its security bit off, in a burst"));
             }
         }
     }
 
     fn count_names(&mut self, call: &Call, outcome: &Outcome) {
-        let turned_off = outcome.clear() && turned_off(&call.key, &call.inputs[0]);
+        let turned_off = outcome.clear() && turned_off(call, &call.inputs[0]);
         self.count_name(turned_off.then_some("a sealed frame with its security bit off"));
         self.count_name(too_long(call, outcome));
         self.count_name(record(call, outcome));
@@ -159,8 +159,8 @@ fn output(call: &Call, outcome: &Outcome) -> Option<&'static str> {
 }
 
 /// Whether a clear frame opens as a sealed one with its security bit on: all behind its header, MIC and all, is its payload.
-fn turned_off(key: &[u8; 16], frame: &[u8]) -> bool {
+fn turned_off(call: &Call, frame: &[u8]) -> bool {
     let mut sealed = frame.to_vec();
     sealed[1] |= SECURITY_BIT;
-    opening::open(key, &sealed, &[OPENED_RECORD, MAX_PAYLOAD]).is_ok()
+    opening::open(call.level, &call.key, &sealed, &[OPENED_RECORD, MAX_PAYLOAD]).is_ok()
 }

@@ -36,8 +36,6 @@ pub struct Nettle {
 #[repr(align(64))]
 struct Context([u8; 1024]);
 
-const MIC: usize = 4;
-
 impl Nettle {
     /// The library, none where it is not installed.
     pub fn load() -> Option<Nettle> {
@@ -73,10 +71,10 @@ impl Nettle {
         out
     }
 
-    /// Ciphertext, then the MIC.
-    pub fn ccm_encrypt(&self, key: &[u8; 16], nonce: &[u8], auth: &[u8], payload: &[u8]) -> Vec<u8> {
+    /// Ciphertext, then a MIC of t bytes.
+    pub fn ccm_encrypt(&self, t: usize, key: &[u8; 16], nonce: &[u8], auth: &[u8], payload: &[u8]) -> Vec<u8> {
         let context = self.keyed(key);
-        let mut out = vec![0; payload.len() + MIC];
+        let mut out = vec![0; payload.len() + t];
         // SAFETY: every pointer has the length beside it; `out` takes payload and MIC.
         unsafe {
             (self.ccm_encrypt)(
@@ -86,7 +84,7 @@ impl Nettle {
                 nonce.as_ptr(),
                 auth.len(),
                 auth.as_ptr(),
-                MIC,
+                t,
                 out.len(),
                 out.as_mut_ptr(),
                 payload.as_ptr(),
@@ -95,10 +93,10 @@ impl Nettle {
         out
     }
 
-    /// The payload of ciphertext and MIC, none where the MIC is not the one computed.
-    pub fn ccm_decrypt(&self, key: &[u8; 16], nonce: &[u8], auth: &[u8], sealed: &[u8]) -> Option<Vec<u8>> {
+    /// The payload of ciphertext and a MIC of t bytes, none where the MIC is not the one computed.
+    pub fn ccm_decrypt(&self, t: usize, key: &[u8; 16], nonce: &[u8], auth: &[u8], sealed: &[u8]) -> Option<Vec<u8>> {
         let context = self.keyed(key);
-        let mut out = vec![0; sealed.len() - MIC];
+        let mut out = vec![0; sealed.len() - t];
         // SAFETY: every pointer has the length beside it; `out` takes the payload.
         let accepted = unsafe {
             (self.ccm_decrypt)(
@@ -108,7 +106,7 @@ impl Nettle {
                 nonce.as_ptr(),
                 auth.len(),
                 auth.as_ptr(),
-                MIC,
+                t,
                 out.len(),
                 out.as_mut_ptr(),
                 sealed.as_ptr(),

@@ -19,7 +19,8 @@ pub const COMMAND_RECORD: usize = 535;
 /// The most frames of a burst, and each frame's part of the output.
 pub const MAX_BURST: usize = 16;
 pub const PART: usize = 108;
-pub const MIC: usize = 4;
+/// The places of a MIC that is handed to or given by CCM and the splitter alone.
+pub const MIC_PLACES: usize = 16;
 pub const BLOCK: usize = 16;
 /// A number of eight bytes that a call leaves.
 pub const NUMBER: usize = 8;
@@ -105,6 +106,9 @@ pub const OPERATIONS: [Operation; 17] = [
     EncryptBlock,
 ];
 
+/// Those that take the network's level.
+pub const LEVELLED: [Operation; 6] = [Seal, Open, OpenBurst, EncryptCcm, DecryptCcm, SplitMic];
+
 impl Operation {
     pub fn named(name: &str) -> Option<Operation> {
         OPERATIONS.into_iter().find(|operation| operation.shape().name == name)
@@ -112,6 +116,11 @@ impl Operation {
 
     pub fn shape(self) -> &'static Shape {
         &SHAPES[self as usize]
+    }
+
+    /// Whether it takes the network's level, before all else.
+    pub fn levelled(self) -> bool {
+        LEVELLED.contains(&self)
     }
 
     /// How many bytes a number of an input has: the lengths of a burst are numbers of 16 bits.
@@ -152,14 +161,14 @@ static SHAPES: [Shape; 17] = [
         true,
         &[("header", false), ("auxiliary", false), ("payload", true)],
         &[Length],
-        &[13, 28, 14, 15, 21, 17, 18],
+        &[29, 13, 28, 14, 15, 21, 17, 18],
     ),
     shape(
         "nwk_open",
         true,
         &[("bytes", true)],
         &[Fixed(OPENED_RECORD), Length],
-        &[1, 2, 3, 4, 5, 6, 7, 8, 9, 10, 11, 12, 15, 16, 18, 19],
+        &[29, 1, 2, 3, 4, 5, 6, 7, 8, 9, 10, 11, 12, 15, 16, 18, 19],
     ),
     shape(
         "nwk_open_burst",
@@ -176,16 +185,16 @@ static SHAPES: [Shape; 17] = [
         "nwk_encrypt_ccm",
         true,
         &[("nonce", false), ("auth", true), ("payload", true)],
-        &[Length, Array(MIC)],
-        &[1, 18],
+        &[Length, Array(MIC_PLACES)],
+        &[29, 1, 18],
     ),
     shape(
         "nwk_decrypt_ccm",
         true,
         &[("nonce", false), ("auth", true), ("ciphertext", true), ("mic", false)],
         &[Length],
-        &[1, 18, 19],
+        &[29, 1, 18, 19],
     ),
-    shape("nwk_split_mic", false, &[("bytes", true)], &[Array(MIC), Array(NUMBER)], &[16]),
+    shape("nwk_split_mic", false, &[("bytes", true)], &[Array(MIC_PLACES), Array(NUMBER)], &[29, 16]),
     shape("nwk_encrypt_block", true, &[("block", false)], &[Array(BLOCK)], &[]),
 ];

@@ -49,6 +49,8 @@ impl PresenceTally {
         };
         let mut one = |bit, met| *self.met.entry((call.operation.shape().name, bit, met)).or_default() += 1;
         match (&bits[..], outcome.refusal()) {
+            // A level that is none is refused before all else.
+            (_, 29) => {}
             ([], 0) => accepted(call).into_iter().for_each(|(bit, on)| one(bit, Met::Accepted(on))),
             ([(bit, on)], 0) => one(bit, Met::Accepted(*on)),
             ([(bit, on)], number) if call.operation != Operation::WriteAuxiliary => {

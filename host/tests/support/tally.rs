@@ -1,6 +1,6 @@
 //! What was called, so that a test cannot silently stop testing: calls by operation and refusal, kinds of content, input
 //! lengths, rooms. `burst_tally` has what is counted of bursts beside, `clear_tally` what of clear frames, `counter_tally` what of
-//! the last counter, `presence_tally` what of presence bits.
+//! the last counter, `presence_tally` what of presence bits, `level_tally` what of levels.
 use super::calls::{Call, Outcome};
 use super::operations::{Operation, HEADER_RECORD, MAX_BURST, OPENED_HEADER, OPERATIONS};
 use std::collections::BTreeMap;
@@ -8,7 +8,7 @@ use std::collections::BTreeMap;
 /// The longest input whose length is counted.
 pub const LONGEST: usize = 130;
 /// One more than the highest refusal number.
-pub const NUMBERS: usize = 29;
+pub const NUMBERS: usize = 30;
 /// Rooms are counted from 3 below what is exactly needed to 3 above.
 pub const AROUND: isize = 3;
 const ROOMS: usize = 2 * AROUND as usize + 1;

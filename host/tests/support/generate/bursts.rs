@@ -2,8 +2,9 @@
 use super::damage;
 use super::sealed::{clear_frame, frame, secured_frame};
 use crate::support::calls::{lengths_of, list_of, Call};
+use crate::support::model::level::Level;
 use crate::support::model::MAX_FRAME;
-use crate::support::operations::{MAX_BURST, MIC, OPENED_RECORD, PART};
+use crate::support::operations::{MAX_BURST, OPENED_RECORD, PART};
 use crate::support::random::Random;
 use crate::support::tally::LONGEST;
 
@@ -13,24 +14,24 @@ const HALF: u16 = 0x8000;
 const MANY: usize = 256;
 
 /// The frames end to end, and the list of their lengths: 0 to 17 of them.
-pub fn inputs(key: &[u8; 16], random: &mut Random) -> Vec<Vec<u8>> {
+pub fn inputs(level: Level, key: &[u8; 16], random: &mut Random) -> Vec<Vec<u8>> {
     let count = random.below(MAX_BURST + 2);
-    let frames: Vec<Vec<u8>> = (0..count).map(|_| one(key, random)).collect();
+    let frames: Vec<Vec<u8>> = (0..count).map(|_| one(level, key, random)).collect();
     let lengths: Vec<u16> = frames.iter().map(|frame| frame.len() as u16).collect();
     vec![frames.concat(), list_of(&lengths)]
 }
 
 /// A frame: good ones, sealed or clear, and all that is handed to opening alone.
-fn one(key: &[u8; 16], random: &mut Random) -> Vec<u8> {
+fn one(level: Level, key: &[u8; 16], random: &mut Random) -> Vec<u8> {
     match random.below(20) {
         0 => Vec::new(),
         1 => too_long(random),
-        2 | 3 => damaged(key, random),
-        4..=11 => secured_frame(key, None, random),
+        2 | 3 => damaged(level, key, random),
+        4..=11 => secured_frame(level, key, None, random),
         12..=14 => clear_frame(false, random),
         _ => {
             let wanted = random.bit().then(|| random.below(LONGEST + 1));
-            let mut bytes = frame(key, wanted, random);
+            let mut bytes = frame(level, key, wanted, random);
             damage::frame(&mut bytes, random);
             bytes
         }
@@ -44,9 +45,9 @@ fn too_long(random: &mut Random) -> Vec<u8> {
 }
 
 /// A sealed frame with one bit of its MIC flipped.
-fn damaged(key: &[u8; 16], random: &mut Random) -> Vec<u8> {
-    let mut bytes = secured_frame(key, None, random);
-    let mic = bytes.len() - MIC;
+fn damaged(level: Level, key: &[u8; 16], random: &mut Random) -> Vec<u8> {
+    let mut bytes = secured_frame(level, key, None, random);
+    let mic = bytes.len() - level.mic;
     damage::flip(&mut bytes[mic..], random);
     bytes
 }

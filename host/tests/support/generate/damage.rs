@@ -1,6 +1,7 @@
 //! Damage to a call's inputs: bits flipped, bytes cut, records of wrong length or with bytes out of range.
-use super::{bursts, LONG};
+use super::{bursts, LONG, NO_LEVELS};
 use crate::support::calls::{Call, SECURITY_BIT};
+use crate::support::model::level::LEVELS;
 use crate::support::operations::Operation;
 use crate::support::random::Random;
 
@@ -36,6 +37,15 @@ pub fn call(call: &mut Call, random: &mut Random) {
         }
         OpenBurst => bursts::misfit(call, random),
         PayloadKind | TimeoutSeconds | EncryptCcm | SplitMic | EncryptBlock => {}
+    }
+}
+
+/// A level that is none in some of the calls that take one, and in some any of the three, whatever the inputs were sealed at.
+pub fn level(call: &mut Call, random: &mut Random) {
+    match random.below(20) {
+        0 | 1 if call.operation.levelled() => call.level = random.pick(&NO_LEVELS),
+        2 if call.operation.levelled() => call.level = random.pick(&LEVELS).number.into(),
+        _ => {}
     }
 }
 

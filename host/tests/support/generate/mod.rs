@@ -8,6 +8,7 @@ pub mod sealed;
 pub mod senders;
 
 use super::calls::Call;
+use super::model::level::{FIVE, LEVELS};
 use super::model::{self, opening};
 use super::operations::{Extent, Operation, BLOCK};
 use super::random::Random;
@@ -25,6 +26,8 @@ const ROOMY: usize = 1000;
 const ANY_ROOM: usize = 30;
 /// The longest output that is lent beside a clear frame, which has no need of one.
 pub const LONGEST_UNNEEDED: usize = 120;
+/// Numbers that are no level of a network: the other security levels, and larger numbers, some with the lowest bits of a level.
+pub const NO_LEVELS: [u64; 10] = [0, 1, 2, 3, 4, 8, 255, 0x105, 0x1_0000_0005, u64::MAX];
 /// Lengths whose lowest bits are all 0: a length cut to 8 or 16 bits would be short.
 pub const LONG: [usize; 3] = [256, 512, 65_536];
 
@@ -35,6 +38,7 @@ pub fn call(operation: Operation, number: usize, random: &mut Random) -> Generat
     let mut call = undamaged(operation, wanted, random);
     let before = needed(&call).unwrap_or_else(|| fallback(operation));
     damage::call(&mut call, random);
+    damage::level(&mut call, random);
     let exact = needed(&call).unwrap_or(before);
     call.rooms = rooms(operation, &exact, random);
     if operation == Operation::Open && opening::clear_payload(&call.inputs[0]).is_some() {
@@ -46,27 +50,36 @@ pub fn call(operation: Operation, number: usize, random: &mut Random) -> Generat
 fn undamaged(operation: Operation, wanted: Option<usize>, random: &mut Random) -> Call {
     use Operation::*;
     let key = random.array();
+    let level = if operation.levelled() { random.pick(&LEVELS) } else { FIVE };
     let inputs = match operation {
         ReadHeader => vec![headers::header_bytes(wanted, random)],
         WriteHeader => vec![headers::any_header_record(50, random)],
         ReadAuxiliary => vec![headers::auxiliary_bytes(wanted, random)],
         WriteAuxiliary => vec![headers::any_auxiliary_record(random)],
-        ReadFrame | Open => vec![sealed::frame(&key, wanted, random)],
+        ReadFrame | Open => vec![sealed::frame(level, &key, wanted, random)],
         WriteFrame => vec![headers::any_header_record(50, random), payload(wanted, random)],
         Seal => {
             vec![headers::any_header_record(92, random), headers::any_auxiliary_record(random), payload(wanted, random)]
         }
-        OpenBurst => bursts::inputs(&key, random),
+        OpenBurst => bursts::inputs(level, &key, random),
         PayloadKind => vec![code(5, random)],
         ReadCommand => vec![commands::bytes(wanted, random)],
         WriteCommand => vec![commands::record(random)],
         TimeoutSeconds => vec![code(16, random)],
         EncryptCcm => sealed::ccm_inputs(wanted, random),
-        DecryptCcm => sealed::ccm_sealed_inputs(&key, wanted, random),
+        DecryptCcm => sealed::ccm_sealed_inputs(level, &key, wanted, random),
         SplitMic => vec![payload(wanted, random)],
         EncryptBlock => vec![random.bytes(BLOCK)],
     };
-    Call { operation, key, inputs, rooms: Vec::new() }
+    Call::new(operation, key, inputs, Vec::new()).at(level.number)
+}
+
+/// A level of a network, or a number that is none.
+pub fn any_level(random: &mut Random) -> u64 {
+    match random.below(8) {
+        0 => random.pick(&NO_LEVELS),
+        _ => u64::from(random.pick(&LEVELS).number),
+    }
 }
 
 /// A code below the bound, or any byte.

@@ -1,19 +1,21 @@
-//! Generated frames, most of them sealed under the call's key and others clear, and inputs of CCM alone.
+//! Generated frames, most of them sealed under the call's key and level and others clear, and inputs of CCM alone.
 use super::headers;
+use crate::support::model::level::Level;
 use crate::support::model::{ccm, frame, MAX_FRAME, MAX_PAYLOAD};
+use crate::support::operations::MIC_PLACES;
 use crate::support::random::Random;
 use crate::support::tally::LONGEST;
 
 const NONCE: usize = 13;
 
 /// A frame's bytes, brought to the length wanted. Most are secured and carry the right MIC.
-pub fn frame(key: &[u8; 16], wanted: Option<usize>, random: &mut Random) -> Vec<u8> {
+pub fn frame(level: Level, key: &[u8; 16], wanted: Option<usize>, random: &mut Random) -> Vec<u8> {
     let near_longest = wanted.unwrap_or(0) > MAX_FRAME - 4;
     if random.percent(if near_longest { 40 } else { 25 }) {
         let bytes = clear_frame(near_longest, random);
         return headers::sized(bytes, wanted, random);
     }
-    let bytes = secured_frame(key, wanted, random);
+    let bytes = secured_frame(level, key, wanted, random);
     headers::sized(bytes, wanted, random)
 }
 
@@ -31,17 +33,17 @@ pub fn clear_frame(shortest: bool, random: &mut Random) -> Vec<u8> {
 
 /// A frame with auxiliary header; its payload is as long as the length wanted allows. The control's level and bit 7 are
 /// sometimes not 0, which opening does not mind.
-pub fn secured_frame(key: &[u8; 16], wanted: Option<usize>, random: &mut Random) -> Vec<u8> {
+pub fn secured_frame(level: Level, key: &[u8; 16], wanted: Option<usize>, random: &mut Random) -> Vec<u8> {
     let header = headers::header(100, random);
     let auxiliary = headers::auxiliary(random);
     let front = header.bytes().len();
-    let overhead = front + auxiliary.bytes().len() + ccm::MIC;
+    let overhead = front + auxiliary.bytes().len() + level.mic;
     let natural = random.below(60).min(MAX_FRAME.saturating_sub(overhead));
     let n = wanted.map_or(natural, |wanted| wanted.saturating_sub(overhead));
     let payload = random.bytes(n);
     let mut bytes = match frame::nonce_ieee(&header, &auxiliary) {
-        Some(ieee) => frame::seal(key, &header, &auxiliary, &ieee, &payload),
-        None => [header.bytes(), auxiliary.bytes(), payload, random.bytes(ccm::MIC)].concat(),
+        Some(ieee) => frame::seal(level, key, &header, &auxiliary, &ieee, &payload),
+        None => [header.bytes(), auxiliary.bytes(), payload, random.bytes(level.mic)].concat(),
     };
     if random.percent(30) {
         bytes[front] |= random.byte() & 0x87;
@@ -62,9 +64,10 @@ pub fn ccm_inputs(wanted: Option<usize>, random: &mut Random) -> Vec<Vec<u8>> {
     vec![nonce, random.bytes(auth), random.bytes(payload)]
 }
 
-/// Nonce, authenticated data, ciphertext and the right MIC.
-pub fn ccm_sealed_inputs(key: &[u8; 16], wanted: Option<usize>, random: &mut Random) -> Vec<Vec<u8>> {
+/// Nonce, authenticated data, ciphertext and the right MIC, with any bytes in the places past its length.
+pub fn ccm_sealed_inputs(level: Level, key: &[u8; 16], wanted: Option<usize>, random: &mut Random) -> Vec<Vec<u8>> {
     let inputs = ccm_inputs(wanted, random);
-    let (ciphertext, mic) = ccm::encrypt(key, &inputs[0], &inputs[1], &inputs[2]);
-    vec![inputs[0].clone(), inputs[1].clone(), ciphertext, mic.to_vec()]
+    let (ciphertext, mut mic) = ccm::encrypt(level.mic, key, &inputs[0], &inputs[1], &inputs[2]);
+    mic.extend(random.bytes(MIC_PLACES - level.mic));
+    vec![inputs[0].clone(), inputs[1].clone(), ciphertext, mic]
 }

@@ -1,11 +1,12 @@
-//! A burst (document 02, requests 1 and 3): the four conditions of 20, and each frame opened alone into its own part.
+//! A burst (document 02, requests 1, 3 and 9): the four conditions of 20, and each frame opened alone into its own part.
 use super::{opening, refuse, Answer, Done};
 use crate::support::calls::lengths_of;
 use crate::support::operations::{MAX_BURST, OPENED_RECORD, PART};
 
 /// "20, first of all, if there are more than 16 lengths, they do not add up to the bytes lent, the output is shorter than
-/// 108 times their number, or the list for the answers is shorter than their number." Else the number of frames.
-pub fn open(key: &[u8; 16], frames: &[u8], list: &[u8], rooms: &[usize]) -> Answer {
+/// 108 times their number, or the list for the answers is shorter than their number." Else the number of frames: 29 is "before all
+/// but 20 and in a burst as each frame's answer".
+pub fn open(level: u64, key: &[u8; 16], frames: &[u8], list: &[u8], rooms: &[usize]) -> Answer {
     let lengths = lengths_of(list);
     refuse(&[
         (20, lengths.len() > MAX_BURST),
@@ -17,7 +18,7 @@ pub fn open(key: &[u8; 16], frames: &[u8], list: &[u8], rooms: &[usize]) -> Answ
     let mut rest = frames;
     for &length in &lengths {
         let (frame, behind) = rest.split_at(length);
-        let (answer, part) = alone(key, frame);
+        let (answer, part) = alone(level, key, frame);
         answers.extend(answer);
         parts.extend(part);
         rest = behind;
@@ -28,8 +29,8 @@ pub fn open(key: &[u8; 16], frames: &[u8], list: &[u8], rooms: &[usize]) -> Answ
 /// The answer and the part of a frame: "each answer equals opening that frame alone into that part". Beside a refusal's
 /// number the answer is zeros, its mark too. A part stays behind what opening writes, and "a clear frame writes nothing to its
 /// part".
-fn alone(key: &[u8; 16], frame: &[u8]) -> (Vec<Option<u8>>, Vec<Option<u8>>) {
-    let (answer, mut part) = match opening::open(key, frame, &[OPENED_RECORD, PART]) {
+fn alone(level: u64, key: &[u8; 16], frame: &[u8]) -> (Vec<Option<u8>>, Vec<Option<u8>>) {
+    let (answer, mut part) = match opening::open(level, key, frame, &[OPENED_RECORD, PART]) {
         Ok(Done { written, .. }) => (written[0].clone(), written[1].clone()),
         Err(number) => {
             let mut answer = vec![Some(0); OPENED_RECORD];

@@ -1,7 +1,8 @@
-//! CCM (SP 800-38C) with a nonce of 13 bytes and a MIC of 4, over the AES of this model.
+//! CCM (SP 800-38C) with a nonce of 13 bytes and a MIC of t, over the AES of this model.
 use super::aes::Cipher;
 
-pub const MIC: usize = 4;
+/// The bytes of the payload's length: 15 less the nonce's.
+const Q: usize = 2;
 
 /// Bytes filled with zeros up to a whole number of blocks.
 fn padded(mut bytes: Vec<u8>) -> Vec<u8> {
@@ -9,10 +10,14 @@ fn padded(mut bytes: Vec<u8>) -> Vec<u8> {
     bytes
 }
 
+/// The first byte of B0 (A.2.1): bit 6 for authenticated data, (t - 2) / 2 in bits 3 to 5, q - 1 in bits 0 to 2.
+fn flags(t: usize, auth: &[u8]) -> u8 {
+    64 * u8::from(!auth.is_empty()) + 8 * ((t - 2) / 2) as u8 + (Q - 1) as u8
+}
+
 /// B0 and what follows it: authenticated data behind its length, and the payload.
-fn formatted(nonce: &[u8], auth: &[u8], payload: &[u8]) -> Vec<u8> {
-    let flags = if auth.is_empty() { 0x09 } else { 0x49 };
-    let mut blocks = vec![flags];
+fn formatted(t: usize, nonce: &[u8], auth: &[u8], payload: &[u8]) -> Vec<u8> {
+    let mut blocks = vec![flags(t, auth)];
     blocks.extend(nonce);
     blocks.extend((payload.len() as u16).to_be_bytes());
     if !auth.is_empty() {
@@ -29,7 +34,7 @@ fn cbc_mac(cipher: &Cipher, blocks: &[u8]) -> [u8; 16] {
 
 /// The key stream block of a counter.
 fn key_stream(cipher: &Cipher, nonce: &[u8], counter: u16) -> [u8; 16] {
-    let block = [&[0x01], nonce, &counter.to_be_bytes()].concat();
+    let block = [&[(Q - 1) as u8], nonce, &counter.to_be_bytes()].concat();
     cipher.encrypt(&std::array::from_fn(|i| block[i]))
 }
 
@@ -43,21 +48,21 @@ fn masked(cipher: &Cipher, nonce: &[u8], bytes: &[u8]) -> Vec<u8> {
     masked
 }
 
-/// The MIC of a payload: the CBC-MAC's first bytes, masked by counter 0.
-fn mic(cipher: &Cipher, nonce: &[u8], auth: &[u8], payload: &[u8]) -> [u8; MIC] {
-    let mac = cbc_mac(cipher, &formatted(nonce, auth, payload));
+/// The MIC of a payload: the CBC-MAC's first t bytes, masked by counter 0.
+fn mic(t: usize, cipher: &Cipher, nonce: &[u8], auth: &[u8], payload: &[u8]) -> Vec<u8> {
+    let mac = cbc_mac(cipher, &formatted(t, nonce, auth, payload));
     let stream = key_stream(cipher, nonce, 0);
-    std::array::from_fn(|i| mac[i] ^ stream[i])
+    (0..t).map(|i| mac[i] ^ stream[i]).collect()
 }
 
-pub fn encrypt(key: &[u8; 16], nonce: &[u8], auth: &[u8], payload: &[u8]) -> (Vec<u8>, [u8; MIC]) {
+pub fn encrypt(t: usize, key: &[u8; 16], nonce: &[u8], auth: &[u8], payload: &[u8]) -> (Vec<u8>, Vec<u8>) {
     let cipher = Cipher::new(key);
-    (masked(&cipher, nonce, payload), mic(&cipher, nonce, auth, payload))
+    (masked(&cipher, nonce, payload), mic(t, &cipher, nonce, auth, payload))
 }
 
-/// The payload, none where the MIC is not the one computed.
+/// The payload, none where the MIC given, all t bytes of it, is not the one computed.
 pub fn decrypt(key: &[u8; 16], nonce: &[u8], auth: &[u8], ciphertext: &[u8], given: &[u8]) -> Option<Vec<u8>> {
     let cipher = Cipher::new(key);
     let payload = masked(&cipher, nonce, ciphertext);
-    (mic(&cipher, nonce, auth, &payload) == given).then_some(payload)
+    (mic(given.len(), &cipher, nonce, auth, &payload) == given).then_some(payload)
 }

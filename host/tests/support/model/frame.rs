@@ -1,11 +1,11 @@
-//! Frames (document 01, "Frame"): reading, and the bytes that sealing writes and opening gives.
+//! Frames (document 01, "Frame"; document 02, request 9): reading, and the bytes that sealing writes and opening gives at a level.
 use super::auxiliary::{self, Auxiliary};
 use super::ccm;
 use super::header::{self, Header, SECURITY};
+use super::level::Level;
 use super::{refuse, MAX_PAYLOAD};
 
-/// The level that is authenticated, and the one that is sent.
-const AUTHENTICATED_LEVEL: u8 = 5;
+/// "The level sent is still 0."
 const SENT_LEVEL: u8 = 0;
 
 pub struct Frame {
@@ -32,31 +32,45 @@ pub fn nonce_ieee(header: &Header, auxiliary: &Auxiliary) -> Option<[u8; 8]> {
     auxiliary.ieee.or(header.source_ieee)
 }
 
-/// The nonce: IEEE, counter, control with level 5.
-pub fn nonce(auxiliary: &Auxiliary, ieee: &[u8; 8]) -> Vec<u8> {
-    let control = auxiliary.at_level(AUTHENTICATED_LEVEL).control();
+/// The nonce: IEEE, counter, control with the network's level, which "takes the place of 5 in nonce and authentication".
+pub fn nonce(level: Level, auxiliary: &Auxiliary, ieee: &[u8; 8]) -> Vec<u8> {
+    let control = auxiliary.at_level(level.number).control();
     [&ieee[..], &auxiliary.counter, &[control]].concat()
 }
 
-/// What is authenticated: header and auxiliary header with level 5.
-pub fn authenticated(header: &Header, auxiliary: &Auxiliary) -> Vec<u8> {
-    [header.bytes(), auxiliary.at_level(AUTHENTICATED_LEVEL).bytes()].concat()
+/// What is authenticated: header and auxiliary header with the network's level.
+pub fn authenticated(level: Level, header: &Header, auxiliary: &Auxiliary) -> Vec<u8> {
+    [header.bytes(), auxiliary.at_level(level.number).bytes()].concat()
 }
 
 /// How many bytes the sealed frame has.
-pub fn sealed_length(header: &Header, auxiliary: &Auxiliary, payload: &[u8]) -> usize {
-    header.bytes().len() + auxiliary.bytes().len() + payload.len() + ccm::MIC
+pub fn sealed_length(level: Level, header: &Header, auxiliary: &Auxiliary, payload: &[u8]) -> usize {
+    header.bytes().len() + auxiliary.bytes().len() + payload.len() + level.mic
 }
 
 /// The sealed frame's bytes: both headers, the level sent being 0, ciphertext, MIC.
-pub fn seal(key: &[u8; 16], header: &Header, auxiliary: &Auxiliary, ieee: &[u8; 8], payload: &[u8]) -> Vec<u8> {
-    let auth = authenticated(header, auxiliary);
-    let (ciphertext, mic) = ccm::encrypt(key, &nonce(auxiliary, ieee), &auth, payload);
-    [header.bytes(), auxiliary.at_level(SENT_LEVEL).bytes(), ciphertext, mic.to_vec()].concat()
+pub fn seal(
+    level: Level,
+    key: &[u8; 16],
+    header: &Header,
+    auxiliary: &Auxiliary,
+    ieee: &[u8; 8],
+    payload: &[u8],
+) -> Vec<u8> {
+    let (nonce, auth) = (nonce(level, auxiliary, ieee), authenticated(level, header, auxiliary));
+    let (ciphertext, mic) = ccm::encrypt(level.mic, key, &nonce, &auth, payload);
+    [header.bytes(), auxiliary.at_level(SENT_LEVEL).bytes(), ciphertext, mic].concat()
 }
 
 /// The payload of ciphertext with MIC, none where the MIC is not the one computed.
-pub fn open(key: &[u8; 16], header: &Header, auxiliary: &Auxiliary, ieee: &[u8; 8], behind: &[u8]) -> Option<Vec<u8>> {
-    let (ciphertext, mic) = behind.split_at(behind.len() - ccm::MIC);
-    ccm::decrypt(key, &nonce(auxiliary, ieee), &authenticated(header, auxiliary), ciphertext, mic)
+pub fn open(
+    level: Level,
+    key: &[u8; 16],
+    header: &Header,
+    auxiliary: &Auxiliary,
+    ieee: &[u8; 8],
+    behind: &[u8],
+) -> Option<Vec<u8>> {
+    let (ciphertext, mic) = behind.split_at(behind.len() - level.mic);
+    ccm::decrypt(key, &nonce(level, auxiliary, ieee), &authenticated(level, header, auxiliary), ciphertext, mic)
 }

@@ -9,11 +9,12 @@ pub mod commands;
 pub mod frame;
 pub mod header;
 pub mod journal;
+pub mod level;
 pub mod opening;
 pub mod senders;
 
 use super::calls::{Call, Outcome, CLEAR_BIT};
-use super::operations::{Operation, AUXILIARY_RECORD, COMMAND_RECORD, HEADER_RECORD, MIC};
+use super::operations::{Operation, AUXILIARY_RECORD, COMMAND_RECORD, HEADER_RECORD, MIC_PLACES};
 
 pub const MAX_FRAME: usize = 118;
 pub const MAX_PAYLOAD: usize = 108;
@@ -51,7 +52,7 @@ pub fn refuse(conditions: &[(u8, bool)]) -> Result<(), u8> {
 /// What the codec must answer to a call.
 pub fn run(call: &Call) -> Answer {
     let input = |i: usize| call.inputs[i].as_slice();
-    let rooms = call.rooms.as_slice();
+    let (rooms, level) = (call.rooms.as_slice(), call.level);
     match call.operation {
         Operation::ReadHeader => read_header(input(0), rooms),
         Operation::WriteHeader => write_header(input(0), rooms),
@@ -59,16 +60,16 @@ pub fn run(call: &Call) -> Answer {
         Operation::WriteAuxiliary => write_auxiliary(input(0), rooms),
         Operation::ReadFrame => read_frame(input(0), rooms),
         Operation::WriteFrame => write_frame(input(0), input(1), rooms),
-        Operation::Seal => seal(&call.key, input(0), input(1), input(2), rooms),
-        Operation::Open => opening::open(&call.key, input(0), rooms),
-        Operation::OpenBurst => burst::open(&call.key, input(0), input(1), rooms),
+        Operation::Seal => seal(level, &call.key, input(0), input(1), input(2), rooms),
+        Operation::Open => opening::open(level, &call.key, input(0), rooms),
+        Operation::OpenBurst => burst::open(level, &call.key, input(0), input(1), rooms),
         Operation::PayloadKind => payload_kind(input(0)[0]),
         Operation::ReadCommand => read_command(input(0), rooms),
         Operation::WriteCommand => write_command(input(0), rooms),
         Operation::TimeoutSeconds => timeout_seconds(input(0)[0]),
-        Operation::EncryptCcm => encrypt_ccm(&call.key, input(0), input(1), input(2), rooms),
-        Operation::DecryptCcm => decrypt_ccm(&call.key, input(0), input(1), input(2), input(3), rooms),
-        Operation::SplitMic => split_mic(input(0)),
+        Operation::EncryptCcm => encrypt_ccm(level, &call.key, input(0), input(1), input(2), rooms),
+        Operation::DecryptCcm => decrypt_ccm(level, &call.key, input(0), input(1), input(2), input(3), rooms),
+        Operation::SplitMic => split_mic(level, input(0)),
         Operation::EncryptBlock => encrypt_block(&call.key, input(0)),
     }
 }
@@ -140,33 +141,34 @@ fn write_frame(record: &[u8], payload: &[u8], rooms: &[usize]) -> Answer {
     given(bytes)
 }
 
-/// How many bytes a call that writes a header, a frame or a sealed one would write if nothing were refused; none if a record is, or
-/// sealing has no auxiliary header.
+/// How many bytes a call that writes a header, a frame or a sealed one would write if nothing were refused; none if a record or the
+/// level is, or sealing has no auxiliary header.
 pub fn written_length(call: &Call) -> Option<usize> {
     let header = header::Header::of_record(&call.inputs[0]).ok()?;
     match call.operation {
         Operation::WriteFrame => Some(header.bytes().len() + call.inputs[1].len()),
         Operation::Seal => {
             let auxiliary = auxiliary::of_record(&call.inputs[1]).ok()??;
-            Some(frame::sealed_length(&header, &auxiliary, &call.inputs[2]))
+            Some(frame::sealed_length(level::of(call.level).ok()?, &header, &auxiliary, &call.inputs[2]))
         }
         _ => Some(header.bytes().len()),
     }
 }
 
 /// "28 for the header's bits, bit 9 among them when sealing, after 13 and before 14; 28 for the extended nonce bit, after 14 and
-/// before 15" (document 02, request 8).
-fn seal(key: &[u8; 16], header: &[u8], auxiliary: &[u8], payload: &[u8], rooms: &[usize]) -> Answer {
+/// before 15" (document 02, request 8). 29 is before all (request 9), also before the 13 of a record.
+fn seal(level: u64, key: &[u8; 16], header: &[u8], auxiliary: &[u8], payload: &[u8], rooms: &[usize]) -> Answer {
+    let level = level::of(level)?;
     let header = header::Header::of_record(header)?;
     let auxiliary = auxiliary::of_record(auxiliary)?;
     refuse(&[(28, !header.agrees() || !header.bits[header::SECURITY])])?;
     let auxiliary = auxiliary.ok_or(14)?;
     refuse(&[(28, !auxiliary.agrees())])?;
     let ieee = frame::nonce_ieee(&header, &auxiliary).ok_or(15)?;
-    let length = frame::sealed_length(&header, &auxiliary, payload);
+    let length = frame::sealed_length(level, &header, &auxiliary, payload);
     let too_long = payload.len() > MAX_PAYLOAD || length > MAX_FRAME;
     refuse(&[(21, auxiliary.counter == LAST_COUNTER), (17, too_long), (18, rooms[0] < length)])?;
-    given(frame::seal(key, &header, &auxiliary, &ieee, payload))
+    given(frame::seal(level, key, &header, &auxiliary, &ieee, payload))
 }
 
 /// "A plaintext is a command if the type is 1, else opaque"; the types are 0, 1 and 3.
@@ -195,22 +197,40 @@ fn timeout_seconds(code: u8) -> Answer {
     Ok(Done::new(length, Vec::new()))
 }
 
-fn encrypt_ccm(key: &[u8; 16], nonce: &[u8], auth: &[u8], payload: &[u8], rooms: &[usize]) -> Answer {
-    refuse(&[(1, auth.len() > MAX_CCM || payload.len() > MAX_CCM), (18, rooms[0] < payload.len())])?;
-    let (ciphertext, mic) = ccm::encrypt(key, nonce, auth, payload);
-    Ok(Done::new(payload.len(), vec![ciphertext, mic.to_vec()]))
+/// A MIC in its 16 places, of which "those past its length are given as 0".
+fn placed(mut mic: Vec<u8>) -> Vec<u8> {
+    mic.resize(MIC_PLACES, 0);
+    mic
 }
 
-fn decrypt_ccm(key: &[u8; 16], nonce: &[u8], auth: &[u8], ciphertext: &[u8], mic: &[u8], rooms: &[usize]) -> Answer {
+fn encrypt_ccm(level: u64, key: &[u8; 16], nonce: &[u8], auth: &[u8], payload: &[u8], rooms: &[usize]) -> Answer {
+    let level = level::of(level)?;
+    refuse(&[(1, auth.len() > MAX_CCM || payload.len() > MAX_CCM), (18, rooms[0] < payload.len())])?;
+    let (ciphertext, mic) = ccm::encrypt(level.mic, key, nonce, auth, payload);
+    Ok(Done::new(payload.len(), vec![ciphertext, placed(mic)]))
+}
+
+/// Of the MIC's 16 places those past its length are "not read".
+fn decrypt_ccm(
+    level: u64,
+    key: &[u8; 16],
+    nonce: &[u8],
+    auth: &[u8],
+    ciphertext: &[u8],
+    mic: &[u8],
+    rooms: &[usize],
+) -> Answer {
+    let level = level::of(level)?;
     refuse(&[(1, auth.len() > MAX_CCM || ciphertext.len() > MAX_CCM), (18, rooms[0] < ciphertext.len())])?;
-    given(ccm::decrypt(key, nonce, auth, ciphertext, mic).ok_or(19)?)
+    given(ccm::decrypt(key, nonce, auth, ciphertext, &mic[..level.mic]).ok_or(19)?)
 }
 
 /// `split_mic` has no upper limit, so the length of the ciphertext is a number of its own.
-fn split_mic(bytes: &[u8]) -> Answer {
-    refuse(&[(16, bytes.len() < MIC)])?;
-    let (ciphertext, mic) = bytes.split_at(bytes.len() - MIC);
-    Ok(Done::new(MIC, vec![mic.to_vec(), (ciphertext.len() as u64).to_le_bytes().to_vec()]))
+fn split_mic(level: u64, bytes: &[u8]) -> Answer {
+    let level = level::of(level)?;
+    refuse(&[(16, bytes.len() < level.mic)])?;
+    let (ciphertext, mic) = bytes.split_at(bytes.len() - level.mic);
+    Ok(Done::new(level.mic, vec![placed(mic.to_vec()), (ciphertext.len() as u64).to_le_bytes().to_vec()]))
 }
 
 fn encrypt_block(key: &[u8; 16], block: &[u8]) -> Answer {

@@ -1,28 +1,38 @@
-//! Opening (document 01, "Frame"; document 02, requests 3 and 5): sealed frames, clear ones, and the opened record of
+//! Opening (document 01, "Frame"; document 02, requests 3, 5 and 9): sealed frames, clear ones, and the opened record of
 //! `include/nwk.h`.
 use super::auxiliary::{self, Auxiliary};
 use super::frame::{self, Frame};
+use super::level::{self, Level};
 use super::{refuse, Answer, Done};
-use crate::support::operations::{MARK_CLEAR, MARK_SEALED, MIC, OPENED_NONCE_IEEE, OPENED_RECORD};
+use crate::support::operations::{MARK_CLEAR, MARK_SEALED, OPENED_NONCE_IEEE, OPENED_RECORD};
 
 /// "Opening takes a frame's bytes and first reads them, with reading's refusals." The auxiliary header "is present exactly if
-/// bit 9 of frame control is set", and a frame "whose security bit is off" is clear.
-pub fn open(key: &[u8; 16], bytes: &[u8], rooms: &[usize]) -> Answer {
+/// bit 9 of frame control is set", and a frame "whose security bit is off" is clear. 29 is "before all but 20", so also of a frame
+/// that is not read and of a clear one.
+pub fn open(level: u64, key: &[u8; 16], bytes: &[u8], rooms: &[usize]) -> Answer {
+    let level = level::of(level)?;
     let frame = frame::read(bytes)?;
     let behind = &bytes[frame.headers_length..];
     match &frame.auxiliary {
-        Some(auxiliary) => open_sealed(key, &frame, auxiliary, behind, rooms),
+        Some(auxiliary) => open_sealed(level, key, &frame, auxiliary, behind, rooms),
         None => open_clear(&frame, behind.len(), rooms),
     }
 }
 
-/// "Every frame that was opened before has the answer it had, now marked sealed."
-fn open_sealed(key: &[u8; 16], frame: &Frame, auxiliary: &Auxiliary, behind: &[u8], rooms: &[usize]) -> Answer {
+/// "Every frame that was opened before has the answer it had, now marked sealed." 16 "now reads 'fewer bytes than the tag'".
+fn open_sealed(
+    level: Level,
+    key: &[u8; 16],
+    frame: &Frame,
+    auxiliary: &Auxiliary,
+    behind: &[u8],
+    rooms: &[usize],
+) -> Answer {
     let ieee = frame::nonce_ieee(&frame.header, auxiliary).ok_or(15)?;
-    refuse(&[(16, behind.len() < MIC)])?;
-    let length = behind.len() - MIC;
+    refuse(&[(16, behind.len() < level.mic)])?;
+    let length = behind.len() - level.mic;
     refuse(&[(18, rooms[0] < OPENED_RECORD || rooms[1] < length)])?;
-    let payload = frame::open(key, &frame.header, auxiliary, &ieee, behind).ok_or(19)?;
+    let payload = frame::open(level, key, &frame.header, auxiliary, &ieee, behind).ok_or(19)?;
     Ok(Done::new(length, vec![record(MARK_SEALED, frame, length, Some(ieee)), payload]))
 }
 
