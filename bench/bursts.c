@@ -54,8 +54,8 @@ void make_clear_burst(struct burst *b, size_t length) {
 
 bool open_burst(void *input) {
   struct burst *b = input;
-  return nwk_open_burst(b->key_first, b->key_second, b->frames, b->frames_length, b->lengths, NWK_MAX_BURST, b->answers,
-                        NWK_MAX_BURST, b->out, sizeof b->out) == NWK_MAX_BURST;
+  return nwk_open_burst(NWK_LEVEL_ENC_MIC_32, b->key_first, b->key_second, b->frames, b->frames_length, b->lengths,
+                        NWK_MAX_BURST, b->answers, NWK_MAX_BURST, b->out, sizeof b->out) == NWK_MAX_BURST;
 }
 
 bool open_each(void *input) {
@@ -63,8 +63,8 @@ bool open_each(void *input) {
   const uint8_t *frame = b->frames;
   bool well = true;
   for (size_t k = 0; k < NWK_MAX_BURST; k++) {
-    well &= nwk_open(b->key_first, b->key_second, frame, b->lengths[k], b->answers[k], NWK_OPENED_RECORD,
-                     b->out + NWK_MAX_PAYLOAD * k, NWK_MAX_PAYLOAD) == b->answer;
+    well &= nwk_open(NWK_LEVEL_ENC_MIC_32, b->key_first, b->key_second, frame, b->lengths[k], b->answers[k],
+                     NWK_OPENED_RECORD, b->out + NWK_MAX_PAYLOAD * k, NWK_MAX_PAYLOAD) == b->answer;
     frame += b->lengths[k];
   }
   return well;

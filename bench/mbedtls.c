@@ -28,12 +28,12 @@ static mbedtls_aes_context kept_block;
 
 static bool seal_with(mbedtls_ccm_context *ctx, struct message *m) {
   return mbedtls_ccm_encrypt_and_tag(ctx, m->length, m->nonce, NONCE_LENGTH, m->auth, AUTH_LENGTH, m->payload, m->out,
-                                     m->out + m->length, MIC_LENGTH) == 0;
+                                     m->out + m->length, m->mic_length) == 0;
 }
 
 static bool open_with(mbedtls_ccm_context *ctx, struct message *m) {
   return mbedtls_ccm_auth_decrypt(ctx, m->length, m->nonce, NONCE_LENGTH, m->auth, AUTH_LENGTH, m->sealed, m->out,
-                                  m->sealed + m->length, MIC_LENGTH) == 0;
+                                  m->sealed + m->length, m->mic_length) == 0;
 }
 
 static bool seal(void *input) {

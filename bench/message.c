@@ -4,8 +4,6 @@
 #include <stdlib.h>
 #include <string.h>
 
-#define LEVEL_5 0x05
-
 void fail(const char *what, const char *who) {
   fflush(stdout);
   fprintf(stderr, "bench: %s: %s\n", who, what);
@@ -47,7 +45,7 @@ static void make_records(struct message *m, uint8_t number) {
   m->auxiliary[NWK_AUXILIARY_COUNTER] += number;
 }
 
-/* The nonce is IEEE, frame counter and security control; level 5 is authenticated (Zigbee 4.3.1, 4.5.2.2). */
+/* The nonce is IEEE, frame counter and security control; the level is authenticated (Zigbee 4.3.1, 4.5.2.2). */
 static void make_nonce_and_auth(struct message *m) {
   size_t h = accepted(nwk_write_header(m->header, sizeof m->header, m->auth, sizeof m->auth), "nwk_write_header");
   uint8_t *control = m->auth + h;
@@ -56,14 +54,16 @@ static void make_nonce_and_auth(struct message *m) {
   if (h + a != AUTH_LENGTH) {
     fail("not 22 bytes of headers", "nwk_write_header");
   }
-  control[0] |= LEVEL_5;
+  control[0] |= (uint8_t)m->level;
   memcpy(m->nonce, control + 5, 8);
   memcpy(m->nonce + 8, control + 1, 4);
   m->nonce[12] = control[0];
 }
 
-void make_numbered_message(struct message *m, size_t length, uint8_t number) {
+static void make(struct message *m, uint64_t level, size_t mic_length, size_t length, uint8_t number) {
   memset(m, 0, sizeof *m);
+  m->level = level;
+  m->mic_length = mic_length;
   make_key(m);
   make_records(m, number);
   make_nonce_and_auth(m);
@@ -71,13 +71,21 @@ void make_numbered_message(struct message *m, size_t length, uint8_t number) {
   for (size_t i = 0; i < length; i++) {
     m->payload[i] = (uint8_t)(7 * i + 3 + number);
   }
-  m->frame_length = accepted(nwk_seal(m->key_first, m->key_second, m->header, sizeof m->header, m->auxiliary,
+  m->frame_length = accepted(nwk_seal(m->level, m->key_first, m->key_second, m->header, sizeof m->header, m->auxiliary,
                                       sizeof m->auxiliary, m->payload, m->length, m->frame, sizeof m->frame),
                              "nwk_seal");
-  if (m->frame_length != AUTH_LENGTH + length + MIC_LENGTH) {
+  if (m->frame_length != AUTH_LENGTH + length + mic_length) {
     fail("another length than headers, payload and MIC", "nwk_seal");
   }
-  memcpy(m->sealed, m->frame + AUTH_LENGTH, length + MIC_LENGTH);
+  memcpy(m->sealed, m->frame + AUTH_LENGTH, length + mic_length);
+}
+
+void make_numbered_message(struct message *m, size_t length, uint8_t number) {
+  make(m, NWK_LEVEL_ENC_MIC_32, 4, length, number);
+}
+
+void make_message_at_level_7(struct message *m, size_t length) {
+  make(m, NWK_LEVEL_ENC_MIC_128, 16, length, 0);
 }
 
 void make_message(struct message *m, size_t length) {

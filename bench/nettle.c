@@ -14,13 +14,13 @@ static struct ccm_aes128_ctx kept;
 static struct aes128_ctx kept_block;
 
 static bool seal_with(struct ccm_aes128_ctx *ctx, struct message *m) {
-  ccm_aes128_encrypt_message(ctx, NONCE_LENGTH, m->nonce, AUTH_LENGTH, m->auth, MIC_LENGTH, m->length + MIC_LENGTH,
+  ccm_aes128_encrypt_message(ctx, NONCE_LENGTH, m->nonce, AUTH_LENGTH, m->auth, m->mic_length, m->length + m->mic_length,
                              m->out, m->payload);
   return true;
 }
 
 static bool open_with(struct ccm_aes128_ctx *ctx, struct message *m) {
-  return ccm_aes128_decrypt_message(ctx, NONCE_LENGTH, m->nonce, AUTH_LENGTH, m->auth, MIC_LENGTH, m->length, m->out,
+  return ccm_aes128_decrypt_message(ctx, NONCE_LENGTH, m->nonce, AUTH_LENGTH, m->auth, m->mic_length, m->length, m->out,
                                     m->sealed) == 1;
 }
 

@@ -85,7 +85,7 @@ static bool write_auxiliary(void *input) {
 static bool split_mic(void *input) {
   struct message *m = input;
   uint64_t front = 0;
-  return NWK_REFUSAL(nwk_split_mic(m->sealed, m->length + MIC_LENGTH, m->out, &front)) == 0 && front == m->length;
+  return NWK_REFUSAL(nwk_split_mic(m->level, m->sealed, m->length + m->mic_length, m->out, &front)) == 0 && front == m->length;
 }
 
 static bool payload_place(void *input) {

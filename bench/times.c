@@ -13,12 +13,18 @@
 static const size_t lengths[] = {5, 16, 32, 50, 64, 83};
 #define LENGTHS (sizeof lengths / sizeof lengths[0])
 
-static struct message messages[LENGTHS];
+/* A message of each length, and one at level 7 behind them. */
+#define AT_LEVEL_7 LENGTHS
+#define MESSAGES (LENGTHS + 1)
+#define LENGTH_AT_LEVEL_7 64
+
+static struct message messages[MESSAGES];
 
 static void make_messages(void) {
   for (size_t i = 0; i < LENGTHS; i++) {
     make_message(&messages[i], lengths[i]);
   }
+  make_message_at_level_7(&messages[AT_LEVEL_7], LENGTH_AT_LEVEL_7);
 }
 
 /* Run a call once and compare what it puts out. */
@@ -34,13 +40,13 @@ static void check(call *run, struct message *m, const uint8_t *expected, size_t 
 
 /* The codec's frame is what every implementation is held to: ciphertext and MIC behind the headers. */
 static void check_codec(const struct codec *c, struct message *m) {
-  check(c->seal, m, m->sealed, m->length + MIC_LENGTH, "ciphertext or MIC differ from nwk_seal's", c->name);
+  check(c->seal, m, m->sealed, m->length + m->mic_length, "ciphertext or MIC differ from nwk_seal's", c->name);
   check(c->open, m, m->payload, m->length, "the opened payload differs", c->name);
   if (c->set_key) {
     if (!c->set_key(m)) {
       fail("the key was not set up", c->name);
     }
-    check(c->seal_kept, m, m->sealed, m->length + MIC_LENGTH, "ciphertext or MIC differ, key kept", c->name);
+    check(c->seal_kept, m, m->sealed, m->length + m->mic_length, "ciphertext or MIC differ, key kept", c->name);
     check(c->open_kept, m, m->payload, m->length, "the opened payload differs, key kept", c->name);
   }
 }
@@ -51,7 +57,7 @@ static void check_block(const struct codec *c, struct message *m, const uint8_t 
 }
 
 static void check_all(void) {
-  for (size_t i = 0; i < LENGTHS; i++) {
+  for (size_t i = 0; i < MESSAGES; i++) {
     struct message *m = &messages[i];
     check_codec(&ours, m);
     check_codec(&nettle, m);
@@ -85,20 +91,20 @@ static struct row row_of(const char *label, struct message *m, const struct call
   return row;
 }
 
-static struct row row_for_length(size_t i, const struct calls *calls) {
+static struct row row_for_message(size_t i, const struct calls *calls) {
   char label[32];
-  snprintf(label, sizeof label, "%zu bytes", lengths[i]);
+  snprintf(label, sizeof label, i == AT_LEVEL_7 ? "%zu, level 7" : "%zu bytes", messages[i].length);
   return row_of(label, &messages[i], calls);
 }
 
 static void compare_lengths(const char *what, const char *way, const struct calls *calls) {
-  struct row rows[LENGTHS];
+  struct row rows[MESSAGES];
   char title[120];
-  for (size_t i = 0; i < LENGTHS; i++) {
-    rows[i] = row_for_length(i, calls);
+  for (size_t i = 0; i < MESSAGES; i++) {
+    rows[i] = row_for_message(i, calls);
   }
   snprintf(title, sizeof title, "%s, %s", what, way);
-  compare(title, "payload", rows, LENGTHS);
+  compare(title, "payload", rows, MESSAGES);
 }
 
 void compare_with_peers(const char *way) {
@@ -125,11 +131,11 @@ void compare_with_kept_keys(const char *way) {
 }
 
 static void frames_alone(const char *title, call *run) {
-  struct row rows[LENGTHS];
-  for (size_t i = 0; i < LENGTHS; i++) {
-    rows[i] = row_for_length(i, &(struct calls){{run}});
+  struct row rows[MESSAGES];
+  for (size_t i = 0; i < MESSAGES; i++) {
+    rows[i] = row_for_message(i, &(struct calls){{run}});
   }
-  alone(title, "payload", rows, LENGTHS);
+  alone(title, "payload", rows, MESSAGES);
 }
 
 /* A row of a reading; what it reads is checked by writing it back. */

@@ -17,12 +17,12 @@ static bool start(Aes *aes) {
 }
 
 static bool seal_with(Aes *aes, struct message *m) {
-  return wc_AesCcmEncrypt(aes, m->out, m->payload, m->length, m->nonce, NONCE_LENGTH, m->out + m->length, MIC_LENGTH,
+  return wc_AesCcmEncrypt(aes, m->out, m->payload, m->length, m->nonce, NONCE_LENGTH, m->out + m->length, m->mic_length,
                           m->auth, AUTH_LENGTH) == 0;
 }
 
 static bool open_with(Aes *aes, struct message *m) {
-  return wc_AesCcmDecrypt(aes, m->out, m->sealed, m->length, m->nonce, NONCE_LENGTH, m->sealed + m->length, MIC_LENGTH,
+  return wc_AesCcmDecrypt(aes, m->out, m->sealed, m->length, m->nonce, NONCE_LENGTH, m->sealed + m->length, m->mic_length,
                           m->auth, AUTH_LENGTH) == 0;
 }
 
