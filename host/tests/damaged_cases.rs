@@ -13,9 +13,14 @@ struct File {
     things: &'static str,
 }
 
-const FILES: [File; 8] = [
+const FILES: [File; 13] = [
     File { program: "vectors", name: "aes128_ecb.txt", things: "blocks" },
     File { program: "vectors", name: "ccm_13_4.txt", things: "entries" },
+    File { program: "vectors", name: "ccm_13_8.txt", things: "entries" },
+    File { program: "vectors", name: "ccm_13_8_rfc3610.txt", things: "entries" },
+    File { program: "vectors", name: "ccm_13_16_1.txt", things: "entries" },
+    File { program: "vectors", name: "ccm_13_16_2.txt", things: "entries" },
+    File { program: "vectors", name: "ccm_13_16_3.txt", things: "entries" },
     File { program: "vectors", name: "ccm_limits.txt", things: "entries" },
     File { program: "vectors", name: "types_rs.txt", things: "calls" },
     File { program: "frame_cases", name: "headers.txt", things: "cases" },
@@ -223,7 +228,7 @@ fn other_marks_differ() {
 #[test]
 fn payloads_of_failing_entries_are_looked_at() {
     run_if_built(|file| {
-        if file.name == "ccm_13_4.txt" {
+        if ["ccm_13_4.txt", "ccm_13_16_3.txt"].contains(&file.name) {
             for payload in ["-", "00"] {
                 let given = file.check("a payload", DAMAGED, |words| {
                     (words[6] == "fail").then(|| with_word(words, 3, |_| payload.to_owned())).flatten()
