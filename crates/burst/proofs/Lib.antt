@@ -4,3 +4,4 @@ pub mod Parts
 pub mod Accepted
 pub mod Turns
 pub mod Claims
+pub mod LevelFive
