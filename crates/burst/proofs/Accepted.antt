@@ -31,6 +31,7 @@ ready ns bytes room places e =
     }
 
 -- a part has 108 bytes after its frame is opened
-pub alone-size : (level : Level) (ciph : List ℕ → List ℕ) (fs ns o : List ℕ) → 108 * length ns ≤ length o → (k : ℕ) → k < length ns → length (alone level ciph fs ns o k .out) ≡ 108
+pub alone-size : (level : Level) (ciph : List ℕ → List ℕ) (fs ns o : List ℕ) → 108 * length ns ≤ length o
+    → (k : ℕ) → k < length ns → length (alone level ciph fs ns o k .out) ≡ 108
 unfolding alone
 alone-size level ciph fs ns o fits k h = open-length level ciph (frameAt fs ns k) (partAt o k) ∙ length-part o k (omega arith)

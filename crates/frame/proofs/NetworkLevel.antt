@@ -1,7 +1,7 @@
 -- A value of each claim in specs/NetworkLevel.antt.
 -- Assumes nothing.
 use mathlib.Core.Path.{_≡_, refl, sym, ap, _∙_}
-use mathlib.Core.List.{List, _∷_, _++_, append-assoc}
+use mathlib.Core.List.{List, [], _∷_, _++_, append-assoc, append-nil}
 use Prim.Native.Nat.{ℕ, _+_, _*_, _%_, _<_}
 use native.Mathlib.Omega.{arith}
 use lib.Dec.{eqb}
@@ -42,18 +42,15 @@ first-of : (m : NwkSecurityLevel) (a : NwkAuxHeader) (rest : List ℕ) → level
 unfolding auxBytes atLevel withLevel securityByte packed le tab
 first-of m a rest h = low-bits (levelCode m) _ h
 
-first-alone : (m : NwkSecurityLevel) (a : NwkAuxHeader) → levelCode m < 8 → getD (auxBytes (atLevel m a)) 0 0 % 8 ≡ levelCode m
-unfolding auxBytes atLevel withLevel securityByte packed le tab
-first-alone m a h = low-bits (levelCode m) _ h
-
 used : (l : Level) (n : ℕ) (h : NwkHeader) (a : NwkAuxHeader) → levelCode (fieldLevel l) ≡ n → n < 8 → LevelUsed l n h a
 unfolding nonce authenticated withLevel securityByte packed le tab
 used l n h a e small =
     let fits : levelCode (fieldLevel l) < 8 = omega (arith, e) in
     record {
       nonce = low-bits (levelCode (fieldLevel l)) _ fits ∙ e;
-      authenticated = ap (λ (s : List ℕ). getD s 0 0 % 8) (drop-at (headerBytes h) (auxBytes (atLevel (fieldLevel l) a)) (length (headerBytes h)) refl)
-          ∙ first-alone (fieldLevel l) a fits ∙ e;
+      authenticated = ap (λ (s : List ℕ). getD s 0 0 % 8)
+          (drop-at (headerBytes h) (auxBytes (atLevel (fieldLevel l) a)) (length (headerBytes h)) refl ∙ sym (append-nil (auxBytes (atLevel (fieldLevel l) a))))
+          ∙ first-of (fieldLevel l) a [] fits ∙ e;
     }
 
 pub level-in-nonce : LevelInNonce

@@ -132,7 +132,8 @@ same-answer zero f r v o o′ = same-given (isSealed (r .header)) f r v o o′
 same-answer (suc n) f r v o o′ = refl
 
 -- 108 bytes have room for every payload: the answer is that of every longer output
-pub open-roomy : (l : Level) (ciph : List ℕ → List ℕ) (f o o′ : List ℕ) → Below 256 f → 108 ≤ length o → 108 ≤ length o′ → openWith l ciph f o .answer ≡ openWith l ciph f o′ .answer
+pub open-roomy : (l : Level) (ciph : List ℕ → List ℕ) (f o o′ : List ℕ) → Below 256 f → 108 ≤ length o → 108 ≤ length o′
+    → openWith l ciph f o .answer ≡ openWith l ciph f o′ .answer
 unfolding openWith openBy openRefusal
 open-roomy l ciph f o o′ u r r′ =
     let x = readFrame f in

@@ -178,7 +178,8 @@ others-as-before l key h a p o =
           ap (λ (n : ℕ). written n (frameBytes h p) o) (writer-before (badHeader h) (agrees h) _ (λ z. other (written-number _ (frameBytes h p) o ∙ z)));
       sealed = λ other.
           ap (λ (n : ℕ). sealBy n (sealedBytes l key h (orBlank a) p) o)
-          (seal-before (isOther l) (badHeader h) (agrees h) (h .«frame_control» .security) (isAbsent a) (auxAgrees (orBlank a)) (noIeee h (orBlank a)) _ (λ z. other (seal-number l key h a p o ∙ z)));
+          (seal-before (isOther l) (badHeader h) (agrees h) (h .«frame_control» .security) (isAbsent a) (auxAgrees (orBlank a)) (noIeee h (orBlank a)) _
+          (λ z. other (seal-number l key h a p o ∙ z)));
     }
 
 -- ---- what sealing ensures

@@ -49,7 +49,7 @@ headersRefusal h a =
 abbrev pub counterOf : OptionAuxHeader → ℕ
 counterOf a = orBlank a .«frame_counter»
 
--- document 02's 29 for another level; those; document 02's 21 if the counter is the last one; then 17 and 18
+-- document 02's 29 for another level; the headers' numbers; document 02's 21 if the counter is the last one; then 17 and 18
 unfoldable pub sealRefusals : Bool → Level → NwkHeader → OptionAuxHeader → ℕ → ℕ → List Condition
 sealRefusals isLast l h a n room =
     on 29 (isOther l)

@@ -1,4 +1,5 @@
-// CCM called alone, at the level of a number, and one block of AES. Inputs and outputs of fixed length are arrays, so that no other length can be given.
+// CCM called alone, at the level of a number, and one block of AES. Inputs and outputs of fixed length are arrays, so that no other
+// length can be given.
 use crate::answer::answer;
 use types::Key;
 use types::level::Level;
@@ -10,8 +11,8 @@ ghost use Rattle.types.specs.Levels.{networkLevel, tagLength};
 ghost use Rattle.ccm.specs.Operations.{encryptCcm, decryptCcm, splitMic};
 ghost use Rattle.nwk.specs.Answer.{answer, answerBy};
 
-// Seal a payload: the ciphertext goes to the front of the output, and the MIC to its own 16 places; refusals 29, 1 and
-// 18.
+// Seal a payload: the ciphertext goes to the front of the output, and the MIC to its own 16 places;
+// refusals 29, 1 and 18.
 #[no_mangle]
 pub extern "C" fn nwk_encrypt_ccm(
     level: u64,
@@ -38,8 +39,8 @@ pub extern "C" fn nwk_encrypt_ccm(
     answer(sealed.refusal, sealed.length)
 }
 
-// Open a ciphertext with its MIC: the payload goes to the front of the output; refusals 29, 1, 18 and
-// 19. Places past the tag are not read.
+// Open a ciphertext with its MIC: the payload goes to the front of the output. Places past the tag are not read; refusals 29,
+// 1, 18 and 19.
 #[no_mangle]
 pub extern "C" fn nwk_decrypt_ccm(
     level: u64,

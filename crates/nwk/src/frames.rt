@@ -142,9 +142,9 @@ pub extern "C" fn nwk_open(
     opened_answer(mark, run.length)
 }
 
-// Open a burst: frames end to end, as long as the lengths say, at one level and under one key. Frame k
-// goes to the 108 bytes of the output from
-// 108 × k, and its answer to place k of the answers; the length is the number of frames. Refusal 20.
+// Open a burst: frames end to end, as long as the lengths say, at one level and under one key. Frame k goes to the 108 bytes of the
+// output from 108 × k, and its answer to place k of the answers; the length is the number of frames. Refusal 20, and 29 as each
+// frame's answer.
 #[no_mangle]
 pub extern "C" fn nwk_open_burst(
     level: u64,
