@@ -1,4 +1,6 @@
 // AES-128, FIPS 197 section 5: the round keys of a key, and the cipher of a block under them.
+#![tactic(auto)]
+
 ghost use Rattle.std.specs.Prelude.{◌≡◌, [], ◌∷◌};
 ghost use Rattle.octets.specs.Numbers.{bytes_of};
 ghost use Rattle.aes.specs.KeyExpansion.{key_expansion};

@@ -1,4 +1,6 @@
 // The field GF(2^8) of FIPS 197 by its tables: the S-box, and the multiples that MixColumns takes of what it substitutes.
+#![tactic(auto)]
+
 ghost use Rattle.std.specs.Prelude.{◌≡◌, ◌++◌, ◌*◌, ◌≤◌, ◌<◌};
 ghost use Rattle.octets.specs.Numbers.{le};
 ghost use Rattle.field.specs.SBox.{sbox, s_box_table};

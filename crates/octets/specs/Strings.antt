@@ -1,6 +1,6 @@
 -- Byte strings: lists of numbers, read by index with 0 past the end. In order: a list given by its entries; a part
 -- overwritten; exclusive or; what it is to be a list of bytes.
--- Not here: `length`, `get_or`, `take`, `drop` (the kit's `lib.ListN`). The laws are in proofs/.
+-- Not here: `length`, `get_or`, `take`, `drop`, which are the kit's. The laws are in proofs/.
 -- Assumes nothing.
 use Rattle.std.specs.Prelude.{ℕ, zero, suc, ◌+◌, ◌<◌, List, [], ◌∷◌, ◌++◌, length, get_or, take, drop}
 use Rattle.std.specs.Int.Bits.{bit_xor}

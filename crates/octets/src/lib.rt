@@ -1,4 +1,5 @@
 // Byte strings: reading with 0 past the end, copying, and numbers least significant byte first.
+#![tactic(auto)]
 
 ghost use Rattle.std.specs.Prelude.{◌≡◌, ◌&&◌, ◌||◌, [], ◌∷◌, ◌+◌, ◌-◌, ◌*◌, ◌≤◌, ◌<◌, ltb, length, get_or};
 ghost use Rattle.octets.specs.Strings.{over};
@@ -9,7 +10,7 @@ ghost use Rattle.octets.specs.Refusals.{on, by, first_of};
 pub mod refusals;
 
 // What a writer answers: a refusal's number with length 0, or 0 and how many bytes it wrote.
-#[derive(Drop)]
+#[derive(Clone, Copy)]
 pub struct Written {
     pub refusal: u8,
     pub length: usize,

@@ -3,7 +3,7 @@
 ghost use Rattle.std.specs.Prelude.{◌≡◌, ◌≤◌};
 ghost use Rattle.types.specs.Levels.{network_level, is_other, tag_length};
 
-#[derive(Drop)]
+#[derive(Clone, Copy)]
 pub enum Level {
     EncMic32,
     EncMic64,

@@ -1,6 +1,7 @@
 // Addresses and keys, as numbers and as bytes: the port of types.rs, hex text left out. The Rust's
 // `Result` with the bytes that remain is here a record of the value and how many bytes it took,
 // with 0 for both where the bytes do not give one.
+#![tactic(auto)]
 
 ghost use Rattle.std.specs.Prelude.{◌≡◌, ◌+◌, ◌≤◌, length};
 ghost use Rattle.octets.specs.Strings.{over};
@@ -19,54 +20,54 @@ pub const MAX_NSDU_SIZE: usize = 108;
 pub const LAST_COUNTER: u32 = 0xFFFF_FFFF;
 
 // A 16-bit network address.
-#[derive(Drop)]
+#[derive(Clone, Copy)]
 pub struct Nwk(pub u16);
 
 // What stands in a list of addresses past its count.
 pub const NO_NWK: Nwk = Nwk(0);
 
 // A 16-bit PAN identifier.
-#[derive(Drop)]
+#[derive(Clone, Copy)]
 pub struct PanId(pub u16);
 
 // A 64-bit IEEE address, its bytes in wire order.
-#[derive(Drop)]
+#[derive(Clone, Copy)]
 pub struct Eui64(pub [u8; 8]);
 
 // An optional long address. Inside an enum an IEEE is a 64-bit number, its first wire byte lowest.
-#[derive(Drop)]
+#[derive(Clone, Copy)]
 pub enum OptionEui64 {
     Absent,
     Present(u64),
 }
 
 // A 128-bit key.
-#[derive(Drop)]
+#[derive(Clone, Copy)]
 pub struct Key(pub [u8; 16]);
 
 // What reading an address gives; used is 0 where the bytes end early.
-#[derive(Drop)]
+#[derive(Clone, Copy)]
 pub struct NwkRead {
     pub nwk: Nwk,
     pub used: usize,
 }
 
 // What reading a PAN identifier gives, likewise.
-#[derive(Drop)]
+#[derive(Clone, Copy)]
 pub struct PanIdRead {
     pub pan_id: PanId,
     pub used: usize,
 }
 
 // What reading an IEEE address gives, likewise.
-#[derive(Drop)]
+#[derive(Clone, Copy)]
 pub struct Eui64Read {
     pub eui64: Eui64,
     pub used: usize,
 }
 
 // What reading a key gives; used is 0 where the bytes are not exactly 16.
-#[derive(Drop)]
+#[derive(Clone, Copy)]
 pub struct KeyRead {
     pub key: Key,
     pub used: usize,

@@ -1,0 +1,14 @@
+-- `octets::read_u16` meets its contract: a lower and an upper byte. Assumes nothing.
+use mathlib.Core.Path.{sym}
+use native.Mathlib.Omega.{arith}
+use Rattle.octets.specs.Numbers.{le_at}
+use Rattle.octets.proofs.Numbers.{le_at_past}
+use Rattle.octets.proofs.read_u16.Goals as goal
+
+pub returns-then-s-i : goal.returns-then-s-i
+returns-then-s-i c =
+    sym (le_at_past 2 c.args.s.now c.args.i c.if-s-i.true)
+
+pub returns : goal.returns
+unfolding le_at
+returns c = omega arith
