@@ -1,5 +1,7 @@
 // CCM (SP 800-38C) with AES-128, a 13-byte nonce and the tag of the network's level: sealing, opening, and the splitting of a MIC
 // from its ciphertext. The port of crypto.rs, refusing by number.
+#![tactic(auto)]
+
 ghost use Rattle.std.specs.Prelude.{◌≡◌, ◌≤◌, length, take, drop};
 ghost use Rattle.octets.specs.Strings.{over};
 ghost use Rattle.types.specs.Levels.{tag_length};
@@ -17,7 +19,7 @@ pub const MAX_LENGTH: usize = 127;
 
 // What sealing gives: the refusal number or 0, how many bytes of the output are the ciphertext, and the MIC beside it, at the front of 16
 // places of which the rest are 0.
-#[derive(Drop)]
+#[derive(Clone, Copy)]
 pub struct Sealed {
     pub refusal: u8,
     pub length: usize,
@@ -25,7 +27,7 @@ pub struct Sealed {
 }
 
 // What splitting gives: the refusal number or 0, the length of the ciphertext in front, and the MIC behind it, in 16 places likewise.
-#[derive(Drop)]
+#[derive(Clone, Copy)]
 pub struct Split {
     pub refusal: u8,
     pub length: usize,

@@ -18,7 +18,7 @@ use Rattle.header.specs.Reading.{read_header}
 use Rattle.header.specs.Auxiliary.{aux_bytes, read_aux}
 use Rattle.header.specs.Writing.{header_bytes}
 use Rattle.header.specs.Same.{SameHeader, cleared, HeaderFits, AuxFits}
-use Rattle.header.proofs.ReadBack.{read_back, same_cleared}
+use Rattle.header.proofs.ReadBack.{read_back as header_read_back, same_cleared}
 use Rattle.header.proofs.AuxiliaryLaws.{aux_read_back}
 use Rattle.ccm.specs.Verification.{Verified}
 use Rattle.ccm.specs.Operations.{ciph_of, opened_by}
@@ -97,7 +97,7 @@ module _ (l : Level) (key : List ℕ) (h : NwkHeader) (x : NwkAuxHeader) (p : Li
     short = rw (← in_three, sealed_length_lem) whole
 
     header_part : read_header (sealed_bytes l key h x p) ≡ record { refusal = 0; length = length (header_bytes h); header = cleared h }
-    header_part = ap read_header in_three ∙ read_back h _ fits able.fields short
+    header_part = ap read_header in_three ∙ header_read_back h _ fits able.fields short
 
     behind-header : drop (length (header_bytes h)) (sealed_bytes l key h x p) ≡ aux_bytes (at_level sent_level x) ++ sealed_part
     behind-header = ap (drop (length (header_bytes h))) in_three ∙ drop_at (header_bytes h) _ (length (header_bytes h)) refl

@@ -86,5 +86,6 @@ other_level l key h a p f o e =
 -- ---- level 5
 
 pub level_five : LevelFive
-unfolding tag_length first_of seal_frame seal_refusal seal_refusals sealed_length sealed_bytes generated open_with open_by open_refusal open_refusals verified nonce authenticated seal_formerly open_formerly
+unfolding tag_length first_of seal_frame seal_refusal seal_refusals sealed_length sealed_bytes generated
+    open_with open_by open_refusal open_refusals verified nonce authenticated seal_formerly open_formerly
 level_five key h a p f o = record { sealing = refl; opening = refl }

@@ -1,5 +1,7 @@
 // NWK frames: reading, writing without a key, sealing and opening (Zigbee Specification 3.3.1, 4.3.1). The port of
 // frame.rs, refusing by number.
+#![tactic(auto)]
+
 ghost use Rattle.std.specs.Prelude.{◌≡◌, cond, ◌∷◌, ◌+◌, ◌≤◌, drop};
 ghost use Rattle.octets.specs.Refusals.{by, first_of};
 ghost use Rattle.frame.specs.Reading.{aux_if, frame_refused, frame_refusal, read_frame, payload_of};
@@ -19,14 +21,14 @@ pub mod sealing;
 mod security;
 
 // An optional auxiliary header.
-#[derive(Drop)]
+#[derive(Clone, Copy)]
 pub enum OptionAuxHeader {
     Absent,
     Present(NwkAuxHeader),
 }
 
 // What a payload is: bytes that the NWK layer does not interpret, or a NWK command.
-#[derive(Drop)]
+#[derive(Clone, Copy)]
 pub enum NwkPayload {
     Opaque,
     Command,
@@ -34,7 +36,7 @@ pub enum NwkPayload {
 
 // What reading a frame answers: a refusal's number with length 0 and blank headers, or 0, the two headers and how many
 // bytes they take. The payload or ciphertext is the rest of the frame.
-#[derive(Drop)]
+#[derive(Clone, Copy)]
 pub struct FrameRead {
     pub refusal: u8,
     pub length: usize,
@@ -43,7 +45,7 @@ pub struct FrameRead {
 }
 
 // What sealing a frame answers: a refusal's number with length 0, or 0 and the frame's length.
-#[derive(Drop)]
+#[derive(Clone, Copy)]
 pub struct FrameSealed {
     pub refusal: u8,
     pub length: usize,
@@ -51,7 +53,7 @@ pub struct FrameSealed {
 
 // The mark of an opened frame: none beside a refusal; clear, where nothing authenticates the payload; or sealed, where CCM
 // does.
-#[derive(Drop)]
+#[derive(Clone, Copy)]
 pub enum Mark {
     Unmarked,
     Clear,
@@ -61,7 +63,7 @@ pub enum Mark {
 // What opening a frame answers: a refusal's number with no mark, length 0, no address and blank headers, or 0, the mark, the
 // payload's length, the long address that the nonce used (none of a clear frame) and the two headers as read.
 // `opening::payload` gives the payload.
-#[derive(Drop)]
+#[derive(Clone, Copy)]
 pub struct FrameOpened {
     pub refusal: u8,
     pub mark: Mark,

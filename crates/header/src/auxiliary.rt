@@ -10,7 +10,7 @@ use octets::{Written, bit_of, refusals};
 use types::OptionEui64;
 
 // Which key secured the frame.
-#[derive(Drop)]
+#[derive(Clone, Copy)]
 pub enum NwkSecurityHeaderKeyId {
     DataKey,
     NetworkKey,
@@ -19,7 +19,7 @@ pub enum NwkSecurityHeaderKeyId {
 }
 
 // The security level. A frame is sent with NoSecurity here and secured with the network's level.
-#[derive(Drop)]
+#[derive(Clone, Copy)]
 pub enum NwkSecurityLevel {
     NoSecurity,
     Mic32,
@@ -32,7 +32,7 @@ pub enum NwkSecurityLevel {
 }
 
 // The security control field, bits 0 to 6 in this order; bit 7 is not kept.
-#[derive(Drop)]
+#[derive(Clone, Copy)]
 pub struct NwkSecurityHeaderControlField {
     pub security_level: NwkSecurityLevel,
     pub key_id: NwkSecurityHeaderKeyId,
@@ -41,7 +41,7 @@ pub struct NwkSecurityHeaderControlField {
 }
 
 // An auxiliary header.
-#[derive(Drop)]
+#[derive(Clone, Copy)]
 pub struct NwkAuxHeader {
     pub security_control: NwkSecurityHeaderControlField,
     pub frame_counter: u32,
@@ -51,7 +51,7 @@ pub struct NwkAuxHeader {
 
 // What reading an auxiliary header answers: a refusal's number with length 0 and a blank header, or 0, the header's
 // length in bytes and the header.
-#[derive(Drop)]
+#[derive(Clone, Copy)]
 pub struct AuxRead {
     pub refusal: u8,
     pub length: usize,

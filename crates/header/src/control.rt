@@ -6,7 +6,7 @@ ghost use Rattle.header.specs.Control.{control_sizes, control_values, type_code,
 use octets::bit_of;
 
 // The frame's type; the code 2 is not declared.
-#[derive(Drop)]
+#[derive(Clone, Copy)]
 pub enum NwkFrameType {
     Data,
     Command,
@@ -14,7 +14,7 @@ pub enum NwkFrameType {
 }
 
 // Route discovery; the code 3 is not declared.
-#[derive(Drop)]
+#[derive(Clone, Copy)]
 pub enum NwkRouteDiscovery {
     Suppress,
     Enable,
@@ -22,7 +22,7 @@ pub enum NwkRouteDiscovery {
 }
 
 // The frame control field, bits 0 to 15 in this order.
-#[derive(Drop)]
+#[derive(Clone, Copy)]
 pub struct NwkFrameControl {
     pub frame_type: NwkFrameType,
     pub protocol_version: u8,

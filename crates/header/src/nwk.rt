@@ -34,7 +34,7 @@ pub const BROADCAST_LOW_POWER_ROUTERS: u16 = 0xFFFB;
 
 // A NWK header. The relays of a source route are the first of `relays`, as many as its count says; on reading the
 // places past the count are 0, on writing they mean nothing.
-#[derive(Drop)]
+#[derive(Clone, Copy)]
 pub struct NwkHeader {
     pub frame_control: NwkFrameControl,
     pub destination: Nwk,
@@ -50,7 +50,7 @@ pub struct NwkHeader {
 
 // What reading a header answers: a refusal's number with length 0 and a blank header, or 0, the header's length in
 // bytes and the header.
-#[derive(Drop)]
+#[derive(Clone, Copy)]
 pub struct HeaderRead {
     pub refusal: u8,
     pub length: usize,

@@ -6,14 +6,14 @@ ghost use Rattle.header.specs.Optional.{has_multicast, multicast_if, multicast_b
 use types::Nwk;
 
 // An optional multicast control byte.
-#[derive(Drop)]
+#[derive(Clone, Copy)]
 pub enum OptionMulticast {
     Absent,
     Present(u8),
 }
 
 // An optional source route: its relay count and relay index. The relays stand beside it in the header.
-#[derive(Drop)]
+#[derive(Clone, Copy)]
 pub enum NwkSourceRoute {
     Absent,
     Present { relay_count: u8, relay_index: u8 },

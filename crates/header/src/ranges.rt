@@ -1,5 +1,6 @@
-// Support for proofs: each function promises of every value what its type's range says, and does nothing. The premises on
+// Support for proofs: each function promises of every value what its type's range says, and changes nothing. The premises on
 // ranges of the laws are exactly these promises.
+ghost use Rattle.std.specs.Prelude.{◌<◌};
 ghost use Rattle.octets.specs.Strings.{Below};
 ghost use Rattle.header.specs.Same.{IeeeFits, MulticastFits, RouteFits, RelaysFit, HeaderFits, AuxFits};
 
@@ -20,10 +21,21 @@ pub fn bytes_fit(f: &[u8])
     count8(f);
 }
 
+// A relay is within its range.
+fn relay_fits(relay: Nwk)
+    ensures { relay.0 < 65536 }
+{
+    let _address = relay.0;
+}
+
 // Every relay is within its range.
 pub fn relays_fit(relays: [Nwk; 54])
     ensures { RelaysFit relays }
-{}
+{
+    for i in 0..54 {
+        relay_fits(relays[i]);
+    }
+}
 
 // Every optional long address is within its range.
 pub fn ieee_fits(o: OptionEui64)
