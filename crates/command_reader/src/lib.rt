@@ -1,4 +1,5 @@
 // Reading a NWK command (document 01, "Commands"): the typed body where there is one, else all the bytes.
+#![tactic(auto)]
 
 mod bodies;
 mod lists;

@@ -10,14 +10,11 @@ use mir.Val.{Val}
 use denote.Shadow.{shadow}
 use denote.Array.{each}
 use Rattle.types.specs.Addresses.{no_nwk}
-use Rattle.types.specs.contracts.Nwk as nwk
-use Rattle.types.specs.contracts.PanId as pan-id
 use Rattle.commands.specs.Commands.{no_link, no_pan_id, no_power}
 use Rattle.commands.proofs.Ranges.{InPower, Ranged}
 use Rattle.commands.proofs.InRange.{InRange, in_range}
 use Rattle.commands.specs.contracts.NwkCommandWithLists as nwk-command-with-lists
 use Rattle.commands.specs.contracts.NwkLinkStatus as nwk-link-status
-use Rattle.commands.specs.contracts.NwkPowerListEntry as nwk-power-list-entry
 use Rattle.types.specs.declared.{Nwk.Nwk, PanId.PanId}
 use Rattle.commands.specs.declared.{NwkCommandWithLists.NwkCommandWithLists, NwkLinkStatus.NwkLinkStatus}
 
@@ -45,7 +42,7 @@ pub record CommandFits (f : NwkCommandWithLists) : Type 0 where
 
 -- each entry of the link statuses
 links_fit : (xs : List NwkLinkStatus) (us : List Val)
-    → shadow (each (nwk-link-status.the_field).row.Denot (nwk-link-status.the_field).row.own_val (map (nwk-link-status.the_field).into xs) us)
+    → shadow (each (nwk-link-status.the_row).Denot (nwk-link-status.the_row).own_val xs us)
     → (k : ℕ) → LinkFits (get_or xs k no_link)
 links_fit [] us s k = omega arith
 links_fit (x ∷ xs) [] s k = absurd s
@@ -63,14 +60,14 @@ command_fits f vs s =
     let at_links = s.1.1.1.1.1.1.0.1 in
     record {
       command = r.command;
-      relays = record { length_is = sized (nwk.the_field).into f.relays s.1.1.1.1.0.1.0.1; entries = r.relays };
+      relays = record { length_is = s.1.1.1.1.0.1.0.1; entries = r.relays };
       links = record {
-        length_is = sized (nwk-link-status.the_field).into f.link_statuses at_links.0.1;
+        length_is = at_links.0.1;
         entries = links_fit f.link_statuses _ at_links.1;
       };
-      pan_ids = record { length_is = sized (pan-id.the_field).into f.pan_ids s.1.1.1.1.1.1.1.1.0.1.0.1; entries = r.pan_ids };
+      pan_ids = record { length_is = s.1.1.1.1.1.1.1.1.0.1.0.1; entries = r.pan_ids };
       powers = record {
-        length_is = sized (nwk-power-list-entry.the_field).into f.power_list s.1.1.1.1.1.1.1.1.1.1.0.1.0.1;
+        length_is = s.1.1.1.1.1.1.1.1.1.1.0.1.0.1;
         entries = r.powers;
       };
       bytes = r.bytes;

@@ -56,13 +56,13 @@ module _ (f : NwkCommandWithLists) (w : CommandFits f) where
   relays_stand : Stands route_record_format.entry relay_entry relay_of no_nwk 53 f.relay_count f.relays (command_record f) 25
   unfolding command_record lists_record route_record_format relay_of relay_entry widths width
   relays_stand =
-      list_back route_record_format.entry relay_entry relay_of no_nwk (λ x. refl) (λ x. refl) 53 f.relay_count f.relays w.relays.length-is
+      list_back route_record_format.entry relay_entry relay_of no_nwk (λ x. refl) (λ x. refl) 53 f.relay_count f.relays w.relays.length_is
       (λ k. (w.relays.entries k, tt)) (to_relays f) (from_links f) (command_record f) 25 (at_relays f) refl
 
   links_stand : Stands link_record_entry link_entry link_of no_link 31 f.link_statuses_len f.link_statuses (command_record f) 132
   unfolding command_record lists_record link_record_entry link_of link_entry widths width
   links_stand =
-      list_back link_record_entry link_entry link_of no_link (λ x. refl) (λ x. refl) 31 f.link_statuses_len f.link_statuses w.links.length-is
+      list_back link_record_entry link_entry link_of no_link (λ x. refl) (λ x. refl) 31 f.link_statuses_len f.link_statuses w.links.length_is
       (λ k. let h = w.links.entries k in (h.0, (h.1, (h.2, tt)))) (to_links f) (from_pan_ids f) (command_record f) 132
       (at_links f) (simp append_assoc)
 
@@ -70,13 +70,13 @@ module _ (f : NwkCommandWithLists) (w : CommandFits f) where
   unfolding command_record lists_record network_report_format pan_id_of pan_id_entry widths width
   pan_ids_stand =
       list_back network_report_format.entry pan_id_entry pan_id_of no_pan_id (λ x. refl) (λ x. refl) 31 f.report_information_count f.pan_ids
-      w.pan_ids.length-is (λ k. (w.pan_ids.entries k, tt)) (to_pan_ids f) (from_powers f) (command_record f) 257 (at_pan_ids f)
+      w.pan_ids.length_is (λ k. (w.pan_ids.entries k, tt)) (to_pan_ids f) (from_powers f) (command_record f) 257 (at_pan_ids f)
       (simp append_assoc)
 
   powers_stand : Stands link_power_delta_format.entry power_entry power_of no_power 35 f.list_count f.power_list (command_record f) 320
   unfolding command_record lists_record link_power_delta_format power_of power_entry widths width
   powers_stand =
-      list_back link_power_delta_format.entry power_entry power_of no_power (λ x. refl) (λ x. refl) 35 f.list_count f.power_list w.powers.length-is
+      list_back link_power_delta_format.entry power_entry power_of no_power (λ x. refl) (λ x. refl) 35 f.list_count f.power_list w.powers.length_is
       (λ k. let h = w.powers.entries k in (h.0, (h.1, tt))) (to_powers f) (from_bytes f) (command_record f) 320 (at_powers f)
       (simp append_assoc)
 

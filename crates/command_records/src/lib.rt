@@ -1,5 +1,6 @@
 // Commands as byte records of fixed size and layout, the form in which they cross the C boundary: the record of a
 // command, and the command of a record.
+#![tactic(auto)]
 
 mod fields;
 pub mod links;

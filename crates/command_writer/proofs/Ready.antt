@@ -104,4 +104,4 @@ ready_by f room r e c q =
     let a : Accepted f room = accepts f room e in
     let l = length_by_lem f.command f in
     subst (λ (d : NwkCommand). Ready d f room) q
-    (record { fits = sym (misfits_test f r) ∙ a.fields_fit; short = rw l at a.short; enough = rw l at a.room-enough })
+    (record { fits = sym (misfits_test f r) ∙ a.fields_fit; short = rw l at a.short; enough = rw l at a.room_enough })

@@ -1,4 +1,5 @@
 // Writing a NWK command (document 01, "Commands"): refusals 13, 17 and 18, then the bytes at the front of a lent output.
+#![tactic(auto)]
 
 mod checks;
 mod encoders;

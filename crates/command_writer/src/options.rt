@@ -1,4 +1,5 @@
 // Bytes of bit parts, lowest first. Fields spelled `reserved` are 0.
+#![tactic(auto, unfolding(octets::specs::Fields::packed))]
 
 ghost use Rattle.std.specs.Prelude.{◌≡◌, [], ◌∷◌, ◌≤◌};
 ghost use Rattle.octets.specs.Fields.{bit, packed};

@@ -2,7 +2,7 @@
 -- that were read fit their fields. Fields go by induction on their list, entries by induction on theirs.
 -- Assumes nothing.
 use mathlib.Core.Path.{◌≡◌, refl, sym, ap, ◌∙◌}
-use mathlib.Core.Bool.{Bool, true, false, ◌&&◌, and-eq-true_iff, and_true, true≢false}
+use mathlib.Core.Bool.{Bool, true, false, ◌&&◌, and-eq-true_iff, and-true, true≢false}
 use mathlib.Core.Logic.{⊎_elim, ◌⊎◌, inl, inr}
 use native.Mathlib.Decide.{dec_lt}
 use mathlib.Core.List.{List, [], ◌∷◌, ◌++◌, append_assoc, append-nil}
@@ -241,7 +241,7 @@ held_suc : (fs : List Field) (g : ℕ → List ℕ) (n : ℕ)
     → held_entries fs (tab g (suc n)) ≡ (held_entries fs (tab g n) && held_fields fs (g n))
 unfolding tab held_entries
 held_suc fs g n =
-    held_append fs (tab g n) (g n ∷ []) ∙ ap (λ (b : Bool). held_entries fs (tab g n) && b) (and_true (held_fields fs (g n)))
+    held_append fs (tab g n) (g n ∷ []) ∙ ap (λ (b : Bool). held_entries fs (tab g n) && b) (and-true (held_fields fs (g n)))
 
 pub held_all : (fs : List Field) (g : ℕ → List ℕ) (n : ℕ) → ((k : ℕ) → k < n → held_fields fs (g k) ≡ true) → held_entries fs (tab g n) ≡ true
 unfolding tab held_entries

@@ -1,7 +1,7 @@
 -- A value of a Rattle type is within its type's range: what owning a command tells of its numbers and of its lists.
 -- Assumes nothing.
 use mathlib.Core.Path.{◌≡◌}
-use mathlib.Core.List.{List, [], ◌∷◌, map}
+use mathlib.Core.List.{List, [], ◌∷◌}
 use Prim.Native.Nat.{ℕ, zero, suc, ◌<◌}
 use native.Mathlib.Omega.{arith}
 use lib.ListN.{length, get_or}
@@ -46,7 +46,7 @@ command_in (NwkCommand.NetworkCommissioningResponse c) vs s = omega arith
 command_in NwkCommand.Unparsed vs s = tt
 
 -- each relay, no_nwk past the end
-relays_in : (xs : List Nwk) (us : List Val) → shadow (each (nwk.the_field).row.Denot (nwk.the_field).row.own_val (map (nwk.the_field).into xs) us)
+relays_in : (xs : List Nwk) (us : List Val) → shadow (each (nwk.the_row).Denot (nwk.the_row).own_val xs us)
     → (k : ℕ) → (get_or xs k no_nwk).0 < 65536
 relays_in [] us s k = omega arith
 relays_in (x ∷ xs) [] s k = absurd s
@@ -55,7 +55,7 @@ relays_in (x ∷ xs) (u ∷ us) s (suc k) = relays_in xs us s.1 k
 
 -- each PAN id, no_pan_id past the end
 pan_ids_in : (xs : List PanId) (us : List Val)
-    → shadow (each (pan-id.the_field).row.Denot (pan-id.the_field).row.own_val (map (pan-id.the_field).into xs) us)
+    → shadow (each (pan-id.the_row).Denot (pan-id.the_row).own_val xs us)
     → (k : ℕ) → (get_or xs k no_pan_id).0 < 65536
 pan_ids_in [] us s k = omega arith
 pan_ids_in (x ∷ xs) [] s k = absurd s
@@ -64,7 +64,7 @@ pan_ids_in (x ∷ xs) (u ∷ us) s (suc k) = pan_ids_in xs us s.1 k
 
 -- each entry of the power list, no_power past the end
 powers_in : (xs : List NwkPowerListEntry) (us : List Val)
-    → shadow (each (nwk-power-list-entry.the_field).row.Denot (nwk-power-list-entry.the_field).row.own_val (map (nwk-power-list-entry.the_field).into xs) us)
+    → shadow (each (nwk-power-list-entry.the_row).Denot (nwk-power-list-entry.the_row).own_val xs us)
     → (k : ℕ) → InPower (get_or xs k no_power)
 powers_in [] us s k = omega arith
 powers_in (x ∷ xs) [] s k = absurd s

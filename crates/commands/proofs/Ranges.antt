@@ -3,7 +3,7 @@
 -- types give, and `misfits_is` what is left.
 -- Assumes nothing.
 use mathlib.Core.Path.{◌≡◌, refl, sym, ap, ◌∙◌}
-use mathlib.Core.Bool.{Bool, true, false, not, ◌&&◌, ◌||◌, or_false}
+use mathlib.Core.Bool.{Bool, true, false, not, ◌&&◌, ◌||◌, or-false}
 use mathlib.Core.List.{List, [], ◌∷◌, ◌++◌}
 use Prim.Native.Nat.{ℕ, ◌^◌, ◌≤◌, ◌<◌}
 use native.Mathlib.Decide.{dec_lt}
@@ -194,7 +194,7 @@ list_misfits k id head entry d xs m n places heads entries =
     let v : Values = record { head = head; entries = entries_of entry d xs n } in
     let held : n ≤ m → held_values (format_of id) v ≡ true = λ h. all_held (format_of id) v (heads h) (entries_held _ entry d xs n entries) in
     ap (λ (b : Bool). b || not (held_values (format_of id) v)) (places _ ∙ ap (ltb m) (length_tab (λ (j : ℕ). entry (get_or xs j d)) n))
-    ∙ over_bound m n (held_values (format_of id) v) true held ∙ or_false (ltb m n)
+    ∙ over_bound m n (held_values (format_of id) v) true held ∙ or-false (ltb m n)
 
 -- a field of so many values
 not_below : (n m : ℕ) (b : Bool) → (n ≤ m → b ≡ true) → (m < n → b ≡ false) → not b ≡ ltb m n

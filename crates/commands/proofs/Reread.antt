@@ -232,7 +232,8 @@ network_report_writable NwkReportCommandIdentifierCode.Unknown s b = tt
 
 network_update_writable : (k : NwkUpdateCommandIdentifierCode) (s : List ℕ) → Below 256 s → Writable s (network_update_by k (values network_update_format s))
 unfolding meanings codings readings too_big
-network_update_writable (NwkUpdateCommandIdentifierCode.Known k) s b = (tt, (le_at_lt 8 s 2 b, b 10, le_at_lt 2 s 11 b), (tt, le-ltb 31 (get_or s 1 0 % 32) (small (mod-lt (get_or s 1 0) (omega arith)))))
+network_update_writable (NwkUpdateCommandIdentifierCode.Known k) s b =
+    (tt, (le_at_lt 8 s 2 b, b 10, le_at_lt 2 s 11 b), (tt, le-ltb 31 (get_or s 1 0 % 32) (small (mod-lt (get_or s 1 0) (omega arith)))))
 network_update_writable NwkUpdateCommandIdentifierCode.Unknown s b = tt
 
 timeout_request_writable : (k : EndDeviceTimeoutCode) (s : List ℕ) → Below 256 s → Writable s (timeout_request_by k (values timeout_request_format s))

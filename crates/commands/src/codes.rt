@@ -301,6 +301,7 @@ impl EndDeviceTimeout {
     }
 
     // The timeout in seconds: 10 for code 0, and 2 to the power n minutes for any other code n.
+    #[tactic(auto, unfolding(crate::specs::Writing::seconds))]
     pub fn duration(self) -> u32
         ensures { result ≡ seconds (timeout_code self) }
     {

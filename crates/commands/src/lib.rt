@@ -1,5 +1,6 @@
 // The fifteen NWK commands as values (Zigbee Specification 3.4): the types, their codes, a timeout's seconds and the
 // command id. What the bytes of a command are is in specs/; reading and writing them are the crates above.
+#![tactic(auto)]
 
 pub mod codes;
 pub mod lists;
@@ -12,7 +13,7 @@ ghost use Rattle.commands.specs.Writing.{typed_id, command_id};
 use types::{NO_NWK, Nwk, OptionEui64, PanId};
 
 // Zigbee 3.4: the command identifier, the first byte of a command.
-#[derive(Drop)]
+#[derive(Clone, Copy)]
 pub enum NwkCommandId {
     RouteRequest = 0x01,
     RouteReply = 0x02,
@@ -32,7 +33,7 @@ pub enum NwkCommandId {
 }
 
 // Zigbee 3.4.1.3.1.1.
-#[derive(Drop)]
+#[derive(Clone, Copy)]
 pub enum NwkRouteRequestManyToOne {
     NotManyToOne = 0,
     ManyToOneSenderSupportsRouteRecordTable = 1,
@@ -41,7 +42,7 @@ pub enum NwkRouteRequestManyToOne {
 }
 
 // Zigbee 3.4.1: Route Request.
-#[derive(Drop)]
+#[derive(Clone, Copy)]
 pub struct NwkRouteRequestCommand {
     pub many_to_one: NwkRouteRequestManyToOne,
     pub route_request_identifier: u8,
@@ -51,7 +52,7 @@ pub struct NwkRouteRequestCommand {
 }
 
 // Zigbee 3.4.2: Route Reply.
-#[derive(Drop)]
+#[derive(Clone, Copy)]
 pub struct NwkRouteReplyCommand {
     pub route_request_identifier: u8,
     pub originator_nwk: Nwk,
@@ -62,7 +63,7 @@ pub struct NwkRouteReplyCommand {
 }
 
 // Zigbee 3.4.3: the status codes.
-#[derive(Drop)]
+#[derive(Clone, Copy)]
 pub enum NwkNetworkStatus {
     LegacyNoRouteAvailable = 0x00,
     LegacyLinkFailure = 0x01,
@@ -88,14 +89,14 @@ pub enum NwkNetworkStatus {
 }
 
 // Zigbee 3.4.3: Network Status.
-#[derive(Drop)]
+#[derive(Clone, Copy)]
 pub struct NwkNetworkStatusCommand {
     pub status_code: NwkNetworkStatus,
     pub network_address: Nwk,
 }
 
 // Zigbee 3.4.4: Leave.
-#[derive(Drop)]
+#[derive(Clone, Copy)]
 pub struct NwkLeaveCommand {
     pub rejoin: bool,
     pub request: bool,
@@ -103,21 +104,21 @@ pub struct NwkLeaveCommand {
 }
 
 // Zigbee 3.4.6: the capability information's device type.
-#[derive(Drop)]
+#[derive(Clone, Copy)]
 pub enum NwkRejoinCapabilityInformationDeviceType {
     EndDevice = 0,
     Router = 1,
 }
 
 // Zigbee 3.4.6: the capability information's power source.
-#[derive(Drop)]
+#[derive(Clone, Copy)]
 pub enum NwkRejoinCapabilityInformationPowerSource {
     OtherPowerSource = 0,
     MainsPowered = 1,
 }
 
 // Zigbee 3.4.6: the capability information. The two reserved bits are kept both ways.
-#[derive(Drop)]
+#[derive(Clone, Copy)]
 pub struct NwkRejoinCapabilityInformation {
     pub alternate_pan_coordinator: bool,
     pub device_type: NwkRejoinCapabilityInformationDeviceType,
@@ -130,13 +131,13 @@ pub struct NwkRejoinCapabilityInformation {
 }
 
 // Zigbee 3.4.6: Rejoin Request.
-#[derive(Drop)]
+#[derive(Clone, Copy)]
 pub struct NwkRejoinRequestCommand {
     pub capability_information: NwkRejoinCapabilityInformation,
 }
 
 // Zigbee 3.4.7: the association status of IEEE 802.15.4, with Zigbee's address conflict.
-#[derive(Drop)]
+#[derive(Clone, Copy)]
 pub enum Nwk802154AssociationStatus {
     AssociationSuccessful = 0x00,
     PanAtCapacity = 0x01,
@@ -147,21 +148,21 @@ pub enum Nwk802154AssociationStatus {
 }
 
 // Zigbee 3.4.7: Rejoin Response.
-#[derive(Drop)]
+#[derive(Clone, Copy)]
 pub struct NwkRejoinResponseCommand {
     pub network_address: Nwk,
     pub rejoin_status: Nwk802154AssociationStatus,
 }
 
 // Zigbee 3.4.8: Link Status. Its list stands beside the command.
-#[derive(Drop)]
+#[derive(Clone, Copy)]
 pub struct NwkLinkStatusCommand {
     pub is_first_frame: bool,
     pub is_last_frame: bool,
 }
 
 // Zigbee 3.4.8: an entry of the link status list. Each cost has 3 bits.
-#[derive(Drop)]
+#[derive(Clone, Copy)]
 pub struct NwkLinkStatus {
     pub address: Nwk,
     pub incoming_cost: u8,
@@ -169,26 +170,26 @@ pub struct NwkLinkStatus {
 }
 
 // Zigbee 3.4.9: the report command identifier.
-#[derive(Drop)]
+#[derive(Clone, Copy)]
 pub enum NwkReportCommandIdentifier {
     PanIdentifierConflict = 0x00,
 }
 
 // Zigbee 3.4.9: Network Report. Its list of PAN ids stands beside the command.
-#[derive(Drop)]
+#[derive(Clone, Copy)]
 pub struct NwkNetworkReportCommand {
     pub report_command_identifier: NwkReportCommandIdentifier,
     pub epid: u64,
 }
 
 // Zigbee 3.4.10: the update command identifier.
-#[derive(Drop)]
+#[derive(Clone, Copy)]
 pub enum NwkUpdateCommandIdentifier {
     PanIdentifierUpdate = 0x00,
 }
 
 // Zigbee 3.4.10: Network Update. The count is a stored number of 5 bits; exactly one PAN id follows.
-#[derive(Drop)]
+#[derive(Clone, Copy)]
 pub struct NwkNetworkUpdateCommand {
     pub update_information_count: u8,
     pub update_command_identifier: NwkUpdateCommandIdentifier,
@@ -198,7 +199,7 @@ pub struct NwkNetworkUpdateCommand {
 }
 
 // Zigbee 3.4.11: the requested timeout (Table 3-58).
-#[derive(Drop)]
+#[derive(Clone, Copy)]
 pub enum EndDeviceTimeout {
     Seconds10 = 0,
     Minutes2 = 1,
@@ -218,14 +219,14 @@ pub enum EndDeviceTimeout {
 }
 
 // Zigbee 3.4.11: End Device Timeout Request.
-#[derive(Drop)]
+#[derive(Clone, Copy)]
 pub struct NwkEndDeviceTimeoutRequestCommand {
     pub request_timeout_enum: EndDeviceTimeout,
     pub end_device_configuration: u8,
 }
 
 // Zigbee 3.4.12: the response's status.
-#[derive(Drop)]
+#[derive(Clone, Copy)]
 pub enum NwkEndDeviceTimeoutResponseStatus {
     Success = 0x00,
     IncorrectValue = 0x01,
@@ -233,7 +234,7 @@ pub enum NwkEndDeviceTimeoutResponseStatus {
 }
 
 // Zigbee 3.4.12: End Device Timeout Response.
-#[derive(Drop)]
+#[derive(Clone, Copy)]
 pub struct NwkEndDeviceTimeoutResponseCommand {
     pub status: NwkEndDeviceTimeoutResponseStatus,
     pub mac_data_poll_keepalive_supported: bool,
@@ -242,7 +243,7 @@ pub struct NwkEndDeviceTimeoutResponseCommand {
 }
 
 // Zigbee 3.4.13: the power type.
-#[derive(Drop)]
+#[derive(Clone, Copy)]
 pub enum NwkLinkPowerDeltaType {
     Notification = 0,
     Request = 1,
@@ -250,41 +251,41 @@ pub enum NwkLinkPowerDeltaType {
 }
 
 // Zigbee 3.4.13: an entry of the power list.
-#[derive(Drop)]
+#[derive(Clone, Copy)]
 pub struct NwkPowerListEntry {
     pub device_address: Nwk,
     pub power_delta: u8,
 }
 
 // Zigbee 3.4.13: Link Power Delta. Its list stands beside the command.
-#[derive(Drop)]
+#[derive(Clone, Copy)]
 pub struct NwkLinkPowerDeltaCommand {
     pub command_type: NwkLinkPowerDeltaType,
 }
 
 // Zigbee 3.4.14: the commissioning type.
-#[derive(Drop)]
+#[derive(Clone, Copy)]
 pub enum NwkCommissioningType {
     InitialJoin = 0x00,
     Rejoin = 0x01,
 }
 
 // Zigbee 3.4.14: Network Commissioning Request.
-#[derive(Drop)]
+#[derive(Clone, Copy)]
 pub struct NwkNetworkCommissioningRequestCommand {
     pub commissioning_type: NwkCommissioningType,
     pub capability_information: NwkRejoinCapabilityInformation,
 }
 
 // Zigbee 3.4.15: Network Commissioning Response.
-#[derive(Drop)]
+#[derive(Clone, Copy)]
 pub struct NwkNetworkCommissioningResponseCommand {
     pub network_address: Nwk,
     pub status: Nwk802154AssociationStatus,
 }
 
 // A decoded command, or one kept as its bytes. Lists and bytes stand beside it, in NwkCommandWithLists.
-#[derive(Drop)]
+#[derive(Clone, Copy)]
 pub enum NwkCommand {
     RouteRequest(NwkRouteRequestCommand),
     RouteReply(NwkRouteReplyCommand),
@@ -307,7 +308,7 @@ pub enum NwkCommand {
 // A command with its lists. Only the command's own list counts: a route record's relays, a link status's entries, a
 // network report's PAN ids, a link power delta's power list, or the bytes of an unparsed command. Places past a count
 // are 0 on reading and mean nothing on writing.
-#[derive(Drop)]
+#[derive(Clone, Copy)]
 pub struct NwkCommandWithLists {
     pub command: NwkCommand,
     pub relay_count: u8,
@@ -323,7 +324,7 @@ pub struct NwkCommandWithLists {
 }
 
 // Which list of NwkCommandWithLists is a command's own.
-#[derive(Drop)]
+#[derive(Clone, Copy)]
 pub enum NwkCommandList {
     NoList,
     Relays,
@@ -334,7 +335,7 @@ pub enum NwkCommandList {
 }
 
 // What the typed body reader answers: a command, or that the bytes hold none.
-#[derive(Drop)]
+#[derive(Clone, Copy)]
 pub enum TypedBody {
     Typed(NwkCommand),
     NotTyped,
@@ -342,75 +343,75 @@ pub enum TypedBody {
 
 // What reading a command gives: the refusal number, 0 for none, and the command. After a refusal the command is the
 // blank one: unparsed, with no bytes.
-#[derive(Drop)]
+#[derive(Clone, Copy)]
 pub struct NwkCommandRead {
     pub refusal: u8,
     pub command: NwkCommandWithLists,
 }
 
 // What a number means as a code: a declared value, or none.
-#[derive(Drop)]
+#[derive(Clone, Copy)]
 pub enum NwkCommandIdCode {
     Known(NwkCommandId),
     Unknown,
 }
 
-#[derive(Drop)]
+#[derive(Clone, Copy)]
 pub enum NwkRouteRequestManyToOneCode {
     Known(NwkRouteRequestManyToOne),
     Unknown,
 }
 
-#[derive(Drop)]
+#[derive(Clone, Copy)]
 pub enum NwkNetworkStatusCode {
     Known(NwkNetworkStatus),
     Unknown,
 }
 
-#[derive(Drop)]
+#[derive(Clone, Copy)]
 pub enum Nwk802154AssociationStatusCode {
     Known(Nwk802154AssociationStatus),
     Unknown,
 }
 
-#[derive(Drop)]
+#[derive(Clone, Copy)]
 pub enum NwkReportCommandIdentifierCode {
     Known(NwkReportCommandIdentifier),
     Unknown,
 }
 
-#[derive(Drop)]
+#[derive(Clone, Copy)]
 pub enum NwkUpdateCommandIdentifierCode {
     Known(NwkUpdateCommandIdentifier),
     Unknown,
 }
 
-#[derive(Drop)]
+#[derive(Clone, Copy)]
 pub enum EndDeviceTimeoutCode {
     Known(EndDeviceTimeout),
     Unknown,
 }
 
-#[derive(Drop)]
+#[derive(Clone, Copy)]
 pub enum NwkEndDeviceTimeoutResponseStatusCode {
     Known(NwkEndDeviceTimeoutResponseStatus),
     Unknown,
 }
 
-#[derive(Drop)]
+#[derive(Clone, Copy)]
 pub enum NwkLinkPowerDeltaTypeCode {
     Known(NwkLinkPowerDeltaType),
     Unknown,
 }
 
-#[derive(Drop)]
+#[derive(Clone, Copy)]
 pub enum NwkCommissioningTypeCode {
     Known(NwkCommissioningType),
     Unknown,
 }
 
 // The seconds of a timeout code, or refusal 13 for a code above 14.
-#[derive(Drop)]
+#[derive(Clone, Copy)]
 pub struct EndDeviceTimeoutSeconds {
     pub refusal: u8,
     pub seconds: u32,

@@ -1,0 +1,11 @@
+-- `put_link_statuses` meets its contract: the count, and the link statuses behind it. Assumes nothing.
+use mathlib.Core.Path.{refl}
+use native.Mathlib.Omega.{arith}
+use Rattle.octets.proofs.Strings.{over_then}
+use Rattle.command_records.specs.Lists.{list_record}
+use Rattle.command_records.proofs.lists.put_link_statuses.Goals as goal
+
+pub returns : goal.returns
+unfolding list_record
+returns c =
+    over_then _ _ _ 132 133 _ _ (omega arith) refl c.put_byte.ensures c.put_links.ensures

@@ -1,0 +1,11 @@
+-- `links_at` meets its contract. Assumes nothing.
+use native.Mathlib.Omega.{arith}
+use Rattle.commands.specs.Commands.{no_link}
+use Rattle.commands.proofs.Filling.{fill_none, fill_next}
+use Rattle.command_records.proofs.read_lists.links_at.Goals as goal
+
+pub loop-i-init : goal.loop-i-init
+loop-i-init c = fill_none _ 31 no_link 31
+
+pub loop-i-preserved : goal.loop-i-preserved
+loop-i-preserved c = fill_next c.loop-i.invariant (omega arith) (omega arith) c.link_at.ensures
