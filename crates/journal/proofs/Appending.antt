@@ -1,7 +1,7 @@
 -- What stands behind the complete records of a journal is read apart from them: its records come behind theirs, and its kinds alone decide
 -- whether one is unknown. By induction along the bytes, some of which belong to a body. Assumes nothing.
 use mathlib.Core.Path.{◌≡◌, refl, sym, ap, ◌∙◌}
-use mathlib.Core.Bool.{true, false, true≢false}
+use mathlib.Core.Bool.{true, true≢false}
 use mathlib.Core.List.{List, [], ◌∷◌, ◌++◌}
 use Prim.Native.Nat.{ℕ, zero, suc, ◌+◌, ◌<◌, ◌≤◌}
 use native.Mathlib.Omega.{arith}

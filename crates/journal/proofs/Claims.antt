@@ -8,7 +8,7 @@ use native.Mathlib.Omega.{arith}
 use native.Mathlib.Nat.{zero-add, add-zero}
 use lib.Dec.{leb}
 use lib.ListN.{length, take, length-take}
-use borrow.Author.Tests.{leb-true, leb-false, lt-ltb, le-ltb, not_true, not-false}
+use borrow.Author.Tests.{leb-true, leb-false, lt-ltb, le-ltb, not-true, not-false}
 use borrow.Table.Steps.{cases}
 use Rattle.octets.specs.Strings.{Below}
 use Rattle.octets.specs.Writing.{Run, wrote}
@@ -140,7 +140,7 @@ pub largest_ceiling : LargestCeiling
 largest_ceiling j n =
     let c = (state_of j).ceiling in
     let some = some_ceiling (suc n) (records j) in
-    cases (leb c n) (λ e. not_true some (sym (covered j n) ∙ e) ∙ sym (le-ltb n c (leb-true c n e)))
+    cases (leb c n) (λ e. not-true some (sym (covered j n) ∙ e) ∙ sym (le-ltb n c (leb-true c n e)))
     (λ e. not-false some (sym (covered j n) ∙ e) ∙ sym (lt-ltb n c (leb-false c n e)))
 
 -- ---- the last key number

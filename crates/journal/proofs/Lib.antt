@@ -5,7 +5,6 @@ pub mod Keeping
 pub mod Passing
 pub mod Gathered
 pub mod Filling
-pub mod Calls
 pub mod Appending
 pub mod ReadBack
 pub mod SendersOnce

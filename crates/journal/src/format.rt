@@ -23,7 +23,7 @@ pub const SENDER_LENGTH: usize = 13;
 pub const KEY_NUMBER_LENGTH: usize = 2;
 
 // A ceiling; a sender, its first wire byte lowest, and its counter; an active key number.
-#[derive(Drop)]
+#[derive(Clone, Copy)]
 pub enum JournalRecord {
     Ceiling(u32),
     Sender(u64, u32),
@@ -44,6 +44,7 @@ pub fn is_kind(kind: u8) -> bool
 }
 
 // The length of the body that a kind fixes, or 0 if it is none.
+#[tactic(auto, unfolding(crate::specs::Format::body_length))]
 pub fn body_length(kind: u8) -> usize
     ensures { (result ≡ body_length kind) × (result ≤ 12) }
 {
@@ -60,6 +61,7 @@ pub fn body_length(kind: u8) -> usize
 }
 
 // The length of the record at place i, or 0 if no complete one of a known kind stands there.
+#[tactic(auto, unfolding(crate::specs::Scan::whole_at, crate::specs::Format::body_length))]
 pub fn whole_at(journal: &[u8], i: usize) -> usize
     ensures { result ≡ whole_at journal.now i }
 {
@@ -77,6 +79,7 @@ pub fn whole_at(journal: &[u8], i: usize) -> usize
 }
 
 // The complete record at place i.
+#[tactic(auto, unfolding(crate::specs::Format::record_at, crate::specs::Format::body_length))]
 pub fn record_at(journal: &[u8], i: usize) -> JournalRecord
     requires { i + body_length (get_or journal.now i 0) < length journal.now }
     ensures { result ≡ record_at journal.now i }
@@ -92,6 +95,7 @@ pub fn record_at(journal: &[u8], i: usize) -> JournalRecord
 }
 
 // The record of a kind, by those of the values that it takes.
+#[tactic(auto, unfolding(crate::specs::Writing::record_of_kind))]
 pub fn record_of_kind(kind: u8, sender: u64, counter: u32, key_number: u8) -> JournalRecord
     ensures { result ≡ record_of_kind kind sender counter key_number }
 {
@@ -105,6 +109,7 @@ pub fn record_of_kind(kind: u8, sender: u64, counter: u32, key_number: u8) -> Jo
 }
 
 // The length of a record.
+#[tactic(auto, unfolding(crate::specs::Format::record_bytes, octets::specs::Numbers::le))]
 pub fn record_length(r: JournalRecord) -> usize
     ensures { result ≡ length (record_bytes r) }
 {
@@ -142,6 +147,7 @@ pub fn put_key_number(out: &mut [u8], at: usize, key_number: u8)
 }
 
 // Write a record to the front of the output.
+#[tactic(auto, unfolding(crate::specs::Format::record_bytes, octets::specs::Numbers::le))]
 pub fn put_record(out: &mut [u8], r: JournalRecord)
     requires { length (record_bytes r) ≤ length out.old }
     ensures { out.new ≡ over out.old 0 (record_bytes r) }

@@ -1,5 +1,7 @@
 // The journal by which counters survive a power loss (document 02, 6 and 7): recovering from it, writing its next record, the next
 // outgoing counter that it covers, and shrinking it. Journals of every length and content are taken.
+#![tactic(auto)]
+
 ghost use Rattle.std.specs.Prelude.{◌≡◌, length};
 ghost use Rattle.journal.specs.Recovery.{recover_nothing, recover_answer, recovered_list};
 ghost use Rattle.journal.specs.Writing.{write_refusal, write_record, next_counter};
@@ -23,7 +25,7 @@ mod shrunk;
 mod table;
 
 // A key number, or none.
-#[derive(Drop)]
+#[derive(Clone, Copy)]
 pub enum OptionKeyNumber {
     Absent,
     Present(u8),
@@ -31,7 +33,7 @@ pub enum OptionKeyNumber {
 
 // What recovery answers: a refusal's number alone; or 0, the largest ceiling (0 if none), the last key number or none, and the
 // length of the complete records.
-#[derive(Drop)]
+#[derive(Clone, Copy)]
 pub struct Recovered {
     pub refusal: u8,
     pub ceiling: u32,
@@ -40,14 +42,14 @@ pub struct Recovered {
 }
 
 // What asking for the next counter answers: a refusal's number alone, or 0 and the counter.
-#[derive(Drop)]
+#[derive(Clone, Copy)]
 pub struct NextCounter {
     pub refusal: u8,
     pub counter: u32,
 }
 
 // What a journal holds for a list of so many places: recovery's answer and, where it is not refused, the senders.
-#[derive(Drop)]
+#[derive(Clone, Copy)]
 pub struct Found {
     pub answer: Recovered,
     pub senders: usize,
@@ -72,6 +74,7 @@ impl Recovered {
 }
 
 // What recovery answers by what a pass gathered with room for so many senders.
+#[tactic(auto, unfolding(crate::specs::Scan::recovered_by))]
 fn recovered_by(scanned: Scanned, room: usize) -> Recovered
     ensures { result ≡ recovered_by scanned room }
 {
@@ -107,6 +110,7 @@ fn find_in(journal: &[u8], places: usize) -> Found
 }
 
 // How many places are filled: none where recovery is refused, else those that count.
+#[tactic(auto, unfolding(crate::specs::Scan::filled, octets::specs::Refusals::unless))]
 fn filled(found: Found, places: usize) -> usize
     ensures { result ≡ filled found places }
 {
@@ -118,6 +122,7 @@ fn filled(found: Found, places: usize) -> usize
 }
 
 // What is put in place i: a sender, or zeros behind them.
+#[tactic(auto, unfolding(crate::specs::Scan::place_at))]
 fn place_at(found: Found, i: usize) -> SenderRecord
     ensures { result ≡ place_at found i }
 {

@@ -10,7 +10,7 @@ use crate::table::keep_record;
 
 // What a pass gathers: whether every kind is known, the largest ceiling, the last key number, how many senders there are (or one
 // more than there was room for), and the length of the complete records.
-#[derive(Drop)]
+#[derive(Clone, Copy)]
 pub struct Scanned {
     pub known: bool,
     pub ceiling: u32,
@@ -20,6 +20,7 @@ pub struct Scanned {
 }
 
 // The largest ceiling once a record was seen.
+#[tactic(auto, unfolding(crate::specs::Recovery::ceiling_after))]
 fn ceiling_after(r: JournalRecord, ceiling: u32) -> u32
     ensures { result ≡ ceiling_after r ceiling }
 {
@@ -36,6 +37,7 @@ fn ceiling_after(r: JournalRecord, ceiling: u32) -> u32
 }
 
 // The last key number once a record was seen.
+#[tactic(auto, unfolding(crate::specs::Recovery::key_number_after))]
 fn key_number_after(r: JournalRecord, key_number: OptionKeyNumber) -> OptionKeyNumber
     ensures { result ≡ key_number_after r key_number }
 {

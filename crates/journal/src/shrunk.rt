@@ -14,6 +14,7 @@ use octets::refusals;
 use senders::COUNTED;
 
 // The length of the ceiling's record, or 0 if it is left out.
+#[tactic(auto, unfolding(crate::specs::Shrinking::ceiling_records, crate::specs::Format::record_bytes, octets::specs::Numbers::le))]
 fn ceiling_length(ceiling: u32) -> usize
     ensures { result ≡ length (bytes_of (ceiling_records ceiling)) }
 {
@@ -35,6 +36,7 @@ fn front_length(key_number: OptionKeyNumber, ceiling: u32) -> usize
 }
 
 // The refusal of shrinking, by what a pass gathered and the room in the output.
+#[tactic(auto, unfolding(crate::specs::Scan::shrink_refusal_by, crate::specs::Scan::shrunk_length_by, octets::specs::Refusals::first_of))]
 pub fn shrink_refusal(scanned: Scanned, room: usize) -> u8
     ensures { result ≡ shrink_refusal_by scanned room }
 {
@@ -53,6 +55,7 @@ pub fn shrink_refusal(scanned: Scanned, room: usize) -> u8
 }
 
 // Write the key number's record at a place, if there is one, and give the place behind it.
+#[tactic(auto, unfolding(crate::specs::Shrinking::key_number_records, crate::specs::Format::record_bytes, octets::specs::Numbers::le))]
 fn put_known_key_number(out: &mut [u8], at: usize, key_number: OptionKeyNumber) -> usize
     requires { at + length (bytes_of (key_number_records key_number)) ≤ length out.old }
     ensures { (result ≡ at + length (bytes_of (key_number_records key_number))) × (out.new ≡ over out.old at (bytes_of (key_number_records key_number))) }
@@ -67,6 +70,7 @@ fn put_known_key_number(out: &mut [u8], at: usize, key_number: OptionKeyNumber) 
 }
 
 // Write the ceiling's record at a place, if it is above 0, and give the place behind it.
+#[tactic(auto, unfolding(crate::specs::Shrinking::ceiling_records, crate::specs::Format::record_bytes, octets::specs::Numbers::le))]
 fn put_some_ceiling(out: &mut [u8], at: usize, ceiling: u32) -> usize
     requires { at + length (bytes_of (ceiling_records ceiling)) ≤ length out.old }
     ensures { (result ≡ at + length (bytes_of (ceiling_records ceiling))) × (out.new ≡ over out.old at (bytes_of (ceiling_records ceiling))) }

@@ -8,6 +8,3 @@ pub mod Walks
 pub mod Claims
 pub mod WorkedCases
 pub mod Turns
-pub mod Steps
-pub mod Rows
-pub mod Calls

@@ -1,6 +1,8 @@
 // The inbound frame counters of at most 64 senders, in a list of records that the host lends (document 02, 5): the port of
 // `inbound_network_key` and `note_inbound_frame_counter`, and forgetting a sender. Over C the list is an array of these records, and
 // not bytes. What is decided of a record is decided by functions over values; those over the list only walk it.
+#![tactic(auto)]
+
 ghost use Rattle.std.specs.Prelude.{◌≡◌};
 ghost use Rattle.senders.specs.Records.{names, record_of, kept};
 ghost use Rattle.senders.specs.Senders.{counted, counter_if, found, ask_refused, asked_by, inbound_network_key, note, forget};
@@ -14,7 +16,7 @@ pub const COUNTED: usize = 64;
 
 // A place of the list. Without the mark, which is any number but 0, it is free and names nobody.
 #[repr(C)]
-#[derive(Drop)]
+#[derive(Clone, Copy)]
 pub struct SenderRecord {
     pub address: u64,
     pub counter: u32,
@@ -22,7 +24,7 @@ pub struct SenderRecord {
 }
 
 // A counter, or none.
-#[derive(Drop)]
+#[derive(Clone, Copy)]
 pub enum OptionCounter {
     Absent,
     Present(u32),
@@ -30,7 +32,7 @@ pub enum OptionCounter {
 
 // What a list says of a sender: whether a counted record names it, that record's counter (0 if none does), and its place; or
 // else the first free place, or 64 if there is none.
-#[derive(Drop)]
+#[derive(Clone, Copy)]
 pub struct Found {
     pub named: bool,
     pub counter: u32,
@@ -38,14 +40,14 @@ pub struct Found {
 }
 
 // What asking for the key answers: a refusal's number with a key of zeros, or 0 and the active key.
-#[derive(Drop)]
+#[derive(Clone, Copy)]
 pub struct Asked {
     pub refusal: u8,
     pub key: Key,
 }
 
 // What noting a counter answers: a refusal's number and none, or 0 and the sender's earlier counter or none.
-#[derive(Drop)]
+#[derive(Clone, Copy)]
 pub struct Noted {
     pub refusal: u8,
     pub earlier: OptionCounter,
@@ -89,6 +91,7 @@ pub fn record_of(sender: u64, counter: u32) -> SenderRecord
 }
 
 // What forgetting a sender leaves of a record: zeros if it names the sender.
+#[tactic(auto, unfolding(crate::specs::Records::kept))]
 fn kept(r: SenderRecord, sender: u64) -> SenderRecord
     ensures { result ≡ kept sender r }
 {
@@ -101,6 +104,7 @@ fn kept(r: SenderRecord, sender: u64) -> SenderRecord
 // ---- a walk over the list
 
 // How many places of a list of n count.
+#[tactic(auto, unfolding(crate::specs::Senders::counted))]
 pub fn counted(n: usize) -> usize
     ensures { result ≡ counted n }
 {
@@ -111,6 +115,7 @@ pub fn counted(n: usize) -> usize
 }
 
 // What is known of a sender once the record at place i was seen too.
+#[tactic(auto, unfolding(crate::specs::Walks::seen))]
 fn seen(before: Found, i: usize, r: SenderRecord, sender: u64) -> Found
     ensures { result ≡ seen sender before i r }
 {
@@ -168,6 +173,7 @@ impl OptionCounter {
 
 impl Asked {
     // The answer of a refusal: its number alone.
+    #[tactic(auto, unfolding(crate::specs::Senders::ask_refused, octets::specs::Strings::tab))]
     fn refused(refusal: u8) -> Asked
         ensures { result ≡ ask_refused refusal }
     {
@@ -179,6 +185,7 @@ impl Asked {
 }
 
 // What asking answers, by what the list says of the sender.
+#[tactic(auto, unfolding(crate::specs::Senders::asked_by, crate::specs::Senders::ask_refusal, octets::specs::Refusals::first_of, octets::specs::Refusals::unless))]
 fn asked_by(key: Key, active: u8, found: Found, key_sequence_number: u8, counter: u32) -> Asked
     ensures { result ≡ asked_by key active (counter_if found.named found.counter) key_sequence_number counter }
 {
@@ -215,6 +222,7 @@ pub fn inbound_network_key(
 // ---- noting and forgetting
 
 // What noting answers, by what the list says of the sender.
+#[tactic(auto, unfolding(crate::specs::Walks::noted_by))]
 fn noted_by(found: Found) -> Noted
     ensures { result ≡ noted_by found }
 {
