@@ -6,9 +6,9 @@ use mathlib.Core.List.{List, ◌++◌}
 use Prim.Native.Nat.{ℕ, ◌/◌, ◌≤◌, min}
 use lib.ListN.{length, take, drop}
 use lib.Seq.{length_front, length-take-le}
-use Rattle.io.specs.Counts.{IsPrefixLen}
 use Rattle.casefile.specs.Fields.{is_dash, field_of, field_bytes}
 use Rattle.casefile.specs.Hex.{hex_bytes, is_hex}
+use Rattle.casefile.specs.Texts.{IsPrefixLen}
 
 -- a count of bytes at the front of a list is one still where the front was written anew
 pub front_counts : (n : ℕ) (e d : List ℕ) → n ≤ length d → length e ≡ length (take n d) → IsPrefixLen n (e ++ drop n d)

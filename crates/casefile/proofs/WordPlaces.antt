@@ -2,7 +2,7 @@
 -- Assumes nothing.
 use mathlib.Core.Path.{◌≡◌, refl}
 use mathlib.Core.List.{List, [], ◌∷◌}
-use Prim.Native.Nat.{ℕ, suc, ◌+◌, ◌-◌, ◌≤◌, ◌<◌}
+use Prim.Native.Nat.{ℕ, zero, suc, ◌+◌, ◌-◌, ◌≤◌, ◌<◌}
 use native.Mathlib.Omega.{arith}
 use borrow.Author.Tests.{eq-eqb, ne_eqb}
 use lib.ListN.{length, get_or, take, drop, drop_of_length-le}
@@ -21,6 +21,7 @@ word_here s i left e = rw (e, first_word (drop i s)) (omega arith)
 pub word_space : (s : List ℕ) (i left : ℕ) → i < length s → 0 < left → get_or s i 0 ≡ 0x20
     → i + word_start (drop i s) left ≡ i + 1 + word_start (drop (i + 1) s) (left - 1)
 unfolding word_start
+word_space s i zero h p e = elim p [ ]
 word_space s i (suc k) h p e =
     let less : suc k - 1 ≡ k = omega arith in
     rw (from_here s i h, eq-eqb (get_or s i 0) 0x20 e, less) (omega arith)
@@ -28,6 +29,7 @@ word_space s i (suc k) h p e =
 pub word_letter : (s : List ℕ) (i left : ℕ) → i < length s → 0 < left → (get_or s i 0 ≡ 0x20 → ⊥)
     → i + word_start (drop i s) left ≡ i + 1 + word_start (drop (i + 1) s) left
 unfolding word_start
+word_letter s i zero h p n = elim p [ ]
 word_letter s i (suc k) h p n = rw (from_here s i h, ne_eqb (get_or s i 0) 0x20 n) (omega arith)
 
 pub word_end_lem : (s : List ℕ) (i left : ℕ) → length s ≤ i → i + word_start (drop i s) left ≡ i

@@ -1,6 +1,10 @@
 -- Texts: lists of bytes.
 -- Assumes nothing.
-use Rattle.std.specs.Prelude.{Bool, true, false, cond, ◌&&◌, List, [], ◌∷◌, ℕ, suc, eqb}
+use Rattle.std.specs.Prelude.{◌≡◌, Bool, true, false, cond, ◌&&◌, List, [], ◌∷◌, ℕ, suc, ◌≤◌, eqb, length, take}
+
+-- whether n counts bytes at the front of s: `&s[..n]` is within s, and has n bytes
+abbrev pub IsPrefixLen : ℕ → List ℕ → Type 0
+IsPrefixLen n s = (n ≤ length s) × (n ≡ length (take n s))
 
 -- whether two texts are the same
 unfoldable pub same_text : List ℕ → List ℕ → Bool

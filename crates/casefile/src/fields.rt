@@ -1,13 +1,13 @@
 // The fields of a line: words of hexadecimal digits, "-" for nothing.
 ghost use Rattle.std.specs.Prelude.{◌≡◌, true, ◌&&◌, ◌++◌, eqb, length, drop};
-ghost use Rattle.io.specs.Counts.{IsPrefixLen};
+ghost use Rattle.casefile.specs.Texts.{IsPrefixLen};
 ghost use Rattle.casefile.specs.Words.{word_of};
 ghost use Rattle.casefile.specs.Fields.{field_of, field_bytes};
 
 use crate::{file, hex, words};
 
 // What reading a field gives: whether it is well formed, and how many bytes it has.
-#[derive(Drop)]
+#[derive(Clone, Copy)]
 pub struct FieldRead {
     pub good: bool,
     pub n: usize,

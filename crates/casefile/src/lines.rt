@@ -6,7 +6,7 @@ ghost use Rattle.casefile.specs.Lines.{Stands, line_of, agreed_by, tried_by, run
 use crate::{file, report};
 
 // What a line shows.
-#[derive(Drop)]
+#[derive(Clone, Copy)]
 pub enum Line {
     Comment,
     Agrees,
@@ -26,7 +26,7 @@ pub fn shown(good: bool, agrees: bool) -> Line
 
 // A run over the lines of a text: where the line to run next starts and ends, how many lines are behind it, and of the cases
 // among those how many agreed, of how many.
-#[derive(Drop)]
+#[derive(Clone, Copy)]
 pub struct Run {
     pub at: usize,
     pub end: usize,
@@ -60,10 +60,10 @@ fn tried_by(line: Line) -> u64
 }
 
 // Names a line that differs or is damaged.
-fn named(line: Line, name: &[u8], number: u64) {
+fn named(rt: &impl Print, line: Line, name: &[u8], number: u64) {
     match line {
-        Line::Differs => report::of_line(name, number, b"differs"),
-        Line::Damaged => report::of_line(name, number, b"is damaged"),
+        Line::Differs => report::of_line(rt, name, number, b"differs"),
+        Line::Damaged => report::of_line(rt, name, number, b"is damaged"),
         _ => {}
     }
 }
@@ -101,14 +101,14 @@ impl Run {
     }
 
     // The run behind the line, which is counted, and named where it differs or is damaged.
-    pub fn counted(self, text: &[u8], name: &[u8], shown: Line) -> Run
+    pub fn counted(self, rt: &impl Print, text: &[u8], name: &[u8], shown: Line) -> Run
         requires { Stands text.now self × (self.at < length text.now) }
         ensures stands { Stands text.now result × (self.at < result.at) }
         ensures value { result ≡ counted_run text.now self shown }
     {
         let line = self.line(text, shown);
         let passed = self.passed + 1;
-        named(line, name, passed);
+        named(rt, line, name, passed);
         let mut at = self.end;
         if at < text.len() {
             at += 1;
@@ -123,11 +123,11 @@ impl Run {
     }
 
     // Says how many cases agreed, of how many, or that there was none.
-    pub fn report(self, name: &[u8], things: &[u8]) {
+    pub fn report(self, rt: &impl Print, name: &[u8], things: &[u8]) {
         if self.tried == 0 {
-            report::of_file(name, b"has no cases");
+            report::of_file(rt, name, b"has no cases");
             return;
         }
-        report::total(name, self.agreed, self.tried, things);
+        report::total(rt, name, self.agreed, self.tried, things);
     }
 }

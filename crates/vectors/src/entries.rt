@@ -8,7 +8,7 @@ use casefile::{file, outputs, words};
 use types::level::Level;
 
 // The parts of an entry whose lengths are fixed.
-#[derive(Drop)]
+#[derive(Clone, Copy)]
 struct Fixed {
     good: bool,
     level: Level,
