@@ -20,7 +20,7 @@ use Rattle.burst.specs.LevelFive.{open_burst_formerly, LevelFive}
 
 -- opening at level 5, as a function of the frame and the part
 opens_as_before : (key : List ℕ) → opening.open_with Level.EncMic32 (ciph_of key) ≡ open_formerly key
-opens_as_before key = fun_ext (λ f. fun_ext (λ o. (frame-levels.level-five key blank_header OptionAuxHeader.Absent [] f o).opening))
+opens_as_before key = fun_ext (λ f. fun_ext (λ o. (frame-levels.level_five key blank_header OptionAuxHeader.Absent [] f o).opening))
 
 burst_as_before : (key fs ns o : List ℕ) (list : List (List ℕ)) → open_burst Level.EncMic32 key fs ns o list ≡ open_burst_formerly key fs ns o list
 unfolding open_burst out_after answers_after alone open_burst_formerly
@@ -36,7 +36,7 @@ burst_as_before key fs ns o list =
 pub level_five : LevelFive
 level_five key nonce a x mic h aux f ns o list =
     record {
-      ccm = ccm-levels.level-five key nonce a x mic o;
-      frame = frame-levels.level-five key h aux x f o;
+      ccm = ccm-levels.level_five key nonce a x mic o;
+      frame = frame-levels.level_five key h aux x f o;
       burst = burst_as_before key f ns o list;
     }

@@ -1,4 +1,6 @@
 // Opening a burst of frames in one call (document 02, 1).
+#![tactic(auto)]
+
 ghost use Rattle.std.specs.Prelude.{◌≡◌, ◌≤◌, length};
 ghost use Rattle.ccm.specs.Operations.{ciph_under, lookups};
 ghost use Rattle.frame.specs.Opening.{open_under};
@@ -14,7 +16,7 @@ use types::{Key, MAX_NSDU_SIZE};
 pub const MAX_FRAMES: usize = 16;
 
 // What opening a burst answers: a refusal's number with no frames, or 0 and the number of frames.
-#[derive(Drop)]
+#[derive(Clone, Copy)]
 pub struct BurstOpened {
     pub refusal: u8,
     pub frames: usize,

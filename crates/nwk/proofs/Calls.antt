@@ -81,10 +81,10 @@ next_given_lem c h = (answer_length 0 c h, answer_refusal 0 c)
 
 -- whatever number a is answered where nothing is refused
 pub refused_answer : (n k a r : ℕ) → k ≡ n → (k ≡ 0 → ⊥) → r ≡ answer k 0 → r ≡ unless n a (answer n 0)
-refused_answer n k a r e h p = p ∙ conditions.refused-by n k a (λ (m : ℕ). answer m 0) e h
+refused_answer n k a r e h p = p ∙ conditions.refused_by n k a (λ (m : ℕ). answer m 0) e h
 
 pub refused_buffer : (n k : ℕ) (bs o : List ℕ) → k ≡ n → (k ≡ 0 → ⊥) → o ≡ given n bs o
-refused_buffer n k bs o e h = conditions.refused-by n k (over o 0 bs) (λ (m : ℕ). o) e h
+refused_buffer n k bs o e h = conditions.refused_by n k (over o 0 bs) (λ (m : ℕ). o) e h
 
 pub refused_by : (n k len r : ℕ) (bs o : List ℕ) → k ≡ n → (k ≡ 0 → ⊥) → r ≡ answer k 0 → (r ≡ answer_by n len) × (o ≡ given n bs o)
 refused_by n k len r bs o e h p = (refused_answer n k (answer 0 len) r e h p, refused_buffer n k bs o e h)
@@ -96,10 +96,10 @@ refused_both n k len r bs bs' o o' e h p = (refused_answer n k (answer 0 len) r 
 -- ---- passed: the length, and the bytes at the front
 
 pub passed_answer : (n len r : ℕ) → n ≡ 0 → r ≡ answer 0 len → r ≡ answer_by n len
-passed_answer n len r e p = p ∙ conditions.accepted-by n n (answer 0 len) (answer n 0) refl e
+passed_answer n len r e p = p ∙ conditions.accepted_by n n (answer 0 len) (answer n 0) refl e
 
 pub given_passed : (n : ℕ) (bs o o' : List ℕ) → n ≡ 0 → o' ≡ over o 0 bs → o' ≡ given n bs o
-given_passed n bs o o' e p = p ∙ conditions.accepted-by n n (over o 0 bs) o refl e
+given_passed n bs o o' e p = p ∙ conditions.accepted_by n n (over o 0 bs) o refl e
 
 pub passed_by : (n len r : ℕ) (bs o o' : List ℕ) → n ≡ 0 → r ≡ answer 0 len → o' ≡ over o 0 bs → (r ≡ answer_by n len) × (o' ≡ given n bs o)
 passed_by n len r bs o o' e p q = (passed_answer n len r e p, given_passed n bs o o' e q)

@@ -64,7 +64,7 @@ open_number_lem l key f o x h =
 -- the number beside what opening answers
 pub opened_number : (l : Level) (key f o : List ℕ) (r : FrameOpened) → r ≡ (open_frame l key f o).answer → r.refusal ≡ open_refusal l (ciph_of key) f (read_frame f) (length o)
 unfolding open_with
-opened_number l key f o r e = (λ i. (e i).refusal) ∙ frames.open-number l (ciph_of key) f (read_frame f) o
+opened_number l key f o r e = (λ i. (e i).refusal) ∙ frames.open_number_lem l (ciph_of key) f (read_frame f) o
 
 -- a refusal leaves the output
 pub open_leaves : (l : Level) (key f o : List ℕ) → (open_refusal l (ciph_of key) f (read_frame f) (length o) ≡ 0 → ⊥) → (open_frame l key f o).out ≡ o

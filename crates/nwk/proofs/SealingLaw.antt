@@ -232,8 +232,8 @@ seal_good l r x n room level h a = skip 29 _ _ level ∙ skip 13 _ _ h ∙ skip 
 sealed_short : (l : Level) (key r x p : List ℕ) (room : ℕ) → seal_refusal l (header_of r) (option_of x) (length p) room ≡ 0 → length (sealed_records l key r x p) ≤ 118
 unfolding sealed_records
 sealed_short l key r x p room e =
-    rw (first-half-proofs.sealed-length l key (header_of r) (or_blank (option_of x)) p)
-    (frame-law.seal-able l (header_of r) (option_of x) (length p) room e).whole
+    rw (first-half-proofs.sealed_length_lem l key (header_of r) (or_blank (option_of x)) p)
+    (frame-law.seal_able l (header_of r) (option_of x) (length p) room e).whole
 
 -- what nwk_seal answers and leaves of records that it accepts
 pub record SealedOver (l : Level) (key r x p o : List ℕ) : Type 0 where
@@ -289,7 +289,7 @@ first_half level first second r x p o w out br bx accepted room within =
     let parts = none _ number in
     let e = sym (seal_good l r x (length p) (length o) parts.0 parts.1.0 parts.1.1.0) ∙ number in
     let s = sealed_over l key r x p o number (sealed_short l key r x p (length o) e) in
-    let able = frame-law.seal-able l h a (length p) (length o) e in
+    let able = frame-law.seal_able l h a (length p) (length o) e in
     let fits : frames.InRange h a = record { header = header_of_fits r br; auxiliary = option_of_fits x bx } in
     let f = sealed_records l key r x p in
     let back = sealed_then_opened l key h a p _ (length o) out fits able within in
@@ -330,10 +330,10 @@ seals_again l key f h a p out fits places afits again =
     let x = option_record a in
     let eh = header_back h fits places in
     let ea = option_back a afits in
-    let own : seal_refusal l h a (length p) (length out) ≡ 0 = sym (frame-law.seal-number l key h a p out) ∙ again.accepted in
+    let own : seal_refusal l h a (length p) (length out) ≡ 0 = sym (frame-law.seal_number l key h a p out) ∙ again.accepted in
     let e : seal_refusal l (header_of r) (option_of x) (length p) (length out) ≡ 0 =
     (λ i. seal_refusal l (eh i) (ea i) (length p) (length out)) ∙ own in
-    let able = frame-law.seal-able l h a (length p) (length out) own in
+    let able = frame-law.seal_able l h a (length p) (length out) own in
     let number = seal_good l r x (length p) (length out) able.level (header_taken h able.headers.fields.good) (aux_taken _ (or_blank a)) ∙ e in
     let s = sealed_over l key r x p out number (sealed_short l key r x p (length out) e) in
     let same : sealed_records l key r x p ≡ f =
@@ -354,7 +354,7 @@ second_half level first second f w o out bytes ok clear control other size =
     let auxiliary = ap auxiliary_in over-it.recorded ∙ auxiliary_in_lem w a in
     let n : length_in (open_answer l key f w o) ≡ a.length = ap length_in over-it.answered ∙ opened_length a.mark a.length (omega (arith, fits.short)) in
     let counter : counter_of a.aux ≡ last_counter → ⊥ = λ e. other (ap (λ (y : List ℕ). le_at 4 y 5) auxiliary ∙ counter_in a.aux fits.aux ∙ e) in
-    let again = frame-law.second-half l key f o out bytes acc.1 sealed control counter size in
+    let again = frame-law.second_half l key f o out bytes acc.1 sealed control counter size in
     let given : take (length_in (open_answer l key f w o)) (open_output l key f w o) ≡ frames.payload_given (open_frame l key f o) = λ i. take (n i) (over-it.left i) in
     rw (header, auxiliary, given) (seals_again l key f a.header a.aux _ out fits.header fits.relays fits.aux again)
 

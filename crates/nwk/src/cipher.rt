@@ -14,8 +14,7 @@ use types::level::Level;
 
 // Seal a payload: the ciphertext goes to the front of the output, and the MIC to its own 16 places;
 // refusals 29, 1 and 18.
-#[unsafe(no_mangle)]
-pub extern "C" fn nwk_encrypt_ccm(
+pub fn nwk_encrypt_ccm(
     level: u64,
     key_first: u64,
     key_second: u64,
@@ -42,8 +41,7 @@ pub extern "C" fn nwk_encrypt_ccm(
 
 // Open a ciphertext with its MIC: the payload goes to the front of the output. Places past the tag are not read; refusals 29,
 // 1, 18 and 19.
-#[unsafe(no_mangle)]
-pub extern "C" fn nwk_decrypt_ccm(
+pub fn nwk_decrypt_ccm(
     level: u64,
     key_first: u64,
     key_second: u64,
@@ -65,13 +63,7 @@ pub extern "C" fn nwk_decrypt_ccm(
 
 // Split the MIC from the end of a received ciphertext, of any length: the MIC goes to its own 16 places, the length of the
 // ciphertext in front of it to a number, and the answer's length is the MIC's; refusals 29 and 16.
-#[unsafe(no_mangle)]
-pub extern "C" fn nwk_split_mic(
-    level: u64,
-    bytes: &[u8],
-    mic: &mut [u8; 16],
-    front: &mut u64,
-) -> u64
+pub fn nwk_split_mic(level: u64, bytes: &[u8], mic: &mut [u8; 16], front: &mut u64) -> u64
     ensures answer { result ≡ answer_by (split_mic (network_level level) bytes.now).refusal (tag_length (network_level level)) }
     ensures mic { mic.new ≡ unless (split_mic (network_level level) bytes.now).refusal (split_mic (network_level level) bytes.now).mic mic.old }
     ensures front { front.new ≡ unless (split_mic (network_level level) bytes.now).refusal (split_mic (network_level level) bytes.now).length front.old }
@@ -88,8 +80,7 @@ pub extern "C" fn nwk_split_mic(
 }
 
 // One block of AES-128; nothing is refused.
-#[unsafe(no_mangle)]
-pub extern "C" fn nwk_encrypt_block(
+pub fn nwk_encrypt_block(
     key_first: u64,
     key_second: u64,
     block: &[u8; 16],

@@ -11,8 +11,7 @@ use command_records::COMMAND_RECORD_SIZE;
 use octets::refusals;
 
 // Read a command into a command record; refusals 12 and 18. The length is the record's.
-#[unsafe(no_mangle)]
-pub extern "C" fn nwk_read_command(bytes: &[u8], command: &mut [u8]) -> u64
+pub fn nwk_read_command(bytes: &[u8], command: &mut [u8]) -> u64
     ensures answer { result ≡ answer_by (read_command_refusal bytes.now (length command.old)) 535 }
     ensures command { command.new ≡ given (read_command_refusal bytes.now (length command.old)) (command_record (read_command bytes.now).command) command.old }
 {
@@ -29,8 +28,7 @@ pub extern "C" fn nwk_read_command(bytes: &[u8], command: &mut [u8]) -> u64
 }
 
 // Write the command of a record to the front of the output; refusals 13, 17 and 18.
-#[unsafe(no_mangle)]
-pub extern "C" fn nwk_write_command(command: &[u8], out: &mut [u8]) -> u64
+pub fn nwk_write_command(command: &[u8], out: &mut [u8]) -> u64
     ensures answer { result ≡ answer_by (write_record_refusal command.now (length out.old)) (length (command_bytes (read_record command.now).command)) }
     ensures out { out.new ≡ given (write_record_refusal command.now (length out.old)) (command_bytes (read_record command.now).command) out.old }
 {
@@ -44,8 +42,7 @@ pub extern "C" fn nwk_write_command(command: &[u8], out: &mut [u8]) -> u64
 }
 
 // A timeout code's seconds, as the answer's length; refusal 13 for a code above 14.
-#[unsafe(no_mangle)]
-pub extern "C" fn nwk_timeout_seconds(code: u8) -> u64
+pub fn nwk_timeout_seconds(code: u8) -> u64
     ensures { result ≡ answer (timeout_seconds code).refusal (timeout_seconds code).seconds }
 {
     let timeout = commands::codes::timeout_seconds(code);

@@ -18,8 +18,7 @@ use types::level::Level;
 
 // Read a frame into a header record and an auxiliary record, and give how many bytes the two headers take; the payload
 // or ciphertext is the rest of the frame. Refusals 1 to 12 and 18.
-#[unsafe(no_mangle)]
-pub extern "C" fn nwk_read_frame(bytes: &[u8], header: &mut [u8], auxiliary: &mut [u8]) -> u64
+pub fn nwk_read_frame(bytes: &[u8], header: &mut [u8], auxiliary: &mut [u8]) -> u64
     ensures answer { result ≡ read_frame_answer bytes.now header.old auxiliary.old }
     ensures header { header.new ≡ read_frame_header bytes.now header.old auxiliary.old }
     ensures auxiliary { auxiliary.new ≡ read_frame_auxiliary bytes.now header.old auxiliary.old }
@@ -43,8 +42,7 @@ pub extern "C" fn nwk_read_frame(bytes: &[u8], header: &mut [u8], auxiliary: &mu
 
 // Write a frame without a key, the header of a record and the payload, to the front of the output; refusals 13, 28,
 // 17 and 18.
-#[unsafe(no_mangle)]
-pub extern "C" fn nwk_write_frame(header: &[u8], payload: &[u8], out: &mut [u8]) -> u64
+pub fn nwk_write_frame(header: &[u8], payload: &[u8], out: &mut [u8]) -> u64
     ensures answer { result ≡ write_frame_answer header.now payload.now out.old }
     ensures out { out.new ≡ write_frame_output header.now payload.now out.old }
 {
@@ -58,8 +56,7 @@ pub extern "C" fn nwk_write_frame(header: &[u8], payload: &[u8], out: &mut [u8])
 
 // Seal a frame from the headers of two records and the payload, to the front of the output; refusals 29, 13,
 // 28, 14, 28, 15, 21, 17 and 18.
-#[unsafe(no_mangle)]
-pub extern "C" fn nwk_seal(
+pub fn nwk_seal(
     level: u64,
     key_first: u64,
     key_second: u64,
@@ -109,8 +106,7 @@ fn short_refusal(level: Level, bytes: &[u8], room: usize) -> u8
 // Open a frame: the answer with both headers goes to the opened record. A sealed frame's payload goes to the front of the
 // output; a clear one's stays in the frame, and the output is not touched. Refusals 29, 1 to 12, 18 for the record, and of a
 // sealed frame 15, 16, 18 and 19.
-#[unsafe(no_mangle)]
-pub extern "C" fn nwk_open(
+pub fn nwk_open(
     level: u64,
     key_first: u64,
     key_second: u64,
@@ -139,8 +135,7 @@ pub extern "C" fn nwk_open(
 // Open a burst: frames end to end, as long as the lengths say, at one level and under one key. Frame k goes to the 108 bytes of the
 // output from 108 × k, and its answer to place k of the answers; the length is the number of frames. Refusal 20, and 29 as each
 // frame's answer.
-#[unsafe(no_mangle)]
-pub extern "C" fn nwk_open_burst(
+pub fn nwk_open_burst(
     level: u64,
     key_first: u64,
     key_second: u64,
@@ -161,8 +156,7 @@ pub extern "C" fn nwk_open_burst(
 
 // Where the payload is that opening spoke of, by the mark's code and the payload's length that it gave, and the frame's length: in the
 // frame if clear (bit 40), its first byte's place in bits 48 to 55, else at the front of the output; refusals 1 and 13.
-#[unsafe(no_mangle)]
-pub extern "C" fn nwk_payload_place(mark: u8, length: u64, frame_length: u64) -> u64
+pub fn nwk_payload_place(mark: u8, length: u64, frame_length: u64) -> u64
     ensures { result ≡ payload_place mark length frame_length }
 {
     let n = length as usize;
@@ -202,8 +196,7 @@ fn payload_code(payload: NwkPayload) -> usize
 
 // Whether a frame type's payload is opaque, 0, or a command, 1, as the answer's length; refusal 13 for a code that no frame
 // type has.
-#[unsafe(no_mangle)]
-pub extern "C" fn nwk_payload_kind(frame_type: u8) -> u64
+pub fn nwk_payload_kind(frame_type: u8) -> u64
     ensures { result ≡ payload_kind_answer frame_type }
 {
     let declared = NwkFrameType::from_code(frame_type as u16);

@@ -22,8 +22,7 @@ fn give_key(asked: Asked, key: &mut [u8; 16]) -> u64
 }
 
 // The active key for a frame of this sender, key sequence number and counter; refusals 22 and 23. The list is left as it was.
-#[unsafe(no_mangle)]
-pub extern "C" fn nwk_inbound_network_key(
+pub fn nwk_inbound_network_key(
     key_first: u64,
     key_second: u64,
     active: u8,
@@ -59,8 +58,7 @@ fn noted_answer(noted: Noted) -> u64
 }
 
 // Note a sender's counter, over its first record or in the first free place; refusal 24.
-#[unsafe(no_mangle)]
-pub extern "C" fn nwk_note_inbound_frame_counter(
+pub fn nwk_note_inbound_frame_counter(
     list: &mut [SenderRecord],
     sender: u64,
     frame_counter: u32,
@@ -72,8 +70,7 @@ pub extern "C" fn nwk_note_inbound_frame_counter(
 }
 
 // Forget a sender: every counted place that names it is left free, all zeros. Nothing is refused.
-#[unsafe(no_mangle)]
-pub extern "C" fn nwk_forget_sender(list: &mut [SenderRecord], sender: u64) -> u64
+pub fn nwk_forget_sender(list: &mut [SenderRecord], sender: u64) -> u64
     ensures { (result ≡ answer 0 0) × (list.new ≡ forget sender list.old) }
 {
     senders::forget(list, sender);

@@ -33,12 +33,7 @@ fn give_recovered(recovered: Recovered, complete: &mut u64) -> u64
 
 // Recover from a journal: the ceiling and the key number in the answer, the list filled anew, and the length of the complete records;
 // refusals 25 and 24.
-#[unsafe(no_mangle)]
-pub extern "C" fn nwk_recover_journal(
-    journal: &[u8],
-    list: &mut [SenderRecord],
-    complete: &mut u64,
-) -> u64
+pub fn nwk_recover_journal(journal: &[u8], list: &mut [SenderRecord], complete: &mut u64) -> u64
     ensures { (result ≡ recovered_answer (recover_answer journal.now (length list.old))) × ((list.new ≡ recovered_list journal.now list.old) × (complete.new ≡ complete_left (recover_answer journal.now (length list.old)) complete.old)) }
 {
     let recovered = journal::recover(journal, list);
@@ -47,8 +42,7 @@ pub extern "C" fn nwk_recover_journal(
 
 // Write a journal's next record, of a kind and those of the values that it takes, alone to the front of the output; refusals 25, 24
 // and 18.
-#[unsafe(no_mangle)]
-pub extern "C" fn nwk_write_journal_record(
+pub fn nwk_write_journal_record(
     journal: &[u8],
     kind: u8,
     sender: u64,
@@ -64,8 +58,7 @@ pub extern "C" fn nwk_write_journal_record(
 }
 
 // The next outgoing counter behind the last one, in the length's place; refusals 25, 26 and 27.
-#[unsafe(no_mangle)]
-pub extern "C" fn nwk_next_counter(journal: &[u8], last: u32) -> u64
+pub fn nwk_next_counter(journal: &[u8], last: u32) -> u64
     ensures { result ≡ next_answer (next_counter journal.now last) }
 {
     let next = journal::next_counter(journal, last);
@@ -74,8 +67,7 @@ pub extern "C" fn nwk_next_counter(journal: &[u8], last: u32) -> u64
 
 // Shrink a journal into a second output, of which the front is then the shortest journal that recovers to the same; refusals 25, 24
 // and 18.
-#[unsafe(no_mangle)]
-pub extern "C" fn nwk_shrink_journal(journal: &[u8], out: &mut [u8]) -> u64
+pub fn nwk_shrink_journal(journal: &[u8], out: &mut [u8]) -> u64
     ensures answer { result ≡ written_answer (shrink journal.now out.old).answer }
     ensures out { out.new ≡ (shrink journal.now out.old).out }
 {

@@ -2,7 +2,7 @@
 -- places.
 -- Assumes nothing.
 use mathlib.Core.Path.{◌≡◌, refl}
-use mathlib.Core.Bool.{Bool, true, or_true, ◌||◌}
+use mathlib.Core.Bool.{Bool, true, or-true, ◌||◌}
 use mathlib.Core.Logic.{⊎_elim}
 use Prim.Native.Nat.{ℕ, zero, suc, ◌+◌, ◌<◌}
 use native.Mathlib.Numerals.{add-one}
@@ -16,7 +16,7 @@ any_found p zero i h e = absurd (omega arith)
 any_found p (suc n) i h e =
     ⊎_elim
     (λ l. rw (any_found p n i l e) refl)
-    (λ (q : i ≡ n). rw (← q, e) (or_true (any_below p i)))
+    (λ (q : i ≡ n). rw (← q, e) (or-true (any_below p i)))
     (below_or_last i n h)
 
 -- one place more

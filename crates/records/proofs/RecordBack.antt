@@ -18,7 +18,7 @@ use Rattle.octets.proofs.Numbers.{le_le_at}
 use Rattle.types.specs.Addresses.{nwk, no_nwk}
 use Rattle.header.specs.Optional.{relay_bytes}
 use Rattle.header.specs.Control.{control_values, control_from}
-use Rattle.header.proofs.Codes.{bit_of, type_of, discovery_of_lem, level_of_lem, key_id_of_lem}
+use Rattle.header.proofs.Codes.{bit_of, type_of_lem, discovery_of_lem, level_of_lem, key_id_of_lem}
 use Rattle.octets.proofs.Conditions.{or_false}
 use Rattle.header.proofs.OptionalFields.{byte_read, relay_read}
 use Rattle.records.specs.Limits.{exceeds}
@@ -53,17 +53,17 @@ control_piece : (r : List ℕ) → HeaderTests r → Piece r 0 10 (control_value
 unfolding tab
 control_piece r t =
     let l : 10 ≤ length r = omega (arith, t.size) in
-    let discovery : get_or r 2 0 ≤ 2 = t.keeps-to 2 (omega arith) in
+    let discovery : get_or r 2 0 ≤ 2 = t.keeps_to 2 (omega arith) in
     (λ i.
-    type_of (get_or r 0 0) (omega (arith, t.keeps-to 0 (omega arith))) t.type i
+    type_of_lem (get_or r 0 0) (omega (arith, t.keeps_to 0 (omega arith))) t.type i
     ∷ get_or r 1 0
     ∷ discovery_of_lem (get_or r 2 0) (omega arith) (ne_eqb (get_or r 2 0) 3 (λ e. omega arith)) i
-    ∷ bit_of (get_or r 3 0) (omega (arith, t.keeps-to 3 (omega arith))) i
-    ∷ bit_of (get_or r 4 0) (omega (arith, t.keeps-to 4 (omega arith))) i
-    ∷ bit_of (get_or r 5 0) (omega (arith, t.keeps-to 5 (omega arith))) i
-    ∷ bit_of (get_or r 6 0) (omega (arith, t.keeps-to 6 (omega arith))) i
-    ∷ bit_of (get_or r 7 0) (omega (arith, t.keeps-to 7 (omega arith))) i
-    ∷ bit_of (get_or r 8 0) (omega (arith, t.keeps-to 8 (omega arith))) i
+    ∷ bit_of (get_or r 3 0) (omega (arith, t.keeps_to 3 (omega arith))) i
+    ∷ bit_of (get_or r 4 0) (omega (arith, t.keeps_to 4 (omega arith))) i
+    ∷ bit_of (get_or r 5 0) (omega (arith, t.keeps_to 5 (omega arith))) i
+    ∷ bit_of (get_or r 6 0) (omega (arith, t.keeps_to 6 (omega arith))) i
+    ∷ bit_of (get_or r 7 0) (omega (arith, t.keeps_to 7 (omega arith))) i
+    ∷ bit_of (get_or r 8 0) (omega (arith, t.keeps_to 8 (omega arith))) i
     ∷ get_or r 9 0 ∷ [])
     ∙ tab_get_or r 0 10 l
 
@@ -86,9 +86,9 @@ header_record_back r p =
     join r 0 10 137 _ _ (control_piece r t)
     (join r 10 6 131 _ _ (address_piece r b l)
     (join r 16 20 111 _ _
-    (join r 16 9 11 _ _ (ieee_piece r b 16 (t.keeps-to 16 (omega arith)) p.destination_ieee (omega arith))
-    (join r 25 9 2 _ _ (ieee_piece r b 25 (t.keeps-to 25 (omega arith)) p.source_ieee (omega arith)) (multicast_piece r b (t.keeps-to 34 (omega arith)) p.multicast (omega arith))))
-    (join r 36 3 108 _ _ (route_piece r b (t.keeps-to 36 (omega arith)) p.route (omega arith)) (relays_piece r b l))))
+    (join r 16 9 11 _ _ (ieee_piece r b 16 (t.keeps_to 16 (omega arith)) p.destination_ieee (omega arith))
+    (join r 25 9 2 _ _ (ieee_piece r b 25 (t.keeps_to 25 (omega arith)) p.source_ieee (omega arith)) (multicast_piece r b (t.keeps_to 34 (omega arith)) p.multicast (omega arith))))
+    (join r 36 3 108 _ _ (route_piece r b (t.keeps_to 36 (omega arith)) p.route (omega arith)) (relays_piece r b l))))
     ∙ take_all 147 r (omega arith)
 
 pub header_of_injective : (r s : List ℕ) → HeaderPlain r → HeaderPlain s → header_of r ≡ header_of s → r ≡ s

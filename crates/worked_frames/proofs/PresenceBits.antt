@@ -19,7 +19,8 @@ use Rattle.boundary.specs.Rows.{All}
 use Rattle.worked_frames.specs.PresenceBits.{Holds, made, auxiliary, agreeing, each, written_bits, sealed_bits, in_order, cases}
 
 bits_written : All Holds written_bits
-unfolding unless first_of tab le packed written control_word relay_bytes fixed_bytes optional_bytes header_bytes bad_control bad_header agrees field_refusal header_write_refusal write_header
+unfolding unless first_of tab le packed written control_word relay_bytes fixed_bytes optional_bytes header_bytes bad_control bad_header agrees field_refusal header_write_refusal
+    write_header
     length_refusals frame_write_refusal write_frame made each written_bits
 bits_written =
     ((refl, refl), ((refl, refl), ((refl, refl), ((refl, refl), ((refl, refl), ((refl, refl), ((refl, refl), ((refl, refl), ((refl, refl), ((refl, refl), ((refl, refl), ((refl, refl), tt))))))))))))
@@ -30,7 +31,8 @@ unfolding unless first_of tab le packed control_word relay_bytes fixed_bytes opt
 bits_sealed = (refl, (refl, (refl, (refl, (refl, (refl, (refl, (refl, (refl, (refl, (refl, (refl, tt))))))))))))
 
 order_kept : All Holds in_order
-unfolding unless first_of tab le packed written control_word relay_bytes fixed_bytes optional_bytes header_bytes bad_control bad_header agrees aux_agrees field_refusal header_write_refusal write_header
+unfolding unless first_of tab le packed written control_word relay_bytes fixed_bytes optional_bytes header_bytes bad_control bad_header agrees aux_agrees field_refusal header_write_refusal
+    write_header
     security_byte aux_bytes blank_aux length_refusals frame_write_refusal write_frame tag_length sealed_length headers_refusal seal_refusals seal_refusal seal_refused seal_by seal_frame
     made auxiliary agreeing each in_order
 order_kept =

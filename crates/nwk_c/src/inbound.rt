@@ -1,0 +1,53 @@
+// Asking for the key of a frame, noting its counter, and forgetting a sender, over a list of senders that the host lends.
+ghost use Rattle.std.specs.Prelude.{◌≡◌};
+ghost use Rattle.senders.specs.Senders.{note, forget};
+ghost use Rattle.nwk.specs.Answer.{answer};
+ghost use Rattle.nwk.specs.Inbound.{asked, asked_answer, key_left, noted_answer};
+
+use senders::SenderRecord;
+
+// The active key for a frame of this sender, key sequence number and counter; refusals 22 and 23. The list is left as it was.
+#[unsafe(no_mangle)]
+pub extern "C" fn nwk_inbound_network_key(
+    key_first: u64,
+    key_second: u64,
+    active: u8,
+    list: &mut [SenderRecord],
+    sender: u64,
+    key_sequence_number: u8,
+    frame_counter: u32,
+    key: &mut [u8; 16],
+) -> u64
+    ensures { (result ≡ asked_answer (asked key_first key_second active list.old sender key_sequence_number frame_counter)) × ((key.new ≡ key_left (asked key_first key_second active list.old sender key_sequence_number frame_counter) key.old) × (list.new ≡ list.old)) }
+{
+    nwk::inbound::nwk_inbound_network_key(
+        key_first,
+        key_second,
+        active,
+        list,
+        sender,
+        key_sequence_number,
+        frame_counter,
+        key,
+    )
+}
+
+// Note a sender's counter, over its first record or in the first free place; refusal 24.
+#[unsafe(no_mangle)]
+pub extern "C" fn nwk_note_inbound_frame_counter(
+    list: &mut [SenderRecord],
+    sender: u64,
+    frame_counter: u32,
+) -> u64
+    ensures { (result ≡ noted_answer (note sender frame_counter list.old).answer) × (list.new ≡ (note sender frame_counter list.old).list) }
+{
+    nwk::inbound::nwk_note_inbound_frame_counter(list, sender, frame_counter)
+}
+
+// Forget a sender: every counted place that names it is left free, all zeros. Nothing is refused.
+#[unsafe(no_mangle)]
+pub extern "C" fn nwk_forget_sender(list: &mut [SenderRecord], sender: u64) -> u64
+    ensures { (result ≡ answer 0 0) × (list.new ≡ forget sender list.old) }
+{
+    nwk::inbound::nwk_forget_sender(list, sender)
+}
