@@ -2,6 +2,7 @@
 # make archive          the proved codec alone, target/staticlib/libnwk.a
 # make command          the archive and the command, host/target/release/store-reader
 # make test             the gate: every proof and must-fail edit, then the tests of the host and of the C programs
+# make programs         the programs that run files of cases, which the tests of the host run on damaged files
 # make host-test        the tests of the host and of the C programs alone
 # make bench            times beside nettle, mbedtls and wolfSSL, of a journal in a file, stack and memory
 # make install          the command, its man page and completion, and what install-codec installs, below PREFIX
@@ -18,7 +19,7 @@ SHELL := bash
 export PATH := $(PATH):$(shell echo ~)/.cargo/bin
 
 # The toolchain that everything here was proved with, as rt version prints it.
-TOOLCHAIN := rattle-kit-5b-plain logic 097e4c862dff5811
+TOOLCHAIN := rattle-kit-13f logic dac8208d650f15bf
 
 PREFIX ?= /usr/local
 LIBDIR ?= $(PREFIX)/lib
@@ -26,7 +27,8 @@ DESTDIR ?=
 
 ARCHIVE := target/staticlib/libnwk.a
 COMMAND := host/target/release/store-reader
-RATTLE := crates.txt $(shell find crates -name '*.rt' -o -name '*.antt')
+PROGRAMS := vectors frame_cases command_cases
+RATTLE := crates.txt $(shell find crates -name out -prune -o \( -name '*.rt' -o -name '*.antt' \) -print)
 HOST := host/Cargo.toml host/Cargo.lock host/build.rs $(shell find host/src -type f)
 VERSION := $(shell sed -n 's/^version = "\(.*\)"/\1/p' host/Cargo.toml)
 
@@ -37,9 +39,14 @@ needs_rt = $(call needs,rt,put the Rattle toolchain on the path)
 compares_rt = [[ $$(rt version) == "$(TOOLCHAIN)" ]] || echo "rt is another than $(TOOLCHAIN), which this was proved with" >&2
 needs_cargo = $(call needs,cargo,put Rust on the path (https://rustup.rs))
 # Prints each crate that is proved, and how many there are.
-count_crates = { n=0; while read -r line; do [[ $$line != "rt: "*" proved"* ]] || echo "$${line\#rt: }, $$((++n)) of $$crates"; done; }
+count_crates = { n=0; while read -r first second rest; do \
+  [[ $$first != crate ]] || crate=$${second%:}; \
+  [[ $$first != logic=proved ]] || echo "$$crate proved, $$((++n)) of $$crates"; done; }
 
-.PHONY: sample archive command test host-test install install-codec clean help
+# Fails where rt's line of what it did tells of an edit that could not be applied or read.
+finds_bad = ! grep -E '^rt: ok.*, [1-9][0-9]* bad' "$$log" >&2 || { echo "a must-fail edit does not fit the text" >&2; exit 1; }
+
+.PHONY: sample archive command test programs host-test install install-codec clean help
 
 sample: $(COMMAND)
 	@$(COMMAND) open --key-file samples/store.key samples/store.pcap
@@ -59,17 +66,18 @@ $(ARCHIVE): $(RATTLE)
 	echo "proving and compiling the codec, ten minutes or so the first time"
 	log=$$(mktemp)
 	trap 'rm -f "$$log"' EXIT
-	crates=$$(sed '/^nwk:/q' crates.txt | grep -c '^[a-z]')
-	rt staticlib nwk 2>&1 | tee "$$log" | $(count_crates) || { cat "$$log"; exit 1; }
+	crates=$$(sed '/^nwk_c /q' crates.txt | grep -c '^[a-z]')
+	(cd crates/nwk_c && rt lib) 2>&1 | tee "$$log" | $(count_crates) || { cat "$$log"; exit 1; }
+	mkdir -p $(@D)
+	cp crates/nwk_c/out/libnwk_c.a $@
 	echo "nwk proved and compiled, $$crates of $$crates"
-	touch $@
 
 $(COMMAND): $(ARCHIVE) $(HOST)
 	@$(needs_cargo)
 	cd host
 	cargo build --release --offline --quiet
 
-# rt's last line, the count, is kept for the end: it is printed only if everything passed.
+# rt's last line, the count, is kept for the end: it is printed only if everything passed. An edit that cannot be tried fails here too.
 test:
 	@$(needs_rt)
 	$(compares_rt)
@@ -79,8 +87,19 @@ test:
 	rt ci | tee "$$log" | sed -u '$$d' || { tail -n 1 "$$log"; exit 1; }
 	count=$$(tail -n 1 "$$log")
 	[[ $$count =~ ^[0-9]+\ passed,\ 0\ failed$$ ]]
-	$(MAKE) --no-print-directory host-test
+	$(finds_bad)
+	$(MAKE) --no-print-directory programs host-test
 	echo "$$count"
+
+# Each is proved, built and run beside its files of cases.
+programs:
+	@$(needs_rt)
+	log=$$(mktemp)
+	trap 'rm -f "$$log"' EXIT
+	for program in $(PROGRAMS); do
+	  echo "proving and running $$program"
+	  (cd crates/$$program && rt run) > "$$log" 2>&1 || { cat "$$log"; exit 1; }
+	done
 
 # The host's tests compile and run the C programs too, against the archive of this tree.
 host-test: $(COMMAND)

@@ -1,6 +1,6 @@
 /* Opens a burst: frames that the radio handed over at once, one of them damaged, one empty and one clear.
  *
- *   rt staticlib nwk
+ *   make archive
  *   cc -Wall -Wextra -Iinclude examples/burst.c target/staticlib/libnwk.a -o burst && ./burst
  *
  * Ends with status 0 if the burst was opened. */

@@ -1,6 +1,6 @@
 /* Opens a clear frame, whose security bit is off, and a sealed one, and tells them apart by the mark.
  *
- *   rt staticlib nwk
+ *   make archive
  *   cc -Wall -Wextra -Iinclude examples/clear.c target/staticlib/libnwk.a -o clear && ./clear
  *
  * Ends with status 0 if every answer was the expected one. The frames are records 10, 16 and 8 of samples/store.pcap without

@@ -1,7 +1,7 @@
 /* Hands out counters that survive a power cut: begins a journal file, reserves three counters at a time in it, recovers from a cut in
  * the middle of an append, and goes on in a new file.
  *
- *   rt staticlib nwk
+ *   make archive
  *   cc -Wall -Wextra -Iinclude examples/journal.c target/staticlib/libnwk.a -o journal && ./journal
  *
  * Ends with status 0 if every answer was the expected one. A gateway also sees to it that no other process has the file (flock), also

@@ -1,7 +1,7 @@
 /* Seals a reading at each security level that a network can have, and opens each frame at each of them: at its own it opens, at
  * another it is refused by 19, or by 16 where it is shorter than that level's MIC.
  *
- *   rt staticlib nwk
+ *   make archive
  *   cc -Wall -Wextra -Iinclude examples/level.c target/staticlib/libnwk.a -o level && ./level
  *
  * Ends with status 0 if every frame opened at its own level and at no other. */

@@ -1,6 +1,6 @@
 /* Opens frames as they arrive, and refuses one that arrives again: a replay.
  *
- *   rt staticlib nwk
+ *   make archive
  *   cc -Wall -Wextra -Iinclude examples/replay.c target/staticlib/libnwk.a -o replay && ./replay
  *
  * Ends with status 0 if every answer was the expected one. The frames are records 3 and 16 of samples/store.pcap without their MAC

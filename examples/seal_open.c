@@ -1,7 +1,7 @@
 /* Seals a frame, opens it again, and shows that a damaged one, one to be sealed with the last counter, and one whose header has an
  * address without its bit are refused with nothing changed.
  *
- *   rt staticlib nwk
+ *   make archive
  *   cc -Wall -Wextra -Iinclude examples/seal_open.c target/staticlib/libnwk.a -o seal_open && ./seal_open
  *
  * Ends with status 0 if every answer was the expected one. The expected frame was computed with another implementation of

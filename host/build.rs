@@ -1,6 +1,7 @@
 //! Links the proved codec: the archive that `STORE_READER_ARCHIVE` names, else that of this repository, which
-//! `rt staticlib nwk` makes if it is not there.
+//! `rt lib` makes in `crates/nwk_c` if it is not there.
 use std::env;
+use std::fs;
 use std::path::{Path, PathBuf};
 use std::process::{exit, Command};
 use std::time::Instant;
@@ -10,6 +11,10 @@ const ARCHIVE: &str = "STORE_READER_ARCHIVE";
 
 /// What the linker looks for.
 const NAME: &str = "libnwk.a";
+
+/// The crate that exports the C functions, and the archive that the toolchain leaves there.
+const EXPORTS: &str = "crates/nwk_c";
+const MADE: &str = "out/libnwk_c.a";
 
 fn main() {
     println!("cargo:rerun-if-env-changed={ARCHIVE}");
@@ -54,9 +59,10 @@ fn own() -> PathBuf {
 /// Proves and compiles the codec; takes ten minutes or so in a fresh tree. Cargo shows the line when it is done.
 fn make(root: &Path, archive: &Path) {
     let started = Instant::now();
-    let ended = Command::new("rt").args(["staticlib", "nwk"]).current_dir(root).status();
+    let exports = root.join(EXPORTS);
+    let ended = Command::new("rt").arg("lib").current_dir(&exports).status();
     match ended {
-        Ok(status) if status.success() && archive.is_file() => {
+        Ok(status) if status.success() && placed(&exports.join(MADE), archive) => {
             let minutes = started.elapsed().as_secs().div_ceil(60);
             println!(
                 "cargo:warning=the codec was proved and compiled first, in {minutes} min; this is done once, and again when \
@@ -64,13 +70,18 @@ fn make(root: &Path, archive: &Path) {
                 archive.display()
             );
         }
-        Ok(status) => stop(&format!("rt staticlib nwk ended with {status} and left no archive")),
+        Ok(status) => stop(&format!("rt lib in {EXPORTS} ended with {status} and left no archive")),
         Err(e) => stop(&format!(
             "there is no {}, and rt, which would prove and compile it in ten minutes or so, could not be started ({e}): put \
              the Rattle toolchain on the path, or name an archive that was built elsewhere in {ARCHIVE}",
             archive.display()
         )),
     }
+}
+
+/// Whether the archive that was made now stands in its place.
+fn placed(made: &Path, archive: &Path) -> bool {
+    archive.parent().is_some_and(|folder| fs::create_dir_all(folder).is_ok()) && fs::copy(made, archive).is_ok()
 }
 
 fn stop(why: &str) -> ! {

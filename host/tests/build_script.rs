@@ -35,7 +35,9 @@ fn run(crate_folder: &Path, path: &Path, set: &[(&str, &str)]) -> Output {
 fn fresh(name: &str) -> PathBuf {
     let root = scratch(name);
     let _ = fs::remove_dir_all(&root);
-    fs::create_dir_all(root.join("host")).expect("a folder");
+    for folder in ["host", "crates/nwk_c"] {
+        fs::create_dir_all(root.join(folder)).expect("a folder");
+    }
     root.join("host")
 }
 
@@ -92,13 +94,13 @@ fn the_archive_is_made_where_it_is_missing() {
     };
     write("#!/bin/sh\nexit 3\n");
     let (message, success) = said(&run(&folder, &tools, &[]));
-    assert!(!success && message.contains("rt staticlib nwk ended with exit status: 3"), "{message}");
-    write("#!/bin/sh\n/bin/mkdir -p target/staticlib && echo \"$@\" > target/staticlib/libnwk.a\n");
+    assert!(!success && message.contains("rt lib in crates/nwk_c ended with exit status: 3"), "{message}");
+    write("#!/bin/sh\n/bin/mkdir -p out && echo \"$@\" > out/libnwk_c.a\n");
     let ran = run(&folder, &tools, &[]);
     let printed = String::from_utf8_lossy(&ran.stdout);
     assert_eq!(printed.matches("cargo:warning=the codec was proved and compiled first, in ").count(), 1, "{printed}");
     let made = fs::read_to_string(folder.join("../target/staticlib/libnwk.a")).expect("the archive");
-    assert_eq!(made, "staticlib nwk\n");
+    assert_eq!(made, "lib\n");
     // The second time it is there.
     let again = run(&folder, &folder, &[]);
     assert_eq!(said(&again), (String::new(), true));

@@ -46,6 +46,11 @@ impl File {
         root().join("crates").join(self.program).join("data")
     }
 
+    /// Where `rt run` leaves the program.
+    fn built(&self) -> PathBuf {
+        root().join("crates").join(self.program).join("out").join(self.program)
+    }
+
     fn original(&self) -> String {
         fs::read_to_string(self.data().join(self.name)).expect("a file of cases")
     }
@@ -66,7 +71,7 @@ impl File {
             fs::copy(&from, folder.join(from.file_name().expect("a name"))).expect("a copy");
         }
         fs::write(folder.join(self.name), text).expect("a damaged copy");
-        let program = root().join("target/bin").join(self.program);
+        let program = self.built();
         let run = Command::new(&program).current_dir(&folder).output();
         let run = run.unwrap_or_else(|e| panic!("{} could not be run: {e}", program.display()));
         assert!(run.status.success(), "{} ended with {}", self.program, run.status);
@@ -135,13 +140,12 @@ fn another_answer(word: &str) -> String {
 }
 
 fn run_if_built(test: impl Fn(&File)) {
-    let bin = root().join("target/bin");
-    if !bin.exists() {
-        println!("no program is built here: `rt check` makes them");
+    if !FILES.iter().any(|file| file.built().exists()) {
+        println!("no program is built here: `make programs` makes them");
         return;
     }
     for file in &FILES {
-        assert!(bin.join(file.program).exists(), "{} is not built", file.program);
+        assert!(file.built().exists(), "{} is not built", file.program);
         test(file);
     }
 }

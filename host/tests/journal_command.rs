@@ -205,6 +205,8 @@ fn nothing_is_overwritten() {
     }
     assert_eq!(on_disk(&out), sample);
     assert_eq!(fs::read_link(&link).expect("the link").to_str(), Some("nothing"));
+    // The toolchain takes no repository that has a link in it.
+    fs::remove_file(&link).expect("the link is removed");
 }
 
 /// By 25 and by 24, as without the option.

@@ -319,6 +319,8 @@ fn opening_and_beginning_are_two_calls() {
         assert!(matches!(&exists, JournalError::Exists(_)), "{exists:?}");
         assert_eq!(noted(&senders), [(7, 1)]);
     }
+    // The toolchain takes no repository that has a link in it.
+    fs::remove_file(&link).expect("the link is removed");
     assert_eq!(on_disk(&path), bytes(&[Entry::Ceiling(2)]));
 }
 
@@ -728,6 +730,8 @@ fn links_to_a_journal() {
     drop(open(&soft, 1));
     assert!(fs::symlink_metadata(&soft).expect("the link").is_symlink());
     assert_eq!(on_disk(&soft), bytes(&SHRUNK));
+    // The toolchain takes no repository that has a link in it.
+    fs::remove_file(&soft).expect("the link is removed");
     assert_eq!((on_disk(&path), on_disk(&hard)), (bytes(&SHRUNK), bytes(&LONG)));
 }
 
