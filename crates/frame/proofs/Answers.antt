@@ -13,7 +13,7 @@ use Rattle.octets.proofs.Strings.{take_over, over_then, drop_below}
 use Rattle.octets.specs.Refusals.{on, by, first_of, unless}
 use Rattle.octets.proofs.Conditions.{refused_by, stop, skip, stop_by, skip_by, empty}
 use Rattle.types.specs.Levels.{tag_length}
-use Rattle.header.specs.declared.{auxiliary.AuxRead.AuxRead, nwk.HeaderRead.HeaderRead, auxiliary.NwkAuxHeader.NwkAuxHeader, nwk.NwkHeader.NwkHeader}
+use Rattle.header.specs.declared.{auxiliary.AuxRead.AuxRead, nwk.HeaderRead.HeaderRead, auxiliary.NwkAuxHeader.NwkAuxHeader, auxiliary.NwkSecurityLevel.NwkSecurityLevel, nwk.NwkHeader.NwkHeader}
 use Rattle.types.specs.declared.{OptionEui64.OptionEui64, level.Level.Level}
 use Rattle.header.specs.Reading.{read_header}
 use Rattle.header.specs.Writing.{header_bytes}
@@ -76,6 +76,12 @@ auth_taken l h x y b n e made size =
     let same : length (aux_bytes y) ≡ length (aux_bytes x) = ap (λ (z : NwkAuxHeader). length (aux_bytes z)) e ∙ level_length (field_level l) (field_level l) x in
     ap (λ (k : ℕ). take k b) (size ∙ ap (λ (k : ℕ). length (header_bytes h) + k) (sym same)) ∙ made
     ∙ ap (λ (z : NwkAuxHeader). header_bytes h ++ aux_bytes z) e
+
+-- the same where y was made at the field that stands for the level
+pub auth_made : (l : Level) (h : NwkHeader) (x y : NwkAuxHeader) (field : NwkSecurityLevel) (b : List ℕ) (n : ℕ) → field ≡ field_level l
+    → y ≡ at_level field x → take (length (header_bytes h) + length (aux_bytes y)) b ≡ header_bytes h ++ aux_bytes y
+    → n ≡ length (header_bytes h) + length (aux_bytes x) → take n b ≡ authenticated l h x
+auth_made l h x y field b n f e = auth_taken l h x y b n (e ∙ ap (λ (k : NwkSecurityLevel). at_level k x) f)
 
 -- and its first bytes, those of the header alone
 pub header_taken : (h : NwkHeader) (y : NwkAuxHeader) (b : List ℕ) (n : ℕ)

@@ -20,6 +20,12 @@ use Rattle.nwk.specs.Answer.{answer, clear_bit, opened_answer, answer_by, given}
 use Rattle.nwk.specs.Inbound.{earlier_answer}
 use Rattle.nwk.specs.Recovery.{recovered_answer, written_answer, next_answer}
 
+-- ---- the clauses of a function that answers and writes
+
+-- two facts, each as the clause of its name
+pub clauses : {A B : Type 0} → A × B → record { answer : A; out : B }
+clauses p = record { answer = p.0; out = p.1 }
+
 -- ---- reading the answer
 
 pub answer_length : (refusal n : ℕ) → n < 2 ^ 32 → answer refusal n % 2 ^ 32 ≡ n

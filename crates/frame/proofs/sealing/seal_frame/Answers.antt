@@ -1,21 +1,16 @@
 -- `seal_frame` meets its contract: nonce and authenticated bytes are those of the definition, and the parts stand one behind the other.
 -- Assumes nothing.
-use mathlib.Core.Path.{◌≡◌, sym, ap, ◌∙◌}
+use mathlib.Core.Path.{sym, ap, ◌∙◌}
 use Prim.Native.Nat.{◌+◌}
 use native.Mathlib.Omega.{arith}
 use lib.ListN.{length}
 use Rattle.header.specs.Auxiliary.{aux_bytes}
-use Rattle.header.specs.declared.{auxiliary.NwkAuxHeader.NwkAuxHeader, auxiliary.NwkSecurityLevel.NwkSecurityLevel}
-use Rattle.types.specs.declared.level.Level.{Level}
+use Rattle.header.specs.declared.{auxiliary.NwkAuxHeader.NwkAuxHeader}
 use Rattle.frame.proofs.Levels.{level_length}
-use Rattle.frame.specs.Security.{field_level, sent_level, at_level}
+use Rattle.frame.specs.Security.{sent_level}
 use Rattle.frame.specs.Sealing.{sealed_length}
-use Rattle.frame.proofs.Answers.{auth_length, auth_taken, header_taken, sealed_done}
+use Rattle.frame.proofs.Answers.{auth_length, auth_made, header_taken, sealed_done}
 use Rattle.frame.proofs.sealing.seal_frame.Goals as goal
-
--- the auxiliary header has the network's level
-level : (l : Level) (aux held : NwkAuxHeader) (field : NwkSecurityLevel) → held ≡ at_level field aux → field ≡ field_level l → held ≡ at_level (field_level l) aux
-level l aux held field e f = e ∙ ap (λ (n : NwkSecurityLevel). at_level n aux) f
 
 pub both_headers-auth-requires : goal.both_headers-auth-requires
 unfolding sealed_length
@@ -45,7 +40,7 @@ slice_bounds-auth-end-2 c =
 pub slice_bounds-put_sealed-end : goal.slice_bounds-put_sealed-end
 slice_bounds-put_sealed-end c =
     let taken =
-    auth_taken _ _ _ _ _ _ (level _ _ _ _ c.at_level.ensures c.field_level.ensures) c.both_headers-auth.ensures
+    auth_made c.args.level c.args.h c.args.aux _ _ _ _ c.field_level.ensures c.at_level.ensures c.both_headers-auth.ensures
     (λ i. c.size-header.ensures.0 i + c.size.ensures.0 i) in
     sym (ap length taken ∙ auth_length _ _ _ ∙ (λ i. sym c.size-header.ensures.0 i + sym c.size.ensures.0 i))
 
@@ -53,7 +48,7 @@ pub put_sealed-requires : goal.put_sealed-requires
 unfolding sealed_length
 put_sealed-requires c =
     let taken =
-    auth_taken _ _ _ _ _ _ (level _ _ _ _ c.at_level.ensures c.field_level.ensures) c.both_headers-auth.ensures
+    auth_made c.args.level c.args.h c.args.aux _ _ _ _ c.field_level.ensures c.at_level.ensures c.both_headers-auth.ensures
     (λ i. c.size-header.ensures.0 i + c.size.ensures.0 i) in
     let p = c.requires in (
       p.0,
@@ -65,7 +60,7 @@ put_sealed-requires c =
 pub returns : goal.returns
 returns c =
     let taken =
-    auth_taken _ _ _ _ _ _ (level _ _ _ _ c.at_level.ensures c.field_level.ensures) c.both_headers-auth.ensures
+    auth_made c.args.level c.args.h c.args.aux _ _ _ _ c.field_level.ensures c.at_level.ensures c.both_headers-auth.ensures
     (λ i. c.size-header.ensures.0 i + c.size.ensures.0 i) in
     let front = header_taken _ _ _ _ c.both_headers-auth.ensures c.size-header.ensures.0 in
     sealed_done _ _ _ _ _ _ _ _ _ _ _ _ _ (λ i. c.size-header.ensures.0 i + c.size.ensures.0 i) front c.at_level-2.ensures

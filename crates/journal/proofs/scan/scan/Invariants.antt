@@ -9,7 +9,9 @@ use Rattle.journal.proofs.scan.scan.Given as goal
 
 abbrev pub invariant-loop-whole : goal.invariant-loop-whole
 invariant-loop-whole l = (l.whole ≡ whole_at l.journal l.at)
-    × ((length l.addresses ≡ length l.initial.addresses) × ((length l.counters ≡ length l.initial.counters) × Reached l.journal l.room l.at l.ceiling l.key_number l.senders l.addresses l.counters))
+    × ((length l.addresses ≡ length l.initial.addresses)
+    × ((length l.counters ≡ length l.initial.counters)
+    × Reached l.journal l.room l.at l.ceiling l.key_number l.senders l.addresses l.counters))
 
 abbrev pub decreases-loop-whole : goal.decreases-loop-whole
 decreases-loop-whole l = length l.journal - l.at

@@ -3,13 +3,9 @@ use mathlib.Core.Path.{sym, ◌∙◌}
 use Rattle.octets.proofs.Conditions.{skip_by}
 use Rattle.commands.specs.Writing.{write_command}
 use Rattle.command_records.specs.CommandRecord.{write_record_refusal}
-use Rattle.nwk.proofs.Calls.{refused_by, written_by}
+use Rattle.nwk.proofs.Calls.{refused_by, written_by, clauses}
 use Rattle.nwk.proofs.Refusals.{read_number, single}
 use Rattle.nwk.proofs.command.nwk_write_command.Goals as goal
-
--- a clause by its name
-clauses : {A B : Type 0} → A × B → record { answer : A; out : B }
-clauses p = record { answer = p.0; out = p.1 }
 
 pub returns-then-read-ne0 : goal.returns-then-read-ne0
 unfolding write_record_refusal

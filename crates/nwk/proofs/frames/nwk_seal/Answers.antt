@@ -6,13 +6,9 @@ use Rattle.types.specs.Levels.{is_other}
 use Rattle.frame.specs.Sealing.{seal_frame}
 use Rattle.records.proofs.RecordBack.{header_tests}
 use Rattle.nwk.specs.Frames.{seal_records_refusal, sealed_records}
-use Rattle.nwk.proofs.Calls.{refused_by, sealed_by_lem}
+use Rattle.nwk.proofs.Calls.{refused_by, sealed_by_lem, clauses}
 use Rattle.nwk.proofs.Refusals.{write_good}
 use Rattle.nwk.proofs.frames.nwk_seal.Goals as goal
-
--- a clause by its name
-clauses : {A B : Type 0} → A × B → record { answer : A; out : B }
-clauses p = record { answer = p.0; out = p.1 }
 
 pub returns-then-is_other : goal.returns-then-is_other
 unfolding seal_records_refusal

@@ -5,13 +5,9 @@ use Rattle.octets.proofs.Conditions.{stop}
 use Rattle.frame.specs.Writing.{write_frame}
 use Rattle.records.proofs.RecordBack.{header_tests}
 use Rattle.nwk.specs.Frames.{write_frame_refusal}
-use Rattle.nwk.proofs.Calls.{refused_by, written_by}
+use Rattle.nwk.proofs.Calls.{refused_by, written_by, clauses}
 use Rattle.nwk.proofs.Refusals.{write_good}
 use Rattle.nwk.proofs.frames.nwk_write_frame.Goals as goal
-
--- a clause by its name
-clauses : {A B : Type 0} → A × B → record { answer : A; out : B }
-clauses p = record { answer = p.0; out = p.1 }
 
 pub returns-then-is_bad : goal.returns-then-is_bad
 unfolding write_frame_refusal

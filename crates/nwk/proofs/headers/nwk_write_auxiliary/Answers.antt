@@ -5,13 +5,9 @@ use mathlib.Core.Bool.{not}
 use Rattle.octets.proofs.Conditions.{stop, skip}
 use Rattle.header.specs.Auxiliary.{write_aux}
 use Rattle.nwk.specs.Headers.{write_aux_refusal}
-use Rattle.nwk.proofs.Calls.{refused_by, written_by}
+use Rattle.nwk.proofs.Calls.{refused_by, written_by, clauses}
 use Rattle.nwk.proofs.Refusals.{write_good}
 use Rattle.nwk.proofs.headers.nwk_write_auxiliary.Goals as goal
-
--- a clause by its name
-clauses : {A B : Type 0} → A × B → record { answer : A; out : B }
-clauses p = record { answer = p.0; out = p.1 }
 
 pub returns-then-is_bad : goal.returns-then-is_bad
 unfolding write_aux_refusal
