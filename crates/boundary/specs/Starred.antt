@@ -1,10 +1,10 @@
 -- The cases that document 01, "At the boundaries", marks with a star, as one table. What a row says of the definitions is
 -- `Holds`; that every row holds is one claim, in proofs/Starred.antt.
 -- Assumes nothing.
-use Rattle.std.specs.Prelude.{◌≡◌, true, false, List, [], ◌∷◌, ◌++◌, ℕ, length, drop, take, replicate}
-use Rattle.header.specs.declared.{control.NwkFrameControl.NwkFrameControl, control.NwkFrameType.NwkFrameType, control.NwkRouteDiscovery.NwkRouteDiscovery, optional.OptionMulticast.OptionMulticast, optional.NwkSourceRoute.NwkSourceRoute, nwk.NwkHeader.NwkHeader}
+use Rattle.std.specs.Prelude.{◌≡◌, true, false, List, [], ◌∷◌, ◌++◌, ℕ, length, drop, take, replicate, None}
+use Rattle.header.specs.declared.{control.NwkFrameControl.NwkFrameControl, control.NwkFrameType.NwkFrameType, control.NwkRouteDiscovery.NwkRouteDiscovery, optional.NwkSourceRoute.NwkSourceRoute, nwk.NwkHeader.NwkHeader}
 use Rattle.types.specs.Addresses.{nwk, no_nwk}
-use Rattle.types.specs.declared.{Nwk.Nwk, OptionEui64.OptionEui64}
+use Rattle.types.specs.declared.Nwk.{Nwk}
 use Rattle.header.specs.Reading.{read_header, blank_header}
 use Rattle.commands.specs.declared.{NwkCommand.NwkCommand, NwkCommandWithLists.NwkCommandWithLists, NwkEndDeviceTimeoutRequestCommand.NwkEndDeviceTimeoutRequestCommand, EndDeviceTimeout.EndDeviceTimeout}
 use Rattle.commands.specs.Codes.{timeout_code}
@@ -93,9 +93,9 @@ from_probe c route relays =
       source = nwk 0x1234;
       radius = 30;
       sequence_number = 7;
-      destination_ieee = OptionEui64.Absent;
-      source_ieee = OptionEui64.Absent;
-      multicast_control = OptionMulticast.Absent;
+      destination_ieee = None;
+      source_ieee = None;
+      multicast_control = None;
       source_route = route;
       relays = relays;
     }

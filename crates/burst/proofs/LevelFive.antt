@@ -1,5 +1,6 @@
 -- A value of the claim in specs/LevelFive.antt: the burst opens each frame, and so at level 5 as it was.
 -- Assumes nothing.
+use Rattle.std.specs.Prelude.{None}
 use mathlib.Core.Path.{◌≡◌, ap, fun_ext}
 use mathlib.Core.List.{List, [], ◌++◌}
 use Prim.Native.Nat.{ℕ, ◌*◌}
@@ -10,7 +11,6 @@ use Rattle.types.specs.declared.level.Level.{Level}
 use Rattle.header.specs.Reading.{blank_header}
 use Rattle.ccm.specs.Operations.{ciph_of}
 use Rattle.ccm.proofs.Levels as ccm-levels
-use Rattle.frame.specs.declared.OptionAuxHeader.{OptionAuxHeader}
 use Rattle.frame.specs.Opening as opening
 use Rattle.frame.specs.NetworkLevel.{open_formerly}
 use Rattle.frame.proofs.NetworkLevel as frame-levels
@@ -20,7 +20,7 @@ use Rattle.burst.specs.LevelFive.{open_burst_formerly, LevelFive}
 
 -- opening at level 5, as a function of the frame and the part
 opens_as_before : (key : List ℕ) → opening.open_with Level.EncMic32 (ciph_of key) ≡ open_formerly key
-opens_as_before key = fun_ext (λ f. fun_ext (λ o. (frame-levels.level_five key blank_header OptionAuxHeader.Absent [] f o).opening))
+opens_as_before key = fun_ext (λ f. fun_ext (λ o. (frame-levels.level_five key blank_header None [] f o).opening))
 
 burst_as_before : (key fs ns o : List ℕ) (list : List (List ℕ)) → open_burst Level.EncMic32 key fs ns o list ≡ open_burst_formerly key fs ns o list
 unfolding open_burst out_after answers_after alone open_burst_formerly

@@ -2,13 +2,12 @@
 -- burst are the operations as they were without a level. Those of CCM are in crates/ccm/specs/Levels.antt, sealing and opening in
 -- crates/frame/specs/NetworkLevel.antt.
 -- Assumes nothing.
-use Rattle.std.specs.Prelude.{◌≡◌, List, ◌++◌, ℕ, ◌*◌, length, drop}
+use Rattle.std.specs.Prelude.{◌≡◌, List, ◌++◌, ℕ, ◌*◌, length, drop, Option}
 use Rattle.octets.specs.Strings.{tab}
 use Rattle.octets.specs.Refusals.{unless}
 use Rattle.types.specs.declared.level.Level.{Level}
 use Rattle.header.specs.declared.nwk.NwkHeader.{NwkHeader}
 use Rattle.ccm.specs.Levels as alone
-use Rattle.frame.specs.declared.OptionAuxHeader.{OptionAuxHeader}
 use Rattle.frame.specs.NetworkLevel as frames
 use Rattle.frame.specs.NetworkLevel.{open_formerly}
 use Rattle.records.specs.OpenedRecord.{opened_record}
@@ -26,11 +25,11 @@ open_burst_formerly key fs ns o list =
     (burst_nothing (burst_refusal ns (length fs) (length o) (length list)) o list)
 
 -- the operations of level 5 on all their inputs
-pub record AsBefore (key nonce a x mic : List ℕ) (h : NwkHeader) (aux : OptionAuxHeader) (f ns o : List ℕ) (list : List (List ℕ)) : Type 0 where
+pub record AsBefore (key nonce a x mic : List ℕ) (h : NwkHeader) (aux : Option NwkAuxHeader) (f ns o : List ℕ) (list : List (List ℕ)) : Type 0 where
   pub ccm : alone.Former key nonce a x mic o
   pub frame : frames.Former key h aux x f o
   pub burst : open_burst Level.EncMic32 key f ns o list ≡ open_burst_formerly key f ns o list
 
 abbrev pub LevelFive : Type 0
 LevelFive =
-    (key nonce a x mic : List ℕ) (h : NwkHeader) (aux : OptionAuxHeader) (f ns o : List ℕ) (list : List (List ℕ)) → AsBefore key nonce a x mic h aux f ns o list
+    (key nonce a x mic : List ℕ) (h : NwkHeader) (aux : Option NwkAuxHeader) (f ns o : List ℕ) (list : List (List ℕ)) → AsBefore key nonce a x mic h aux f ns o list

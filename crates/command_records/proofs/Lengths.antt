@@ -1,5 +1,6 @@
 -- Where the parts of the command record begin, and that fields written over a blank front are filled up with zeros.
 -- Assumes nothing.
+use Rattle.std.specs.Prelude.{Option}
 use mathlib.Core.Path.{◌≡◌, refl, sym, ap, ◌∙◌}
 use mathlib.Core.List.{List, ◌∷◌, ◌++◌, append_assoc}
 use Prim.Native.Nat.{ℕ, suc, ◌+◌, ◌*◌, ◌≤◌}
@@ -14,7 +15,6 @@ use Rattle.commands.specs.Format.{Field, size, sizes}
 use Rattle.commands.specs.Commands.{entries_of, capability_values, route_record_format, relay_entry, link_entry, no_link, network_report_format, pan_id_entry, no_pan_id, link_power_delta_format, power_entry, no_power}
 use Rattle.commands.specs.Reading.{places}
 use Rattle.commands.proofs.Format.{length_write_entries}
-use Rattle.types.specs.declared.OptionEui64.{OptionEui64}
 use Rattle.commands.specs.declared.{NwkCommand.NwkCommand, NwkCommandWithLists.NwkCommandWithLists}
 use Rattle.command_records.specs.Fields.{address_record, field_bytes, fields_record}
 use Rattle.command_records.specs.Lists.{link_record_entry, list_record, relays_record, links_record, pan_ids_record, powers_record}
@@ -22,7 +22,7 @@ use Rattle.command_records.specs.CommandRecord.{lists_record, command_record}
 
 -- ---- the fields
 
-length_address : (a : OptionEui64) → length (address_record a) ≡ 9
+length_address : (a : Option ℕ) → length (address_record a) ≡ 9
 unfolding address_record
 length_address a = simp length_le
 

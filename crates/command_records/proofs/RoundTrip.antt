@@ -1,6 +1,7 @@
 -- The record of a command says that command again, with its lists, so no two commands have the same record. Every field
 -- stands at its own place and is read back by the law of its kind; for the lists that is ListsBack.
 -- Assumes nothing.
+use Rattle.std.specs.Prelude.{Option, Some, None}
 use mathlib.Core.Path.{◌≡◌, refl, sym, ap, ◌∙◌}
 use mathlib.Core.Bool.{Bool, true, false, cond}
 use mathlib.Core.List.{List, [], ◌∷◌, ◌++◌}
@@ -21,7 +22,6 @@ use Rattle.commands.proofs.Ranges.{InAddress, Ranged}
 use Rattle.commands.proofs.Commands.{back}
 use Rattle.commands.proofs.Layouts.{contents}
 use Rattle.command_records.proofs.Layouts.{layouts}
-use Rattle.types.specs.declared.OptionEui64.{OptionEui64}
 use Rattle.commands.specs.declared.{NwkCommand.NwkCommand, NwkCommandId.NwkCommandId, NwkCommandIdCode.NwkCommandIdCode, NwkCommandWithLists.NwkCommandWithLists, NwkCommandRead.NwkCommandRead, TypedBody.TypedBody}
 use Rattle.command_records.specs.Fields.{address_record, field_bytes, fields_record, record_values, are_flags, flags_fit, said_by, said}
 use Rattle.command_records.specs.CommandRecord.{lists_record, command_record, recorded_by, read_record}
@@ -32,26 +32,26 @@ use Rattle.command_records.proofs.Said.{flags}
 
 -- ---- the optional addresses
 
-address_back : (a : OptionEui64) (rest : List ℕ) → InAddress a → address_of (get_or (address_record a ++ rest) 0 0) (le_at 8 (address_record a ++ rest) 1) ≡ a
+address_back : (a : Option ℕ) (rest : List ℕ) → InAddress a → address_of (get_or (address_record a ++ rest) 0 0) (le_at 8 (address_record a ++ rest) 1) ≡ a
 unfolding address_of address_record le le_at
-address_back OptionEui64.Absent rest h = refl
-address_back (OptionEui64.Present x) rest h = ap OptionEui64.Present (le_at_le 8 x [] h)
+address_back None rest h = refl
+address_back (Some x) rest h = ap Some (le_at_le 8 x [] h)
 
 -- of a route reply, the second entry is the responder's, and the only one where the originator's is absent
 abbrev reply_entries : List ℕ → List (List ℕ)
 reply_entries s = cond (is_set (get_or s 0 0)) ((le_at 8 s 1 ∷ []) ∷ (le_at 8 s 10 ∷ []) ∷ []) ((le_at 8 s 10 ∷ []) ∷ [])
 
-originator_back : (a b : OptionEui64) (rest : List ℕ) → InAddress a
+originator_back : (a b : Option ℕ) (rest : List ℕ) → InAddress a
     → let s = address_record a ++ (address_record b ++ rest) in address_of (bit (is_set (get_or s 0 0))) (get_or (get_or (reply_entries s) 0 []) 0 0) ≡ a
 unfolding address_of address_record le le_at
-originator_back OptionEui64.Absent b rest h = refl
-originator_back (OptionEui64.Present x) b rest h = ap OptionEui64.Present (le_at_le 8 x [] h)
+originator_back None b rest h = refl
+originator_back (Some x) b rest h = ap Some (le_at_le 8 x [] h)
 
-responder_back : (a b : OptionEui64) (rest : List ℕ) → InAddress b
+responder_back : (a b : Option ℕ) (rest : List ℕ) → InAddress b
     → let s = address_record a ++ (address_record b ++ rest) in address_of (get_or s 9 0) (get_or (get_or (reply_entries s) (bit (is_set (get_or s 0 0))) []) 0 0) ≡ b
 unfolding address_record le le_at
-responder_back OptionEui64.Absent b rest h = address_back b rest h
-responder_back (OptionEui64.Present x) b rest h = address_back b rest h
+responder_back None b rest h = address_back b rest h
+responder_back (Some x) b rest h = address_back b rest h
 
 -- ---- the command
 
@@ -64,9 +64,9 @@ bit_flag : (b : Bool) → ltb (bit b) 2 ≡ true
 bit_flag true = refl
 bit_flag false = refl
 
-presence_flag : (a : OptionEui64) → ltb (has a) 2 ≡ true
-presence_flag OptionEui64.Absent = refl
-presence_flag (OptionEui64.Present x) = refl
+presence_flag : (a : Option ℕ) → ltb (has a) 2 ≡ true
+presence_flag None = refl
+presence_flag (Some x) = refl
 
 -- the command that the fields of c say, whatever lists follow
 fields_back : (c : NwkCommand) (f : NwkCommandWithLists) (rest : List ℕ) → Ranged c → said (fields_record c ++ rest) ≡ TypedBody.Typed c

@@ -2,9 +2,8 @@
 -- command's own fields in the declared order, each at a fixed place, then 0. A truth value is a byte 0 or 1, a code its
 -- number, an optional IEEE address a presence byte and eight bytes that are 0 where it is absent.
 -- Assumes nothing.
-use Rattle.std.specs.Prelude.{ℕ, zero, suc, ◌+◌, Bool, true, cond, ◌&&◌, List, [], ◌∷◌, ◌++◌, get_or, drop, ltb, eqb}
+use Rattle.std.specs.Prelude.{ℕ, zero, suc, ◌+◌, Bool, true, cond, ◌&&◌, List, [], ◌∷◌, ◌++◌, get_or, drop, ltb, eqb, Option, Some, None}
 use Rattle.octets.specs.Numbers.{le, le_at}
-use Rattle.types.specs.declared.OptionEui64.{OptionEui64}
 use Rattle.octets.specs.Fields.{bit}
 use Rattle.commands.specs.declared.{NwkCommand.NwkCommand, NwkCommandId.NwkCommandId, NwkCommandIdCode.NwkCommandIdCode, TypedBody.TypedBody}
 use Rattle.commands.specs.Codes.{is_set, command_id_of, many_to_one_code, status_code, association_status_code, report_identifier_code, update_identifier_code, timeout_code, timeout_status_code, power_type_code, commissioning_type_code}
@@ -14,11 +13,11 @@ use Rattle.commands.specs.Reading.{places, command_of}
 
 -- ---- the record of a command
 
-abbrev pub address_value : OptionEui64 → ℕ
-address_value OptionEui64.Absent = 0
-address_value (OptionEui64.Present x) = x
+abbrev pub address_value : Option ℕ → ℕ
+address_value None = 0
+address_value (Some x) = x
 
-unfoldable pub address_record : OptionEui64 → List ℕ
+unfoldable pub address_record : Option ℕ → List ℕ
 address_record a = has a ∷ le 8 (address_value a)
 
 -- identifier and fields

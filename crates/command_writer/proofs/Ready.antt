@@ -1,6 +1,7 @@
 -- What a command that is not refused gives its writer: its length by its case, its list within its places, and costs of
 -- three bits.
 -- Assumes nothing.
+use Rattle.std.specs.Prelude.{Option, Some, None}
 use mathlib.Core.Path.{◌≡◌, refl, sym, subst, ◌∙◌}
 use mathlib.Core.Bool.{Bool, true, false, ◌&&◌, true≢false}
 use mathlib.Core.List.{List, ◌++◌}
@@ -21,7 +22,6 @@ use Rattle.commands.proofs.InRange.{InRange, misfits_test}
 use Rattle.commands.proofs.RoundTrip.{Accepted, accepts}
 use Rattle.command_writer.specs.Options.{LowCosts}
 use Rattle.commands.proofs.Layouts.{formats, contents}
-use Rattle.types.specs.declared.OptionEui64.{OptionEui64}
 use Rattle.commands.specs.declared.{NwkCommandId.NwkCommandId, NwkCommand.NwkCommand, NwkCommandWithLists.NwkCommandWithLists, NwkLinkStatus.NwkLinkStatus}
 
 -- ---- the length of each command
@@ -44,11 +44,11 @@ length_by (NwkCommand.NetworkCommissioningRequest c) f = 3
 length_by (NwkCommand.NetworkCommissioningResponse c) f = 4
 length_by NwkCommand.Unparsed f = f.unparsed_len
 
-address_length : (a : OptionEui64) → length (address_entry a) ≡ has a
-address_length OptionEui64.Absent = refl
-address_length (OptionEui64.Present x) = refl
+address_length : (a : Option ℕ) → length (address_entry a) ≡ has a
+address_length None = refl
+address_length (Some x) = refl
 
-addresses_length : (a b : OptionEui64) → length (address_entry a ++ address_entry b) ≡ has a + has b
+addresses_length : (a b : Option ℕ) → length (address_entry a ++ address_entry b) ≡ has a + has b
 addresses_length a b = length-append (address_entry a) (address_entry b) ∙ rw (address_length a, address_length b)
 
 pub length_by_lem : (c : NwkCommand) (f : NwkCommandWithLists) → length (wire_bytes (wire_of c f)) ≡ length_by c f

@@ -1,5 +1,6 @@
 -- A route reply's bytes: its head, then the addresses that are there, one behind the other.
 -- Assumes nothing.
+use Rattle.std.specs.Prelude.{Option, Some, None}
 use mathlib.Core.Path.{◌≡◌, refl, sym, ap, ◌∙◌}
 use mathlib.Core.List.{List, ◌++◌, append_assoc}
 use Prim.Native.Nat.{ℕ, ◌+◌, ◌*◌}
@@ -10,14 +11,13 @@ use Rattle.commands.specs.Commands.{route_request_format, route_reply_values, ha
 use Rattle.commands.specs.Writing.{wire_bytes}
 use Rattle.commands.specs.Writing.Wire.{body}
 use Rattle.commands.proofs.Format.{entries_append}
-use Rattle.types.specs.declared.OptionEui64.{OptionEui64}
 use Rattle.commands.specs.declared.{NwkCommandId.NwkCommandId, NwkRouteReplyCommand.NwkRouteReplyCommand}
 use Rattle.command_writer.specs.Reply.{reply_head}
 use Rattle.commands.proofs.Layouts.{formats, contents}
 use Rattle.command_writer.proofs.Layouts.{layouts}
 
 -- the bytes of an optional address
-abbrev pub address_bytes : OptionEui64 → List ℕ
+abbrev pub address_bytes : Option ℕ → List ℕ
 address_bytes a = write_entries route_request_format.entry (address_entry a)
 
 -- where the originator's address starts
@@ -25,10 +25,10 @@ pub originator_at : (c : NwkRouteReplyCommand) → 8 ≡ 0 + length (reply_head 
 unfolding layouts
 originator_at c = refl
 
-length_address : (a : OptionEui64) → length (address_bytes a) ≡ has a * 8
+length_address : (a : Option ℕ) → length (address_bytes a) ≡ has a * 8
 unfolding layouts
-length_address OptionEui64.Absent = refl
-length_address (OptionEui64.Present x) = refl
+length_address None = refl
+length_address (Some x) = refl
 
 -- where the responder's address starts
 pub responder_at : (c : NwkRouteReplyCommand) (n : ℕ) → n ≡ has c.originator_eui64

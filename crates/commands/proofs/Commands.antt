@@ -1,6 +1,7 @@
 -- Each of the fifteen commands: its values have the shape of its format, they mean the command, and the list that they
 -- hold is the command's own. The equations are the codes' laws, one for each coded field.
 -- Assumes nothing.
+use Rattle.std.specs.Prelude.{Option, Some, None}
 use mathlib.Core.Path.{◌≡◌, refl, sym, ap, ◌∙◌}
 use mathlib.Core.List.{List, [], ◌∷◌, ◌++◌, map}
 use Prim.Native.Nat.{ℕ, zero, suc, ◌+◌}
@@ -18,7 +19,7 @@ use Rattle.commands.specs.Writing.Wire.{body, raw}
 use Rattle.commands.proofs.Format.{Fit, Shaped}
 use Rattle.commands.proofs.Layouts.{formats, meanings, codings, contents, shapes}
 use Rattle.commands.proofs.CodeLaws.{many_to_one_back, status_back, association_status_back, report_identifier_back, update_identifier_back, timeout_back, timeout_status_back, power_type_back, commissioning_type_back, is_set_bit, device_type_back, power_source_back}
-use Rattle.types.specs.declared.{Nwk.Nwk, OptionEui64.OptionEui64, PanId.PanId}
+use Rattle.types.specs.declared.{Nwk.Nwk, PanId.PanId}
 use Rattle.commands.specs.declared.{NwkCommandId.NwkCommandId, NwkCommand.NwkCommand, NwkCommandWithLists.NwkCommandWithLists, NwkCommandList.NwkCommandList, TypedBody.TypedBody, NwkRejoinCapabilityInformation.NwkRejoinCapabilityInformation, NwkRouteRequestCommand.NwkRouteRequestCommand, NwkRouteReplyCommand.NwkRouteReplyCommand, NwkLeaveCommand.NwkLeaveCommand, NwkLinkStatusCommand.NwkLinkStatusCommand, NwkNetworkReportCommand.NwkNetworkReportCommand, NwkLinkPowerDeltaCommand.NwkLinkPowerDeltaCommand, NwkLinkStatus.NwkLinkStatus, NwkPowerListEntry.NwkPowerListEntry, NwkNetworkStatusCommand.NwkNetworkStatusCommand, NwkRejoinRequestCommand.NwkRejoinRequestCommand, NwkRejoinResponseCommand.NwkRejoinResponseCommand, NwkNetworkUpdateCommand.NwkNetworkUpdateCommand, NwkEndDeviceTimeoutRequestCommand.NwkEndDeviceTimeoutRequestCommand, NwkNetworkCommissioningRequestCommand.NwkNetworkCommissioningRequestCommand, NwkNetworkCommissioningResponseCommand.NwkNetworkCommissioningResponseCommand, NwkEndDeviceTimeoutResponseCommand.NwkEndDeviceTimeoutResponseCommand}
 
 -- ---- lists
@@ -54,42 +55,42 @@ module _ {A : Type 0} (entry : A → List ℕ) (d : A) (xs : List A) (n : ℕ) w
 
 -- ---- optional IEEE addresses
 
-address_shaped : (fs : List Field) (a : OptionEui64) → widths fs ≡ 1 → Shaped fs (address_entry a)
-address_shaped fs OptionEui64.Absent w k h = absurd (not-suc-le-zero h)
-address_shaped fs (OptionEui64.Present x) w zero h = sym w
-address_shaped fs (OptionEui64.Present x) w (suc k) h = absurd (omega arith)
+address_shaped : (fs : List Field) (a : Option ℕ) → widths fs ≡ 1 → Shaped fs (address_entry a)
+address_shaped fs None w k h = absurd (not-suc-le-zero h)
+address_shaped fs (Some x) w zero h = sym w
+address_shaped fs (Some x) w (suc k) h = absurd (omega arith)
 
-addresses_shaped : (fs : List Field) (a b : OptionEui64) → widths fs ≡ 1 → Shaped fs (address_entry a ++ address_entry b)
-addresses_shaped fs OptionEui64.Absent b w k h = address_shaped fs b w k h
-addresses_shaped fs (OptionEui64.Present x) b w zero h = sym w
-addresses_shaped fs (OptionEui64.Present x) b w (suc k) h = address_shaped fs b w k (omega arith)
+addresses_shaped : (fs : List Field) (a b : Option ℕ) → widths fs ≡ 1 → Shaped fs (address_entry a ++ address_entry b)
+addresses_shaped fs None b w k h = address_shaped fs b w k h
+addresses_shaped fs (Some x) b w zero h = sym w
+addresses_shaped fs (Some x) b w (suc k) h = address_shaped fs b w k (omega arith)
 
-address_count : (a : OptionEui64) → has a ≡ length (address_entry a)
-address_count OptionEui64.Absent = refl
-address_count (OptionEui64.Present x) = refl
+address_count : (a : Option ℕ) → has a ≡ length (address_entry a)
+address_count None = refl
+address_count (Some x) = refl
 
-addresses_count : (a b : OptionEui64) → has a + has b ≡ length (address_entry a ++ address_entry b)
-addresses_count OptionEui64.Absent OptionEui64.Absent = refl
-addresses_count OptionEui64.Absent (OptionEui64.Present x) = refl
-addresses_count (OptionEui64.Present x) OptionEui64.Absent = refl
-addresses_count (OptionEui64.Present x) (OptionEui64.Present y) = refl
+addresses_count : (a b : Option ℕ) → has a + has b ≡ length (address_entry a ++ address_entry b)
+addresses_count None None = refl
+addresses_count None (Some x) = refl
+addresses_count (Some x) None = refl
+addresses_count (Some x) (Some y) = refl
 
-first_address : (a : OptionEui64) (es : List (List ℕ)) → address_of (has a) (get_or (get_or (address_entry a ++ es) 0 []) 0 0) ≡ a
+first_address : (a : Option ℕ) (es : List (List ℕ)) → address_of (has a) (get_or (get_or (address_entry a ++ es) 0 []) 0 0) ≡ a
 unfolding address_of
-first_address OptionEui64.Absent es = refl
-first_address (OptionEui64.Present x) es = refl
+first_address None es = refl
+first_address (Some x) es = refl
 
-second_address : (a b : OptionEui64) → address_of (has b) (get_or (get_or (address_entry a ++ address_entry b) (has a) []) 0 0) ≡ b
+second_address : (a b : Option ℕ) → address_of (has b) (get_or (get_or (address_entry a ++ address_entry b) (has a) []) 0 0) ≡ b
 unfolding address_of
-second_address OptionEui64.Absent OptionEui64.Absent = refl
-second_address OptionEui64.Absent (OptionEui64.Present y) = refl
-second_address (OptionEui64.Present x) OptionEui64.Absent = refl
-second_address (OptionEui64.Present x) (OptionEui64.Present y) = refl
+second_address None None = refl
+second_address None (Some y) = refl
+second_address (Some x) None = refl
+second_address (Some x) (Some y) = refl
 
-only_address : (a : OptionEui64) → address_of (has a) (get_or (get_or (address_entry a) 0 []) 0 0) ≡ a
+only_address : (a : Option ℕ) → address_of (has a) (get_or (get_or (address_entry a) 0 []) 0 0) ≡ a
 unfolding address_of
-only_address OptionEui64.Absent = refl
-only_address (OptionEui64.Present x) = refl
+only_address None = refl
+only_address (Some x) = refl
 
 -- ---- capability information
 

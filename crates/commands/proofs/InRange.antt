@@ -1,5 +1,6 @@
 -- A value of a Rattle type is within its type's range: what owning a command tells of its numbers and of its lists.
 -- Assumes nothing.
+use Rattle.std.specs.Prelude.{Option, Some, None}
 use mathlib.Core.Path.{◌≡◌}
 use mathlib.Core.List.{List, [], ◌∷◌}
 use Prim.Native.Nat.{ℕ, zero, suc, ◌<◌}
@@ -20,12 +21,12 @@ use Rattle.types.specs.contracts.PanId as pan-id
 use Rattle.commands.specs.contracts.NwkCommand as nwk-command
 use Rattle.commands.specs.contracts.NwkCommandWithLists as nwk-command-with-lists
 use Rattle.commands.specs.contracts.NwkPowerListEntry as nwk-power-list-entry
-use Rattle.types.specs.declared.{Nwk.Nwk, OptionEui64.OptionEui64, PanId.PanId}
+use Rattle.types.specs.declared.{Nwk.Nwk, PanId.PanId}
 use Rattle.commands.specs.declared.{NwkCommand.NwkCommand, NwkCommandWithLists.NwkCommandWithLists, NwkCommandList.NwkCommandList, NwkPowerListEntry.NwkPowerListEntry}
 
-address_in : (a : OptionEui64) (vs : List Val) → shadow ((option-eui64.the_row).own_val a vs) → InAddress a
-address_in OptionEui64.Absent vs s = tt
-address_in (OptionEui64.Present x) vs s = omega arith
+address_in : (a : Option ℕ) (vs : List Val) → shadow ((option-eui64.the_row).own_val a vs) → InAddress a
+address_in None vs s = tt
+address_in (Some x) vs s = omega arith
 
 command_in : (c : NwkCommand) (vs : List Val) → shadow ((nwk-command.the_row).own_val c vs) → Ranged c
 command_in (NwkCommand.RouteRequest c) vs s = (omega arith, omega arith, omega arith, search address_in)

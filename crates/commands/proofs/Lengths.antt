@@ -1,6 +1,7 @@
 -- How long a command is: a typed one that fits its fields never passes 108 bytes, so number 17 is met by unparsed bytes
 -- alone. Each length is the format's by computation.
 -- Assumes nothing.
+use Rattle.std.specs.Prelude.{Option, Some, None}
 use mathlib.Core.Path.{◌≡◌, sym}
 use mathlib.Core.Bool.{Bool, false, ◌||◌}
 use mathlib.Core.List.{◌++◌}
@@ -17,7 +18,6 @@ use Rattle.commands.specs.Writing.{wire_of, wire_bytes, over_places, misfits}
 use Rattle.commands.specs.Writing.Wire.{body}
 use Rattle.commands.proofs.Format.{length_body_bytes}
 use Rattle.commands.proofs.Layouts.{formats, contents, shapes}
-use Rattle.types.specs.declared.OptionEui64.{OptionEui64}
 use Rattle.commands.specs.declared.{NwkCommandId.NwkCommandId, NwkCommand.NwkCommand, NwkCommandWithLists.NwkCommandWithLists, NwkCommandList.NwkCommandList}
 
 -- the length of a body behind its identifier
@@ -28,11 +28,11 @@ pub length_wire : (id : NwkCommandId) (v : Values) → length (wire_bytes (body 
 unfolding wire_bytes
 length_wire id v = rw (length_body_bytes (format_of id) v) (sym (native.Mathlib.Numerals.one-add _))
 
-address_few : (a : OptionEui64) → length (address_entry a) ≤ 1
-address_few OptionEui64.Absent = omega arith
-address_few (OptionEui64.Present x) = omega arith
+address_few : (a : Option ℕ) → length (address_entry a) ≤ 1
+address_few None = omega arith
+address_few (Some x) = omega arith
 
-addresses_few : (a b : OptionEui64) → length (address_entry a ++ address_entry b) ≤ 2
+addresses_few : (a b : Option ℕ) → length (address_entry a ++ address_entry b) ≤ 2
 addresses_few a b = rw (length-append (address_entry a) (address_entry b)) (let p = address_few a in let q = address_few b in omega arith)
 
 -- a list with its places not exceeded

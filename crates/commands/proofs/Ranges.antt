@@ -2,6 +2,7 @@
 -- a count over its places, a cost over 7 and an update count over 31 are left to test. `Ranged` says what a command's
 -- types give, and `misfits_is` what is left.
 -- Assumes nothing.
+use Rattle.std.specs.Prelude.{Option, Some, None}
 use mathlib.Core.Path.{◌≡◌, refl, sym, ap, ◌∙◌}
 use mathlib.Core.Bool.{Bool, true, false, not, ◌&&◌, ◌||◌, or-false}
 use mathlib.Core.List.{List, [], ◌∷◌, ◌++◌}
@@ -23,14 +24,13 @@ use Rattle.commands.specs.Writing.Wire.{body}
 use Rattle.commands.proofs.Format.{both, held_all, ◌&◌, HoldFields, fields_hold}
 use Rattle.commands.proofs.Layouts.{formats, contents, shapes}
 use Rattle.commands.proofs.CodeLaws.{many_to_one_lt, status_lt, association_status_lt, report_identifier_lt, update_identifier_lt, timeout_lt, timeout_status_lt, power_type_lt, commissioning_type_lt, bit_lt}
-use Rattle.types.specs.declared.OptionEui64.{OptionEui64}
 use Rattle.commands.specs.declared.{NwkCommandId.NwkCommandId, NwkCommand.NwkCommand, NwkCommandWithLists.NwkCommandWithLists, NwkCommandList.NwkCommandList, NwkRejoinCapabilityInformation.NwkRejoinCapabilityInformation, NwkRouteRequestCommand.NwkRouteRequestCommand, NwkRouteReplyCommand.NwkRouteReplyCommand, NwkNetworkStatusCommand.NwkNetworkStatusCommand, NwkLeaveCommand.NwkLeaveCommand, NwkRejoinRequestCommand.NwkRejoinRequestCommand, NwkRejoinResponseCommand.NwkRejoinResponseCommand, NwkLinkStatusCommand.NwkLinkStatusCommand, NwkNetworkReportCommand.NwkNetworkReportCommand, NwkNetworkUpdateCommand.NwkNetworkUpdateCommand, NwkPowerListEntry.NwkPowerListEntry, NwkEndDeviceTimeoutRequestCommand.NwkEndDeviceTimeoutRequestCommand, NwkEndDeviceTimeoutResponseCommand.NwkEndDeviceTimeoutResponseCommand, NwkLinkPowerDeltaCommand.NwkLinkPowerDeltaCommand, NwkNetworkCommissioningRequestCommand.NwkNetworkCommissioningRequestCommand, NwkNetworkCommissioningResponseCommand.NwkNetworkCommissioningResponseCommand}
 
 -- ---- what the types give
 
-abbrev pub InAddress : OptionEui64 → Type 0
-InAddress OptionEui64.Absent = Unit {0}
-InAddress (OptionEui64.Present x) = x < 2 ^ 64
+abbrev pub InAddress : Option ℕ → Type 0
+InAddress None = Unit {0}
+InAddress (Some x) = x < 2 ^ 64
 
 abbrev pub InPower : NwkPowerListEntry → Type 0
 InPower p = (p.device_address.0 < 65536) × (p.power_delta < 256)
@@ -93,19 +93,19 @@ pub entries_held : {A : Type 0} (fs : List Field) (entry : A → List ℕ) (d : 
     → ((k : ℕ) → k < n → HoldFields fs (entry (get_or xs k d))) → held_entries fs (entries_of entry d xs n) ≡ true
 entries_held fs entry d xs n h = held_all fs (λ (k : ℕ). entry (get_or xs k d)) n (λ k l. fields_hold fs (entry (get_or xs k d)) (h k l))
 
-has_lt : (a : OptionEui64) → has a < 2
-has_lt OptionEui64.Absent = lit< tt
-has_lt (OptionEui64.Present x) = lit< tt
+has_lt : (a : Option ℕ) → has a < 2
+has_lt None = lit< tt
+has_lt (Some x) = lit< tt
 
-address_held : (a : OptionEui64) → InAddress a → held_entries (number 8 ∷ []) (address_entry a) ≡ true
+address_held : (a : Option ℕ) → InAddress a → held_entries (number 8 ∷ []) (address_entry a) ≡ true
 unfolding held_entries
-address_held OptionEui64.Absent r = refl
-address_held (OptionEui64.Present x) r = both (fields_hold (number 8 ∷ []) (x ∷ []) (r, tt)) refl
+address_held None r = refl
+address_held (Some x) r = both (fields_hold (number 8 ∷ []) (x ∷ []) (r, tt)) refl
 
-addresses_held : (a b : OptionEui64) → InAddress a → InAddress b → held_entries (number 8 ∷ []) (address_entry a ++ address_entry b) ≡ true
+addresses_held : (a b : Option ℕ) → InAddress a → InAddress b → held_entries (number 8 ∷ []) (address_entry a ++ address_entry b) ≡ true
 unfolding held_entries
-addresses_held OptionEui64.Absent b q r = address_held b r
-addresses_held (OptionEui64.Present x) b q r = both (fields_hold (number 8 ∷ []) (x ∷ []) (q, tt)) (address_held b r)
+addresses_held None b q r = address_held b r
+addresses_held (Some x) b q r = both (fields_hold (number 8 ∷ []) (x ∷ []) (q, tt)) (address_held b r)
 
 route_request_held : (c : NwkRouteRequestCommand) → Ranged (NwkCommand.RouteRequest c) → held_values route_request_format (route_request_values c) ≡ true
 unfolding formats contents shapes

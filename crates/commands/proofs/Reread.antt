@@ -1,6 +1,7 @@
 -- What reading gives can be written: the numbers of a command that was read are within their types, its list within its
 -- places, and the places past its count are 0 already. Each number is a byte or a number of n bytes of the input.
 -- Assumes nothing.
+use Rattle.std.specs.Prelude.{Some, None}
 use mathlib.Core.Path.{◌≡◌, refl, ap, ◌∙◌}
 use mathlib.Core.Bool.{Bool, true, false, not, ◌||◌}
 use mathlib.Core.List.{List, [], map}
@@ -24,7 +25,7 @@ use Rattle.commands.proofs.Layouts.{formats, meanings, codings, readings}
 use Rattle.commands.proofs.Commands.{map_tab}
 use Rattle.commands.proofs.Ranges.{InAddress, InPower, Ranged, RangedList, too_big}
 use Rattle.commands.proofs.Lengths.{Typed}
-use Rattle.types.specs.declared.{Nwk.Nwk, OptionEui64.OptionEui64, PanId.PanId}
+use Rattle.types.specs.declared.{Nwk.Nwk, PanId.PanId}
 use Rattle.commands.specs.declared.{NwkCommandId.NwkCommandId, NwkCommand.NwkCommand, NwkCommandList.NwkCommandList, TypedBody.TypedBody, NwkLinkStatus.NwkLinkStatus, NwkPowerListEntry.NwkPowerListEntry, NwkRouteRequestManyToOneCode.NwkRouteRequestManyToOneCode, NwkNetworkStatusCode.NwkNetworkStatusCode, Nwk802154AssociationStatusCode.Nwk802154AssociationStatusCode, NwkReportCommandIdentifierCode.NwkReportCommandIdentifierCode, NwkUpdateCommandIdentifierCode.NwkUpdateCommandIdentifierCode, EndDeviceTimeoutCode.EndDeviceTimeoutCode, NwkEndDeviceTimeoutResponseStatusCode.NwkEndDeviceTimeoutResponseStatusCode, NwkLinkPowerDeltaTypeCode.NwkLinkPowerDeltaTypeCode, NwkCommissioningTypeCode.NwkCommissioningTypeCode}
 
 -- ---- the places of an array
@@ -166,7 +167,7 @@ address_of_in : (h x : ℕ) → x < 2 ^ 64 → InAddress (address_of h x)
 unfolding address_of
 address_of_in h x l = by_bit (eqb h 1)
   where
-    by_bit : (t : Bool) → InAddress (mathlib.Core.Bool.cond t (OptionEui64.Present x) OptionEui64.Absent)
+    by_bit : (t : Bool) → InAddress (mathlib.Core.Bool.cond t (Some x) None)
     by_bit true = l
     by_bit false = tt
 

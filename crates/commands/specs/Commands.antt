@@ -2,7 +2,7 @@
 -- beside the declared fields of the Rust, the command that values of the format mean, and the values of a command.
 -- Document 01, "Commands": an undeclared code means no command.
 -- Assumes nothing.
-use Rattle.std.specs.Prelude.{ℕ, cond, List, [], ◌∷◌, ◌++◌, get_or, drop, eqb}
+use Rattle.std.specs.Prelude.{ℕ, cond, List, [], ◌∷◌, ◌++◌, get_or, drop, eqb, Option, Some, None}
 use Rattle.octets.specs.Strings.{tab}
 use Rattle.octets.specs.Numbers.{le_at}
 use Rattle.octets.specs.Fields.{bit}
@@ -11,7 +11,7 @@ use Rattle.commands.specs.Format.{Field, Format, Values, read_fields}
 use Rattle.commands.specs.Format.Part.{keep, skip}
 use Rattle.commands.specs.Format.Field.{byte, number, bits}
 use Rattle.types.specs.Addresses.{nwk, pan_id, no_nwk}
-use Rattle.types.specs.declared.{Nwk.Nwk, OptionEui64.OptionEui64, PanId.PanId}
+use Rattle.types.specs.declared.{Nwk.Nwk, PanId.PanId}
 use Rattle.commands.specs.declared.{NwkRouteRequestCommand.NwkRouteRequestCommand, NwkRouteReplyCommand.NwkRouteReplyCommand, NwkNetworkStatusCommand.NwkNetworkStatusCommand, NwkLeaveCommand.NwkLeaveCommand, NwkRejoinCapabilityInformation.NwkRejoinCapabilityInformation, NwkRejoinRequestCommand.NwkRejoinRequestCommand, NwkRejoinResponseCommand.NwkRejoinResponseCommand, NwkLinkStatusCommand.NwkLinkStatusCommand, NwkLinkStatus.NwkLinkStatus, NwkNetworkReportCommand.NwkNetworkReportCommand, NwkNetworkUpdateCommand.NwkNetworkUpdateCommand, NwkEndDeviceTimeoutRequestCommand.NwkEndDeviceTimeoutRequestCommand, NwkEndDeviceTimeoutResponseCommand.NwkEndDeviceTimeoutResponseCommand, NwkLinkPowerDeltaCommand.NwkLinkPowerDeltaCommand, NwkPowerListEntry.NwkPowerListEntry, NwkNetworkCommissioningRequestCommand.NwkNetworkCommissioningRequestCommand, NwkNetworkCommissioningResponseCommand.NwkNetworkCommissioningResponseCommand, NwkRouteRequestManyToOneCode.NwkRouteRequestManyToOneCode, NwkNetworkStatusCode.NwkNetworkStatusCode, Nwk802154AssociationStatusCode.Nwk802154AssociationStatusCode, NwkReportCommandIdentifierCode.NwkReportCommandIdentifierCode, NwkUpdateCommandIdentifierCode.NwkUpdateCommandIdentifierCode, EndDeviceTimeoutCode.EndDeviceTimeoutCode, NwkEndDeviceTimeoutResponseStatusCode.NwkEndDeviceTimeoutResponseStatusCode, NwkLinkPowerDeltaTypeCode.NwkLinkPowerDeltaTypeCode, NwkCommissioningTypeCode.NwkCommissioningTypeCode, NwkCommand.NwkCommand, TypedBody.TypedBody}
 
 -- a body without entries
@@ -30,16 +30,16 @@ abbrev pub only : List ℕ → Values
 only hs = record { head = hs; entries = [] }
 
 -- an optional IEEE address: its presence bit, its entry, and back
-abbrev pub has : OptionEui64 → ℕ
-has OptionEui64.Absent = 0
-has (OptionEui64.Present x) = 1
+abbrev pub has : Option ℕ → ℕ
+has None = 0
+has (Some x) = 1
 
-abbrev pub address_entry : OptionEui64 → List (List ℕ)
-address_entry OptionEui64.Absent = []
-address_entry (OptionEui64.Present x) = (x ∷ []) ∷ []
+abbrev pub address_entry : Option ℕ → List (List ℕ)
+address_entry None = []
+address_entry (Some x) = (x ∷ []) ∷ []
 
-unfoldable pub address_of : ℕ → ℕ → OptionEui64
-address_of b x = cond (eqb b 1) (OptionEui64.Present x) OptionEui64.Absent
+unfoldable pub address_of : ℕ → ℕ → Option ℕ
+address_of b x = cond (eqb b 1) (Some x) None
 
 -- the first n entries of an array, by index, d past its end
 unfoldable pub firsts : {A : Type 0} → A → List A → ℕ → List A

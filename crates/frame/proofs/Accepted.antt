@@ -1,6 +1,7 @@
 -- What it means that writing, sealing, reading or opening a frame is accepted. For each list of refusals one lemma turns "nothing is
 -- refused" into a record that names each condition, and one turns it back; every other law goes by the names.
 -- Assumes nothing.
+use Rattle.std.specs.Prelude.{Option, Some, None}
 use mathlib.Core.Path.{◌≡◌, refl, sym, ap, ◌∙◌}
 use mathlib.Core.Bool.{Bool, true, false, true≢false, cond, not, ◌&&◌, ◌||◌}
 use mathlib.Core.List.{List}
@@ -14,14 +15,13 @@ use Rattle.octets.proofs.Strings.{take_over}
 use Rattle.octets.proofs.Conditions.{accepted, refused, accepted_by, refused_by, answer_number, unless_either, none, none_refuse, or_false}
 use Rattle.types.specs.declared.level.Level.{Level}
 use Rattle.types.specs.Levels.{is_other, tag_length}
-use Rattle.types.specs.declared.OptionEui64.{OptionEui64}
 use Rattle.types.specs.Optional.{has_ieee}
 use Rattle.header.specs.declared.{auxiliary.AuxRead.AuxRead, nwk.HeaderRead.HeaderRead, nwk.NwkHeader.NwkHeader}
 use Rattle.header.specs.Writing.{header_bytes}
 use Rattle.header.specs.Same.{AuxAgrees, aux_agrees}
 use Rattle.header.proofs.Writable.{FieldsGood, fields_good, fields_accepted, aux_test}
 use Rattle.ccm.specs.Verification.{Verified}
-use Rattle.frame.specs.declared.{OptionAuxHeader.OptionAuxHeader, FrameRead.FrameRead, Mark.Mark}
+use Rattle.frame.specs.declared.{FrameRead.FrameRead, Mark.Mark}
 use Rattle.frame.specs.Reading.{secured, frame_refusal, frame_refused, frame_given, frame_number, frame_by}
 use Rattle.frame.specs.Security.{is_absent, or_blank, ieee_of, nonce_ieee, no_ieee}
 use Rattle.frame.specs.Writing.{length_refusals, frame_write_refusal}
@@ -54,14 +54,14 @@ clear_writable h p room e =
 -- ---- sealing
 
 -- no condition of the two headers holds
-pub record GoodHeaders (h : NwkHeader) (a : OptionAuxHeader) : Type 0 where
+pub record GoodHeaders (h : NwkHeader) (a : Option NwkAuxHeader) : Type 0 where
   pub fields : FieldsGood h
   pub secured : h.frame_control.security ≡ true
   pub present : is_absent a ≡ false
   pub nonce : AuxAgrees (or_blank a)
   pub ieee : no_ieee h (or_blank a) ≡ false
 
-pub good_headers : (h : NwkHeader) (a : OptionAuxHeader) → headers_refusal h a ≡ 0 → GoodHeaders h a
+pub good_headers : (h : NwkHeader) (a : Option NwkAuxHeader) → headers_refusal h a ≡ 0 → GoodHeaders h a
 unfolding headers_refusal
 good_headers h a e =
     let n = none _ e in
@@ -73,7 +73,7 @@ good_headers h a e =
       ieee = n.1.1.1.1.0;
     }
 
-pub headers_accepted : (h : NwkHeader) (a : OptionAuxHeader) → GoodHeaders h a → headers_refusal h a ≡ 0
+pub headers_accepted : (h : NwkHeader) (a : Option NwkAuxHeader) → GoodHeaders h a → headers_refusal h a ≡ 0
 unfolding headers_refusal
 headers_accepted h a g =
     none_refuse _ (
@@ -82,7 +82,7 @@ headers_accepted h a g =
     )
 
 -- no condition of sealing's list holds, for n bytes of payload; is_last says whether the counter is the last one
-pub record Sealable (is_last : Bool) (l : Level) (h : NwkHeader) (a : OptionAuxHeader) (n room : ℕ) : Type 0 where
+pub record Sealable (is_last : Bool) (l : Level) (h : NwkHeader) (a : Option NwkAuxHeader) (n room : ℕ) : Type 0 where
   pub level : is_other l ≡ false
   pub headers : GoodHeaders h a
   pub counter : is_last ≡ false
@@ -90,7 +90,7 @@ pub record Sealable (is_last : Bool) (l : Level) (h : NwkHeader) (a : OptionAuxH
   pub whole : sealed_length l h (or_blank a) n ≤ 118
   pub fits : sealed_length l h (or_blank a) n ≤ room
 
-module _ (is_last : Bool) (l : Level) (h : NwkHeader) (a : OptionAuxHeader) (n room : ℕ) where
+module _ (is_last : Bool) (l : Level) (h : NwkHeader) (a : Option NwkAuxHeader) (n room : ℕ) where
   pub sealable : first_of (seal_refusals is_last l h a n room) ≡ 0 → Sealable is_last l h a n room
   unfolding seal_refusals length_refusals
   sealable e =
@@ -181,10 +181,10 @@ off_if true x h = h refl
 off_if false x h = refl
 
 -- where there is an address, it is the one that the nonce uses
-pub ieee_there : (a s : OptionEui64) → not (has_ieee a || has_ieee s) ≡ false → nonce_ieee a s ≡ OptionEui64.Present (ieee_of a s)
-ieee_there (OptionEui64.Present x) s e = refl
-ieee_there OptionEui64.Absent (OptionEui64.Present x) e = refl
-ieee_there OptionEui64.Absent OptionEui64.Absent e = absurd (true≢false e)
+pub ieee_there : (a s : Option ℕ) → not (has_ieee a || has_ieee s) ≡ false → nonce_ieee a s ≡ Some (ieee_of a s)
+ieee_there (Some x) s e = refl
+ieee_there None (Some x) e = refl
+ieee_there None None e = absurd (true≢false e)
 
 -- a frame that is not refused, sealed or clear
 given_either : (P : Run → Type 0) (f : List ℕ) (r : FrameRead) (v : Verified) (o : List ℕ)
@@ -192,14 +192,14 @@ given_either : (P : Run → Type 0) (f : List ℕ) (r : FrameRead) (v : Verified
 given_either P f r v o p q = cond_either P (is_sealed r.header) (sealed_given r v o) (clear_given f r o) p q
 
 -- no condition of opening's list holds that needs no key: those of a sealed frame count where the security bit is set
-pub record Keyless (l : Level) (number : ℕ) (h : NwkHeader) (a : OptionAuxHeader) (part room : ℕ) : Type 0 where
+pub record Keyless (l : Level) (number : ℕ) (h : NwkHeader) (a : Option NwkAuxHeader) (part room : ℕ) : Type 0 where
   pub level : is_other l ≡ false
   pub reads : number ≡ 0
   pub ieee : is_sealed h ≡ true → no_ieee h (or_blank a) ≡ false
   pub tagged : is_sealed h ≡ true → tag_length l ≤ part
   pub fits : is_sealed h ≡ true → part - tag_length l ≤ room
 
-module _ (l : Level) (number : ℕ) (h : NwkHeader) (a : OptionAuxHeader) (part room : ℕ) where
+module _ (l : Level) (number : ℕ) (h : NwkHeader) (a : Option NwkAuxHeader) (part room : ℕ) where
   pub keyless : first_of (open_refusals l number h a part room) ≡ 0 → Keyless l number h a part room
   unfolding open_refusals
   keyless e =

@@ -1,5 +1,6 @@
 -- What the functions return, over plain values: each lemma turns what the calls promised into the answer of one `return`.
 -- Assumes nothing.
+use Rattle.std.specs.Prelude.{Some, None}
 use mathlib.Core.Path.{◌≡◌, refl, sym, ap, ◌∙◌}
 use mathlib.Core.Bool.{Bool, true, false, cond, not, ◌&&◌}
 use mathlib.Core.List.{List, [], ◌∷◌, ◌++◌}
@@ -14,7 +15,7 @@ use Rattle.octets.specs.Refusals.{on, by, first_of, unless}
 use Rattle.octets.proofs.Conditions.{refused_by, stop, skip, stop_by, skip_by, empty}
 use Rattle.types.specs.Levels.{tag_length}
 use Rattle.header.specs.declared.{auxiliary.AuxRead.AuxRead, nwk.HeaderRead.HeaderRead, auxiliary.NwkAuxHeader.NwkAuxHeader, auxiliary.NwkSecurityLevel.NwkSecurityLevel, nwk.NwkHeader.NwkHeader}
-use Rattle.types.specs.declared.{OptionEui64.OptionEui64, level.Level.Level}
+use Rattle.types.specs.declared.level.Level.{Level}
 use Rattle.header.specs.Reading.{read_header}
 use Rattle.header.specs.Writing.{header_bytes}
 use Rattle.header.specs.Auxiliary.{aux_bytes, read_aux}
@@ -201,12 +202,12 @@ module _ (l : Level) (ciph : List ℕ → List ℕ) (f part o o' : List ℕ) (r 
   same = verified_is l ciph f part r x present rest
 
   pub opened_valid : (ieee : ℕ) → ieee ≡ ieee_of x.extended_source r.header.source_ieee → b ≡ true
-      → ◌≡◌ {A = Run} (record { answer = opened_given r Mark.Sealed (length part - tag_length l) (OptionEui64.Present ieee); out = o' }) (open_with l ciph f o)
+      → ◌≡◌ {A = Run} (record { answer = opened_given r Mark.Sealed (length part - tag_length l) (Some ieee); out = o' }) (open_with l ciph f o)
   unfolding given_if
   opened_valid ieee address t =
       let own = address ∙ ap (λ (y : NwkAuxHeader). ieee_of y.extended_source r.header.source_ieee) present in
       let there = (keyless _ _ _ _ _ _ (sym number ∙ passed)).ieee sealed in
-      let named = ap OptionEui64.Present own ∙ sym (ieee_there (or_blank r.aux).extended_source r.header.source_ieee there) in
+      let named = ap Some own ∙ sym (ieee_there (or_blank r.aux).extended_source r.header.source_ieee there) in
       (λ i. record { answer = opened_given r Mark.Sealed (payload_size l ciph f part r rest i) (named i); out = (rw (t, same) at given) i })
       ∙ open_valid l ciph f part o r n read rest number passed sealed (sym (valid ∙ ap (λ (y : Verified). y.valid) same) ∙ t)
 
@@ -219,7 +220,7 @@ module _ (l : Level) (ciph : List ℕ → List ℕ) (f part o o' : List ℕ) (r 
 -- the answer of a clear frame, its length that of the part behind the headers
 pub opened_clear : (l : Level) (ciph : List ℕ → List ℕ) (f part o : List ℕ) (r : FrameRead) (n : ℕ) → r ≡ read_frame f → part ≡ drop r.length f
     → n ≡ first_of (open_refusals l r.refusal r.header r.aux (length part) (length o)) → n ≡ 0 → is_sealed r.header ≡ false
-    → ◌≡◌ {A = Run} (record { answer = opened_given r Mark.Clear (length part) OptionEui64.Absent; out = o }) (open_with l ciph f o)
+    → ◌≡◌ {A = Run} (record { answer = opened_given r Mark.Clear (length part) None; out = o }) (open_with l ciph f o)
 unfolding behind
 opened_clear l ciph f part o r n read rest number passed off =
-    (λ i. record { answer = opened_given r Mark.Clear (length (rest i)) OptionEui64.Absent; out = o }) ∙ open_clear l ciph f part o r n read rest number passed off
+    (λ i. record { answer = opened_given r Mark.Clear (length (rest i)) None; out = o }) ∙ open_clear l ciph f part o r n read rest number passed off

@@ -1,6 +1,7 @@
 -- A clear frame: what reading one gives; and reading what was written without a key gives header and payload back, where the
 -- security bit is off.
 -- Assumes nothing.
+use Rattle.std.specs.Prelude.{None}
 use mathlib.Core.Path.{◌≡◌, refl, sym, ap, ◌∙◌}
 use mathlib.Core.Bool.{Bool, false, cond, not, ◌&&◌}
 use mathlib.Core.List.{List, ◌++◌}
@@ -19,7 +20,7 @@ use Rattle.header.specs.Reading.{read_header}
 use Rattle.header.specs.Same.{SameHeader, cleared, HeaderFits}
 use Rattle.header.specs.Writing.{header_bytes}
 use Rattle.header.proofs.ReadBack.{read_back, same_cleared}
-use Rattle.frame.specs.declared.{OptionAuxHeader.OptionAuxHeader, FrameRead.FrameRead}
+use Rattle.frame.specs.declared.FrameRead.{FrameRead}
 use Rattle.frame.specs.Reading.{secured, aux_if, aux_behind, frame_refused, frame_given, frame_number, frame_by, read_frame}
 use Rattle.frame.specs.Writing.{frame_bytes, frame_write_refusal, write_frame}
 use Rattle.frame.specs.Opening.{is_sealed}
@@ -27,7 +28,7 @@ use Rattle.frame.proofs.Accepted.{ClearWritable, clear_writable, frame_refusal_l
 
 -- the frame whose header has been read, the security bit being off
 clear_frame : (f : List ℕ) (h : HeaderRead) (a : AuxRead) → secured h ≡ false → h.refusal ≡ 0 → length f - h.length ≤ 108
-    → frame_by f h a ≡ record { refusal = 0; length = h.length; header = h.header; aux = OptionAuxHeader.Absent }
+    → frame_by f h a ≡ record { refusal = 0; length = h.length; header = h.header; aux = None }
 unfolding frame_by
 clear_frame f h a s e short =
     let able : Readable f h a =
@@ -38,12 +39,12 @@ clear_frame f h a s e short =
     } in
     accepted (frame_number f h a) (frame_given h a) _ (read_accepts f h a able)
     ∙ (λ i. record { refusal = 0; length = h.length + cond (s i) a.length 0; header = h.header; aux = aux_if (s i) a.aux })
-    ∙ (λ i. record { refusal = 0; length = add-zero h.length i; header = h.header; aux = OptionAuxHeader.Absent })
+    ∙ (λ i. record { refusal = 0; length = add-zero h.length i; header = h.header; aux = None })
 
 -- what reading a clear frame gives, by its parts
 pub record ClearFacts (f : List ℕ) : Type 0 where
   pub header : (read_header f).refusal ≡ 0
-  pub read : read_frame f ≡ record { refusal = 0; length = (read_header f).length; header = (read_header f).header; aux = OptionAuxHeader.Absent }
+  pub read : read_frame f ≡ record { refusal = 0; length = (read_header f).length; header = (read_header f).header; aux = None }
 
 pub clear_facts : (f : List ℕ) → (read_frame f).refusal ≡ 0 → is_sealed (read_frame f).header ≡ false → ClearFacts f
 unfolding read_frame frame_by
@@ -59,7 +60,7 @@ clear_facts f e off =
 pub record ReadBack (h : NwkHeader) (p f : List ℕ) (r : FrameRead) : Type 0 where
   pub accepted : r.refusal ≡ 0
   pub header : SameHeader h r.header
-  pub auxiliary : r.aux ≡ OptionAuxHeader.Absent
+  pub auxiliary : r.aux ≡ None
   pub payload : drop r.length f ≡ p
 
 clear_read : (h : NwkHeader) (p : List ℕ) (room : ℕ) → HeaderFits h → h.frame_control.security ≡ false → ClearWritable h (length p) room
@@ -70,7 +71,7 @@ clear_read h p room fits off w =
     let header : read_header (header_bytes h ++ p) ≡ record { refusal = 0; length = length (header_bytes h); header = cleared h } =
     read_back h p fits w.fields whole in
     let size : length (header_bytes h ++ p) - length (header_bytes h) ≤ 108 = omega (arith, length-append (header_bytes h) p, w.payload) in
-    let run : read_frame (header_bytes h ++ p) ≡ record { refusal = 0; length = length (header_bytes h); header = cleared h; aux = OptionAuxHeader.Absent } =
+    let run : read_frame (header_bytes h ++ p) ≡ record { refusal = 0; length = length (header_bytes h); header = cleared h; aux = None } =
     ap (λ (k : HeaderRead). frame_by (header_bytes h ++ p) k (aux_behind (header_bytes h ++ p) k)) header
     ∙ clear_frame (header_bytes h ++ p) _ _ (ap (λ (k : NwkFrameControl). k.security) (sym (same_cleared h w.fields.good).control) ∙ off) refl size in
     record {

@@ -1,6 +1,7 @@
 -- The first half of the sealing law: reading the sealed bytes gives the headers back, CCM opens what it sealed, and so opening
 -- gives exactly one record, from which the claim is read off. For every level, its tag length being a variable.
 -- Assumes nothing.
+use Rattle.std.specs.Prelude.{Some}
 use mathlib.Core.Path.{◌≡◌, refl, sym, ap, ◌∙◌}
 use mathlib.Core.Bool.{Bool, true, false, cond, not, ◌&&◌}
 use mathlib.Core.List.{List, ◌++◌, append_assoc}
@@ -23,7 +24,7 @@ use Rattle.header.proofs.AuxiliaryLaws.{aux_read_back}
 use Rattle.ccm.specs.Verification.{Verified}
 use Rattle.ccm.specs.Operations.{ciph_of, opened_by}
 use Rattle.ccm.proofs.Opening.{length_ciphertext, length_tag, opened_sealed}
-use Rattle.frame.specs.declared.{OptionAuxHeader.OptionAuxHeader, FrameRead.FrameRead, Mark.Mark}
+use Rattle.frame.specs.declared.{FrameRead.FrameRead, Mark.Mark}
 use Rattle.frame.specs.Reading.{secured, aux_if, aux_behind, frame_given, frame_number, frame_by, read_frame}
 use Rattle.frame.specs.Security.{sent_level, at_level, or_blank, nonce_ieee, nonce, authenticated}
 use Rattle.frame.specs.Sealing.{generated, sealed_bytes, sealed_length}
@@ -36,7 +37,7 @@ use Rattle.frame.proofs.Accepted.{GoodHeaders, Readable, read_accepts, sealed_ru
 
 -- the frame whose headers have been read, the security bit being set
 pub secured_frame : (f : List ℕ) (h : HeaderRead) (a : AuxRead) → secured h ≡ true → h.refusal ≡ 0 → a.refusal ≡ 0
-    → frame_by f h a ≡ record { refusal = 0; length = h.length + a.length; header = h.header; aux = OptionAuxHeader.Present a.aux }
+    → frame_by f h a ≡ record { refusal = 0; length = h.length + a.length; header = h.header; aux = Some a.aux }
 unfolding frame_by
 secured_frame f h a s e g =
     let able : Readable f h a =
@@ -86,10 +87,10 @@ module _ (l : Level) (key : List ℕ) (h : NwkHeader) (x : NwkAuxHeader) (p : Li
         refusal = 0;
         length = length (header_bytes h) + length (aux_bytes (at_level sent_level x));
         header = cleared h;
-        aux = OptionAuxHeader.Present (at_level sent_level x);
+        aux = Some (at_level sent_level x);
       }
 
-  module _ (good : is_other l ≡ false) (fits : HeaderFits h) (afits : AuxFits x) (able : GoodHeaders h (OptionAuxHeader.Present x)) (whole : sealed_length l h x (length p) ≤ 118) where
+  module _ (good : is_other l ≡ false) (fits : HeaderFits h) (afits : AuxFits x) (able : GoodHeaders h (Some x)) (whole : sealed_length l h x (length p) ≤ 118) where
     same : SameHeader h (cleared h)
     same = same_cleared h able.fields.good
 
@@ -187,7 +188,7 @@ module _ (l : Level) (key : List ℕ) (h : NwkHeader) (x : NwkAuxHeader) (p : Li
             length = length p;
             nonce_ieee = nonce_ieee (at_level sent_level x).extended_source (cleared h).source_ieee;
             header = cleared h;
-            aux = OptionAuxHeader.Present (at_level sent_level x);
+            aux = Some (at_level sent_level x);
           };
           out = over out 0 p;
         }
@@ -202,7 +203,7 @@ module _ (l : Level) (key : List ℕ) (h : NwkHeader) (x : NwkAuxHeader) (p : Li
             length = length (made.1 i);
             nonce_ieee = nonce_ieee (at_level sent_level x).extended_source (cleared h).source_ieee;
             header = cleared h;
-            aux = OptionAuxHeader.Present (at_level sent_level x);
+            aux = Some (at_level sent_level x);
           };
           out = over out 0 (made.1 i);
         })

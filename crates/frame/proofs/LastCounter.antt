@@ -1,5 +1,6 @@
 -- A value of each claim in specs/LastCounter.antt.
 -- Assumes nothing.
+use Rattle.std.specs.Prelude.{Option, Some, None}
 use mathlib.Core.Path.{◌≡◌, refl, sym, ap, ◌∙◌}
 use mathlib.Core.Bool.{Bool, true, false}
 use mathlib.Core.List.{List, [], ◌∷◌}
@@ -19,7 +20,6 @@ use Rattle.header.specs.declared.nwk.NwkHeader.{NwkHeader}
 use Rattle.header.specs.Reading.{read_header}
 use Rattle.header.specs.Auxiliary.{aux_by, blank_aux}
 use Rattle.header.specs.Writing.{field_refusal}
-use Rattle.frame.specs.declared.OptionAuxHeader.{OptionAuxHeader}
 use Rattle.frame.specs.Reading.{aux_behind}
 use Rattle.frame.specs.Writing.{length_refusals}
 use Rattle.frame.specs.Security.{or_blank}
@@ -34,15 +34,15 @@ use Rattle.frame.proofs.SealingLaw.{seal_number, seal_able, opened_again, opened
 
 pub sealable_counters : SealableCounters
 unfolding le_at aux_by blank_aux
-sealable_counters l key h OptionAuxHeader.Absent p o fits accepted =
-    let blank : counter_of OptionAuxHeader.Absent ≡ 0 = refl in
+sealable_counters l key h None p o fits accepted =
+    let blank : counter_of None ≡ 0 = refl in
     omega arith
-sealable_counters l key h (OptionAuxHeader.Present x) p o fits accepted =
-    let s = seal_able l h (OptionAuxHeader.Present x) (length p) (length o) (sym (seal_number l key h (OptionAuxHeader.Present x) p o) ∙ accepted) in
+sealable_counters l key h (Some x) p o fits accepted =
+    let s = seal_able l h (Some x) (length p) (length o) (sym (seal_number l key h (Some x) p o) ∙ accepted) in
     omega (arith, fits.counter, eqb-false x.frame_counter last_counter s.counter)
 
 -- the run by whether the counter is the last one
-by_counter : (l : Level) (key : List ℕ) (h : NwkHeader) (a : OptionAuxHeader) (p o : List ℕ) (b : Bool) → eqb (counter_of a) last_counter ≡ b
+by_counter : (l : Level) (key : List ℕ) (h : NwkHeader) (a : Option NwkAuxHeader) (p o : List ℕ) (b : Bool) → eqb (counter_of a) last_counter ≡ b
     → seal_frame l key h a p o ≡ seal_by (first_of (seal_refusals b l h a (length p) (length o))) (sealed_bytes l key h (or_blank a) p) o
 unfolding seal_frame seal_refusal
 by_counter l key h a p o b e =
@@ -68,7 +68,7 @@ last_refused l key h a p o last =
     ∙ sym (seal_refused_lem _ _ o _ (number_21 (is_other l) (headers_refusal h a) _)
     (λ z. omega (arith, (none (on 29 (is_other l) ∷ by (headers_refusal h a) ∷ by 21 ∷ []) z).1.1.0)))
 
-headers_never : (h : NwkHeader) (a : OptionAuxHeader) → headers_refusal h a ≡ 21 → ⊥
+headers_never : (h : NwkHeader) (a : Option NwkAuxHeader) → headers_refusal h a ≡ 21 → ⊥
 unfolding headers_refusal field_refusal
 headers_never h a e = ⊎_elim (gives 21 _ (λ z. omega arith)) (λ z. z) (gives 21 _ (λ z. omega arith) e)
 
@@ -95,7 +95,7 @@ left_out l key f out out₂ bytes marked last =
     let s = secured_facts f w.reads w.on in
     let run = opened_run l key f out w s in
     let h = (read_header f).header in
-    let x = OptionAuxHeader.Present (aux_behind f (read_header f)).aux in
+    let x = Some (aux_behind f (read_header f)).aux in
     let good = headers_accepted h x (good_again f bytes s (rw s.read at w.on) (rw s.read at w.ieee)) in
     rw run (last_refused l key h x _ out₂ (sym (ap (λ (r : opening.Run). counter_of r.answer.aux) run) ∙ last)
     ∙ ap (λ (n : ℕ). seal_nothing n out₂) (skip 29 _ _ w.level ∙ skip_by _ _ good ∙ stop_by 21 [] (λ z. omega arith)))

@@ -1,12 +1,13 @@
 -- Setting the level of an auxiliary header twice is setting it once, and nothing else of it changes.
 -- Assumes nothing.
+use Rattle.std.specs.Prelude.{Option}
 use mathlib.Core.Path.{◌≡◌, refl, sym, ap, ◌∙◌}
 use mathlib.Core.Bool.{not, ◌||◌}
 use mathlib.Core.List.{◌++◌}
 use lib.ListN.{length}
 use Rattle.octets.specs.Numbers.{le}
 use Rattle.header.specs.declared.{auxiliary.NwkSecurityLevel.NwkSecurityLevel, auxiliary.NwkAuxHeader.NwkAuxHeader, nwk.NwkHeader.NwkHeader}
-use Rattle.types.specs.declared.{OptionEui64.OptionEui64, level.Level.Level}
+use Rattle.types.specs.declared.level.Level.{Level}
 use Rattle.types.specs.Optional.{has_ieee}
 use Rattle.header.specs.AuxiliaryControl.{security_byte, with_level}
 use Rattle.header.specs.Auxiliary.{aux_bytes}
@@ -37,7 +38,7 @@ module _ (l : Level) (m : NwkSecurityLevel) (a : NwkAuxHeader) (h k : NwkHeader)
   pub level_nonce : nonce l k (at_level m a) ≡ nonce l h a
   unfolding nonce at_level with_level
   level_nonce =
-      ap (λ (o : OptionEui64). le 8 (ieee_of a.extended_source o) ++ (le 4 a.frame_counter ++ le 1 (security_byte (with_level a.security_control (field_level l)))))
+      ap (λ (o : Option ℕ). le 8 (ieee_of a.extended_source o) ++ (le 4 a.frame_counter ++ le 1 (security_byte (with_level a.security_control (field_level l)))))
       (sym same.source_ieee)
 
   pub level_authenticated : authenticated l k (at_level m a) ≡ authenticated l h a
@@ -46,4 +47,4 @@ module _ (l : Level) (m : NwkSecurityLevel) (a : NwkAuxHeader) (h k : NwkHeader)
 
   pub level_ieee : no_ieee k (at_level m a) ≡ no_ieee h a
   unfolding at_level
-  level_ieee = ap (λ (o : OptionEui64). not (has_ieee a.extended_source || has_ieee o)) (sym same.source_ieee)
+  level_ieee = ap (λ (o : Option ℕ). not (has_ieee a.extended_source || has_ieee o)) (sym same.source_ieee)

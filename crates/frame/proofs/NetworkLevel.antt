@@ -1,5 +1,6 @@
 -- A value of each claim in specs/NetworkLevel.antt.
 -- Assumes nothing.
+use Rattle.std.specs.Prelude.{Some}
 use mathlib.Core.Path.{◌≡◌, refl, sym, ap, ◌∙◌}
 use mathlib.Core.List.{List, [], ◌∷◌, ◌++◌, append_assoc, append-nil}
 use Prim.Native.Nat.{ℕ, ◌+◌, ◌*◌, ◌%◌, ◌<◌}
@@ -21,7 +22,6 @@ use Rattle.header.specs.Auxiliary.{aux_bytes}
 use Rattle.header.specs.Writing.{header_bytes}
 use Rattle.header.specs.Same.{aux_agrees}
 use Rattle.ccm.specs.Operations.{ciph_of}
-use Rattle.frame.specs.declared.OptionAuxHeader.{OptionAuxHeader}
 use Rattle.frame.specs.Reading.{read_frame}
 use Rattle.frame.specs.Writing.{length_refusals}
 use Rattle.frame.specs.Security.{field_level, sent_level, at_level, or_blank, nonce, authenticated}
@@ -68,7 +68,7 @@ sent_is_zero l key h a p o accepted =
 pub handed_level : HandedLevel
 unfolding seal_frame seal_refusal seal_refusals sealed_length sealed_bytes generated nonce authenticated headers_refusal aux_agrees at_level with_level
 handed_level l m key h a p o =
-    ap (λ (n : ℕ). seal_by (first_of (on 29 (is_other l) ∷ by (headers_refusal h (OptionAuxHeader.Present a)) ∷ on 21 (eqb a.frame_counter last_counter)
+    ap (λ (n : ℕ). seal_by (first_of (on 29 (is_other l) ∷ by (headers_refusal h (Some a)) ∷ on 21 (eqb a.frame_counter last_counter)
     ∷ length_refusals (length p) (length (header_bytes h) + n + tag_length l + length p) (length o))) (sealed_bytes l key h a p) o) (level_length m m a)
 
 -- ---- 29

@@ -1,10 +1,10 @@
 -- The address that the nonce used: a value of each claim in specs/NonceIeee.antt. A frame marked sealed has one of the two
 -- addresses, so the one that its nonce uses is there.
 -- Assumes nothing.
+use Rattle.std.specs.Prelude.{Option, Some, None}
 use mathlib.Core.Path.{◌≡◌, refl, sym, ap, ◌∙◌}
-use Rattle.types.specs.declared.OptionEui64.{OptionEui64}
 use Rattle.header.specs.declared.nwk.NwkHeader.{NwkHeader}
-use Rattle.frame.specs.declared.{OptionAuxHeader.OptionAuxHeader, FrameOpened.FrameOpened}
+use Rattle.frame.specs.declared.FrameOpened.{FrameOpened}
 use Rattle.frame.specs.Reading.{read_frame}
 use Rattle.frame.specs.Security.{at_level, or_blank, ieee_of, nonce}
 use Rattle.frame.specs.Opening.{verified, open_refused, Run}
@@ -35,10 +35,10 @@ unfolding open_refused
 refused_gives_none l key f o h = ap (λ (a : FrameOpened). a.nonce_ieee) (open_refused_lem l _ f o _ refl h)
 
 -- the level is no part of it
-level_address : (h k : NwkHeader) (a : OptionAuxHeader) → h.source_ieee ≡ k.source_ieee → address_of k (level_zero a) ≡ address_of h a
+level_address : (h k : NwkHeader) (a : Option NwkAuxHeader) → h.source_ieee ≡ k.source_ieee → address_of k (level_zero a) ≡ address_of h a
 unfolding at_level
-level_address h k OptionAuxHeader.Absent e = ap (λ (s : OptionEui64). ieee_of (or_blank OptionAuxHeader.Absent).extended_source s) (sym e)
-level_address h k (OptionAuxHeader.Present x) e = ap (λ (s : OptionEui64). ieee_of x.extended_source s) (sym e)
+level_address h k None e = ap (λ (s : Option ℕ). ieee_of (or_blank None).extended_source s) (sym e)
+level_address h k (Some x) e = ap (λ (s : Option ℕ). ieee_of x.extended_source s) (sym e)
 
 pub address_comes_back : AddressComesBack
 address_comes_back l key h a p out out₂ fits accepted within =
@@ -46,4 +46,4 @@ address_comes_back l key h a p out out₂ fits accepted within =
     let n = sealed_gives_address l key _ out₂ back.marked in
     let r = (seal_then_open l key h a p out out₂).answer in
     n.given
-    ∙ ap OptionEui64.Present (n.rule ∙ ap (address_of r.header) back.auxiliary ∙ level_address h r.header a back.header.source_ieee)
+    ∙ ap Some (n.rule ∙ ap (address_of r.header) back.auxiliary ∙ level_address h r.header a back.header.source_ieee)

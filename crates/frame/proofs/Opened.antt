@@ -1,6 +1,7 @@
 -- What opening leaves, for the crates above: the output keeps its length and what is behind the payload, a refusal is its number
 -- alone, and the header's number goes before every other.
 -- Assumes nothing.
+use Rattle.std.specs.Prelude.{Option}
 use mathlib.Core.Path.{◌≡◌, refl, sym, ap, ◌∙◌}
 use mathlib.Core.Bool.{Bool, true, false, cond, not, ◌&&◌}
 use mathlib.Core.List.{List, [], ◌∷◌}
@@ -22,7 +23,7 @@ use Rattle.header.specs.declared.nwk.NwkHeader.{NwkHeader}
 use Rattle.header.specs.Reading.{header_refusal, read_header}
 use Rattle.header.proofs.ReadFacts.{header_number, header_facts}
 use Rattle.ccm.specs.Verification.{Verified}
-use Rattle.frame.specs.declared.{OptionAuxHeader.OptionAuxHeader, FrameRead.FrameRead}
+use Rattle.frame.specs.declared.FrameRead.{FrameRead}
 use Rattle.frame.specs.Reading.{secured, aux_behind, frame_refusal, frame_given, frame_number, frame_by, read_frame}
 use Rattle.frame.specs.Opening.{is_sealed, behind, verified, open_refusals, open_refusal, open_refused, Run, sealed_given, clear_given, open_given, open_nothing, open_by, open_with}
 use Rattle.frame.proofs.Accepted.{frame_refusal_lem, readable, open_number_lem, run_either}
@@ -113,7 +114,7 @@ same_rest l zero sealed lone part room room' s r r' =
     rw (le-ltb room (part - tag_length l) (omega arith), le-ltb room' (part - tag_length l) (omega arith)) refl
 same_rest l (suc m) sealed lone part room room' s r r' = refl
 
-same_number : (l : Level) (m : ℕ) (h : NwkHeader) (a : OptionAuxHeader) (part room room' : ℕ)
+same_number : (l : Level) (m : ℕ) (h : NwkHeader) (a : Option NwkAuxHeader) (part room room' : ℕ)
     → (is_other l ≡ false → m ≡ 0 → part - tag_length l ≤ 108) → 108 ≤ room → 108 ≤ room'
     → first_of (open_refusals l m h a part room) ≡ first_of (open_refusals l m h a part room')
 unfolding open_refusals

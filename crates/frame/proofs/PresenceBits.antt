@@ -1,5 +1,6 @@
 -- A value of each claim in specs/PresenceBits.antt.
 -- Assumes nothing.
+use Rattle.std.specs.Prelude.{Option, Some, None}
 use mathlib.Core.Path.{◌≡◌, refl, sym, ap, subst, ◌∙◌}
 use mathlib.Core.Bool.{Bool, true, false, not, true≢false}
 use mathlib.Core.List.{List, [], ◌∷◌}
@@ -21,7 +22,7 @@ use Rattle.header.specs.Same.{Agrees, AuxAgrees, agrees, aux_agrees}
 use Rattle.header.specs.PresenceBits.{Disagrees}
 use Rattle.header.proofs.WriteBack.{read_agrees}
 use Rattle.header.proofs.PresenceBits.{apart, header_disagrees, aux_disagrees, reading_agrees}
-use Rattle.frame.specs.declared.{OptionAuxHeader.OptionAuxHeader, FrameRead.FrameRead}
+use Rattle.frame.specs.declared.FrameRead.{FrameRead}
 use Rattle.frame.specs.Reading.{secured, aux_if, aux_behind, frame_refused, frame_given, frame_number, frame_by, read_frame}
 use Rattle.frame.specs.Writing.{frame_bytes, length_refusals, frame_write_refusal, write_frame}
 use Rattle.frame.specs.Security.{is_absent, or_blank, no_ieee}
@@ -90,16 +91,16 @@ lengths_never n whole room e = gives 28 _ not_0 e
 -- ---- 28, exactly
 
 -- sealing's conditions, as tests and as the bits
-bits : (h : NwkHeader) (a : OptionAuxHeader) → Which (agrees h) h.frame_control.security (is_absent a) (aux_agrees (or_blank a)) → SealingDisagrees h a
+bits : (h : NwkHeader) (a : Option NwkAuxHeader) → Which (agrees h) h.frame_control.security (is_absent a) (aux_agrees (or_blank a)) → SealingDisagrees h a
 bits h a (inl e) = header ((header_disagrees h).0 e)
 bits h a (inr (inl e)) = bit9 e
-bits h OptionAuxHeader.Absent (inr (inr e)) = absurd (true≢false e.0)
-bits h (OptionAuxHeader.Present x) (inr (inr e)) = nonce x refl ((aux_disagrees x).0 e.1)
+bits h None (inr (inr e)) = absurd (true≢false e.0)
+bits h (Some x) (inr (inr e)) = nonce x refl ((aux_disagrees x).0 e.1)
 
-tests : (h : NwkHeader) (a : OptionAuxHeader) → SealingDisagrees h a → Which (agrees h) h.frame_control.security (is_absent a) (aux_agrees (or_blank a))
+tests : (h : NwkHeader) (a : Option NwkAuxHeader) → SealingDisagrees h a → Which (agrees h) h.frame_control.security (is_absent a) (aux_agrees (or_blank a))
 tests h a (header d) = inl ((header_disagrees h).1 d)
 tests h a (bit9 e) = inr (inl e)
-tests h a (nonce x e d) = inr (inr (ap is_absent e, ap (λ (o : OptionAuxHeader). aux_agrees (or_blank o)) e ∙ (aux_disagrees x).1 d))
+tests h a (nonce x e d) = inr (inr (ap is_absent e, ap (λ (o : Option NwkAuxHeader). aux_agrees (or_blank o)) e ∙ (aux_disagrees x).1 d))
 
 -- a writer whose list begins with the fields' number
 writer_28 : (h : NwkHeader) (cs : List Condition) → (first_of cs ≡ 28 → ⊥) → (first_of (by (field_refusal h) ∷ cs) ≡ 28) ↔ ((bad_header h ≡ false) × Disagrees h)
@@ -128,7 +129,7 @@ frame_exactly h p o =
     let number = written_number _ (frame_bytes h p) o in
     (λ e. w.0 (sym number ∙ e), λ d. number ∙ w.1 d)
 
-pub sealed_exactly : (l : Level) (key : List ℕ) (h : NwkHeader) (a : OptionAuxHeader) (p o : List ℕ)
+pub sealed_exactly : (l : Level) (key : List ℕ) (h : NwkHeader) (a : Option NwkAuxHeader) (p o : List ℕ)
     → ((seal_frame l key h a p o).answer.refusal ≡ 28) ↔ ((is_other l ≡ false) × (bad_header h ≡ false) × SealingDisagrees h a)
 unfolding seal_refusal seal_refusals headers_refusal field_refusal length_refusals
 sealed_exactly l key h a p o =
@@ -184,9 +185,9 @@ others_as_before l key h a p o =
 
 -- ---- what sealing ensures
 
-nonce_agrees : (a : OptionAuxHeader) → AuxAgrees (or_blank a) → AuxOptionAgrees a
-nonce_agrees OptionAuxHeader.Absent e = tt
-nonce_agrees (OptionAuxHeader.Present x) e = e
+nonce_agrees : (a : Option NwkAuxHeader) → AuxAgrees (or_blank a) → AuxOptionAgrees a
+nonce_agrees None e = tt
+nonce_agrees (Some x) e = e
 
 pub sealing_ensures : SealingEnsures
 sealing_ensures l key h a p o accepted =

@@ -1,5 +1,6 @@
 -- The sealing law: a value of each of the two statements in specs/SealingLaw.antt.
 -- Assumes nothing.
+use Rattle.std.specs.Prelude.{Option, Some, None}
 use mathlib.Core.Path.{◌≡◌, refl, sym, ap, ◌∙◌}
 use mathlib.Core.Bool.{Bool, true, false, true≢false}
 use mathlib.Core.List.{List, ◌∷◌}
@@ -18,7 +19,7 @@ use Rattle.header.specs.declared.nwk.NwkHeader.{NwkHeader}
 use Rattle.header.specs.Reading.{read_header}
 use Rattle.header.proofs.ReadBack.{same_cleared}
 use Rattle.ccm.specs.Operations.{ciph_of}
-use Rattle.frame.specs.declared.{OptionAuxHeader.OptionAuxHeader, FrameRead.FrameRead, Mark.Mark, FrameSealed.FrameSealed, FrameOpened.FrameOpened}
+use Rattle.frame.specs.declared.{FrameRead.FrameRead, Mark.Mark, FrameSealed.FrameSealed, FrameOpened.FrameOpened}
 use Rattle.frame.specs.Reading.{read_frame}
 use Rattle.frame.specs.Security.{or_blank}
 use Rattle.frame.specs.Sealing as sealing
@@ -32,42 +33,42 @@ use Rattle.frame.proofs.ClearFrames.{clear_facts}
 use Rattle.frame.proofs.FirstHalf.{sealed_length_lem, reopened}
 use Rattle.frame.proofs.SecondHalf.{SecuredFacts, secured_facts, whole_read, sealable_again, frame_again}
 
-pub seal_number : (l : Level) (key : List ℕ) (h : NwkHeader) (a : OptionAuxHeader) (p o : List ℕ)
+pub seal_number : (l : Level) (key : List ℕ) (h : NwkHeader) (a : Option NwkAuxHeader) (p o : List ℕ)
     → (seal_frame l key h a p o).answer.refusal ≡ seal_refusal l h a (length p) (length o)
 unfolding seal_frame
 seal_number l key h a p o = sealed_number _ _ o
 
 -- what sealing leaves that was not refused
-seal_run : (l : Level) (key : List ℕ) (h : NwkHeader) (a : OptionAuxHeader) (p o : List ℕ) → seal_refusal l h a (length p) (length o) ≡ 0
+seal_run : (l : Level) (key : List ℕ) (h : NwkHeader) (a : Option NwkAuxHeader) (p o : List ℕ) → seal_refusal l h a (length p) (length o) ≡ 0
     → seal_frame l key h a p o ≡ seal_given (sealed_bytes l key h (or_blank a) p) o
 unfolding seal_frame
 seal_run l key h a p o e = sym (seal_accepted _ (sealed_bytes l key h (or_blank a) p) o _ refl e)
 
-pub seal_bytes : (l : Level) (key : List ℕ) (h : NwkHeader) (a : OptionAuxHeader) (p o : List ℕ) → seal_refusal l h a (length p) (length o) ≡ 0
+pub seal_bytes : (l : Level) (key : List ℕ) (h : NwkHeader) (a : Option NwkAuxHeader) (p o : List ℕ) → seal_refusal l h a (length p) (length o) ≡ 0
     → bytes_written (seal_frame l key h a p o) ≡ sealed_bytes l key h (or_blank a) p
 unfolding seal_frame
 seal_bytes l key h a p o e = bytes_sealed_lem _ _ o e
 
 -- what nothing refuses
-pub seal_able : (l : Level) (h : NwkHeader) (a : OptionAuxHeader) (n room : ℕ) → seal_refusal l h a n room ≡ 0
+pub seal_able : (l : Level) (h : NwkHeader) (a : Option NwkAuxHeader) (n room : ℕ) → seal_refusal l h a n room ≡ 0
     → Sealable (eqb (counter_of a) last_counter) l h a n room
 unfolding seal_refusal
 seal_able l h a n room e = sealable _ l h a n room e
 
 -- the length that sealing gives is within the output
-pub seal_within : (l : Level) (key : List ℕ) (h : NwkHeader) (a : OptionAuxHeader) (p o : List ℕ) → (seal_frame l key h a p o).answer.length ≤ length o
+pub seal_within : (l : Level) (key : List ℕ) (h : NwkHeader) (a : Option NwkAuxHeader) (p o : List ℕ) → (seal_frame l key h a p o).answer.length ≤ length o
 unfolding seal_frame seal_by seal_refused
 seal_within l key h a p o =
     unless_either (λ (r : sealing.Run). r.answer.length ≤ length o) (seal_refusal l h a (length p) (length o)) _ _
     (λ e. rw (sealed_length_lem l key h (or_blank a) p) (seal_able l h a (length p) (length o) e).fits) (omega arith)
 
 -- opening the bytes sealed of headers and payload that no condition but 21's refuses
-pub opened_again : (l : Level) (key : List ℕ) (h : NwkHeader) (a : OptionAuxHeader) (p : List ℕ) (is_last : Bool) (room : ℕ) (out : List ℕ)
+pub opened_again : (l : Level) (key : List ℕ) (h : NwkHeader) (a : Option NwkAuxHeader) (p : List ℕ) (is_last : Bool) (room : ℕ) (out : List ℕ)
     → InRange h a → Sealable is_last l h a (length p) room
     → length p ≤ length out → Reopened h a p (open_frame l key (sealed_bytes l key h (or_blank a) p) out)
 unfolding open_with
-opened_again l key h OptionAuxHeader.Absent p is_last room out fits s within = absurd (true≢false s.headers.present)
-opened_again l key h (OptionAuxHeader.Present x) p is_last room out fits s within =
+opened_again l key h None p is_last room out fits s within = absurd (true≢false s.headers.present)
+opened_again l key h (Some x) p is_last room out fits s within =
     let run = reopened l key h x p s.level fits.header fits.auxiliary s.headers s.whole out within in
     record {
       accepted = ap (λ (r : opening.Run). r.answer.refusal) run;
@@ -96,7 +97,7 @@ opened_run l key f o w s =
     ∙ ap (λ (r : FrameRead). sealed_given r (verified l (ciph_of key) f r) o) s.read
 
 -- sealing afresh what an accepted opening gave
-resealed : (l : Level) (key f out₂ : List ℕ) (h : NwkHeader) (a : OptionAuxHeader) (p : List ℕ) → length out₂ ≡ 118
+resealed : (l : Level) (key f out₂ : List ℕ) (h : NwkHeader) (a : Option NwkAuxHeader) (p : List ℕ) → length out₂ ≡ 118
     → Sealable (eqb (counter_of a) last_counter) l h a (length p) 118 → sealed_bytes l key h (or_blank a) p ≡ f
     → Resealed f (seal_frame l key h a p out₂)
 unfolding seal_refusal
@@ -122,7 +123,7 @@ second_half l key f out out₂ bytes accepted marked control other size =
 
 -- ---- the two in turn, by what each answered and left
 
-pub seal_then_open_run : (l : Level) (key : List ℕ) (h : NwkHeader) (a : OptionAuxHeader) (p out out₂ : List ℕ) (w : FrameSealed) (frame : List ℕ) (r : FrameOpened) (o : List ℕ)
+pub seal_then_open_run : (l : Level) (key : List ℕ) (h : NwkHeader) (a : Option NwkAuxHeader) (p out out₂ : List ℕ) (w : FrameSealed) (frame : List ℕ) (r : FrameOpened) (o : List ℕ)
     → w ≡ (seal_frame l key h a p out).answer → frame ≡ (seal_frame l key h a p out).out
     → r ≡ (open_frame l key (take w.length frame) out₂).answer → o ≡ (open_frame l key (take w.length frame) out₂).out
     → ◌≡◌ {A = opening.Run} (record { answer = r; out = o }) (seal_then_open l key h a p out out₂)
@@ -137,12 +138,12 @@ refused_alike true n cs ds bs bs' o h = sym (seal_refused_lem 29 bs o 29 refl (�
 refused_alike false n cs ds bs bs' o h =
     sym (seal_refused_lem (first_of (by n ∷ cs)) bs o n (sym (stop_by n cs h)) h) ∙ seal_refused_lem (first_of (by n ∷ ds)) bs' o n (sym (stop_by n ds h)) h
 
-absent_refused : (h : NwkHeader) → headers_refusal h OptionAuxHeader.Absent ≡ 0 → ⊥
-absent_refused h e = true≢false (good_headers h OptionAuxHeader.Absent e).present
+absent_refused : (h : NwkHeader) → headers_refusal h None ≡ 0 → ⊥
+absent_refused h e = true≢false (good_headers h None e).present
 
-unsealable : (l : Level) (key : List ℕ) (h : NwkHeader) (p p' o : List ℕ) → seal_frame l key h OptionAuxHeader.Absent p o ≡ seal_frame l key h OptionAuxHeader.Absent p' o
+unsealable : (l : Level) (key : List ℕ) (h : NwkHeader) (p p' o : List ℕ) → seal_frame l key h None p o ≡ seal_frame l key h None p' o
 unfolding seal_frame seal_refusal seal_refusals
-unsealable l key h p p' o = refused_alike (is_other l) (headers_refusal h OptionAuxHeader.Absent) _ _ _ _ o (absent_refused h)
+unsealable l key h p p' o = refused_alike (is_other l) (headers_refusal h None) _ _ _ _ o (absent_refused h)
 
 -- so sealing the payload of an answer is sealing the front of the output: of a clear frame both are refused alike
 pub sealed_alike : (l : Level) (key f out out₂ : List ℕ)

@@ -1,6 +1,7 @@
 -- The second half of the sealing law: the bytes of the headers that were read are the frame's first bytes, CCM seals again what
 -- it opened to the ciphertext and MIC that follow them, and the two parts are the whole frame. For every level, its tag length being a variable.
 -- Assumes nothing.
+use Rattle.std.specs.Prelude.{Some}
 use mathlib.Core.Path.{◌≡◌, refl, sym, ap, ◌∙◌}
 use mathlib.Core.Bool.{Bool, true, false, cond}
 use mathlib.Core.List.{List, ◌++◌}
@@ -24,7 +25,7 @@ use Rattle.header.proofs.AuxiliaryLaws.{aux_length}
 use Rattle.header.proofs.PresenceBits.{reading_agrees}
 use Rattle.ccm.specs.Operations.{ciph_of}
 use Rattle.ccm.proofs.Opening.{length_payload, sealed_opened}
-use Rattle.frame.specs.declared.{OptionAuxHeader.OptionAuxHeader, FrameRead.FrameRead}
+use Rattle.frame.specs.declared.FrameRead.{FrameRead}
 use Rattle.frame.specs.Reading.{secured, aux_behind, frame_refused, frame_given, frame_number, frame_by, read_frame}
 use Rattle.frame.specs.Security.{sent_level, at_level, or_blank, no_ieee, nonce, authenticated}
 use Rattle.frame.specs.Sealing.{generated, sealed_bytes, sealed_length}
@@ -42,7 +43,7 @@ whole_read f =
       refusal = 0;
       length = (read_header f).length + (aux_behind f (read_header f)).length;
       header = (read_header f).header;
-      aux = OptionAuxHeader.Present (aux_behind f (read_header f)).aux;
+      aux = Some (aux_behind f (read_header f)).aux;
     }
 
 pub record SecuredFacts (f : List ℕ) : Type 0 where
@@ -147,7 +148,7 @@ module _ (l : Level) (key f : List ℕ) (u : Below 256 f) (s : SecuredFacts f)
   size_part = length-drop (read_header f).length f
 
   pub sealable_again : (room : ℕ) (is_last : Bool) → Openable l (ciph_of key) f (whole_read f) room → is_last ≡ false
-      → Sealable is_last l (read_header f).header (OptionAuxHeader.Present (aux_behind f (read_header f)).aux)
+      → Sealable is_last l (read_header f).header (Some (aux_behind f (read_header f)).aux)
       (length (verified l (ciph_of key) f (whole_read f)).payload) 118
   unfolding sealed_length
   sealable_again room is_last o other =

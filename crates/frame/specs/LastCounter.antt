@@ -1,14 +1,14 @@
 -- Document 02, 4, sentence by sentence: no sealing with the last counter. Each is one claim over all levels, keys, headers, payloads,
 -- frames and earlier output contents.
 -- Assumes nothing.
-use Rattle.std.specs.Prelude.{◌≡◌, false, List, [], ◌∷◌, ℕ, ◌≤◌, length}
+use Rattle.std.specs.Prelude.{◌≡◌, false, List, [], ◌∷◌, ℕ, ◌≤◌, length, Option}
 use Rattle.octets.specs.Strings.{Below}
 use Rattle.octets.specs.Refusals.{on, by, first_of}
 use Rattle.types.specs.declared.level.Level.{Level}
 use Rattle.types.specs.Levels.{is_other}
 use Rattle.types.specs.Counters.{last_counter}
 use Rattle.header.specs.declared.nwk.NwkHeader.{NwkHeader}
-use Rattle.frame.specs.declared.{OptionAuxHeader.OptionAuxHeader, Mark.Mark}
+use Rattle.frame.specs.declared.Mark.{Mark}
 use Rattle.frame.specs.Security.{or_blank}
 use Rattle.frame.specs.Sealing as sealing
 use Rattle.frame.specs.Sealing.{sealed_bytes, headers_refusal, seal_refusals, counter_of, seal_nothing, seal_by, seal_frame}
@@ -16,7 +16,7 @@ use Rattle.frame.specs.Opening.{open_frame}
 use Rattle.frame.specs.SealingLaw.{bytes_written, AuxOptionFits, InRange, Reopened, open_then_seal}
 
 -- sealing by its list without 21
-unfoldable pub seal_without21 : Level → List ℕ → NwkHeader → OptionAuxHeader → List ℕ → List ℕ → sealing.Run
+unfoldable pub seal_without21 : Level → List ℕ → NwkHeader → Option NwkAuxHeader → List ℕ → List ℕ → sealing.Run
 seal_without21 l key h a p o =
     seal_by (first_of (seal_refusals false l h a (length p) (length o))) (sealed_bytes l key h (or_blank a) p) o
 
@@ -25,13 +25,13 @@ seal_without21 l key h a p o =
 -- whatever is sealed has such a counter, the auxiliary header being within its types' ranges
 abbrev pub SealableCounters : Type 0
 SealableCounters =
-    (l : Level) (key : List ℕ) (h : NwkHeader) (a : OptionAuxHeader) (p o : List ℕ)
+    (l : Level) (key : List ℕ) (h : NwkHeader) (a : Option NwkAuxHeader) (p o : List ℕ)
     → AuxOptionFits a → (seal_frame l key h a p o).answer.refusal ≡ 0 → counter_of a ≤ 0xFFFFFFFE
 
 -- and nothing else changed: under every other counter, and without one, sealing leaves what the list without 21 gives
 abbrev pub NothingElseChanged : Type 0
 NothingElseChanged =
-    (l : Level) (key : List ℕ) (h : NwkHeader) (a : OptionAuxHeader) (p o : List ℕ)
+    (l : Level) (key : List ℕ) (h : NwkHeader) (a : Option NwkAuxHeader) (p o : List ℕ)
     → (counter_of a ≡ last_counter → ⊥) → seal_frame l key h a p o ≡ seal_without21 l key h a p o
 
 -- ---- "21, after 15 and before 17, if the counter to be sealed is FFFFFFFF"
@@ -40,14 +40,14 @@ NothingElseChanged =
 -- is written
 abbrev pub LastRefused : Type 0
 LastRefused =
-    (l : Level) (key : List ℕ) (h : NwkHeader) (a : OptionAuxHeader) (p o : List ℕ)
+    (l : Level) (key : List ℕ) (h : NwkHeader) (a : Option NwkAuxHeader) (p o : List ℕ)
     → counter_of a ≡ last_counter
     → seal_frame l key h a p o ≡ seal_nothing (first_of (on 29 (is_other l) ∷ by (headers_refusal h a) ∷ by 21 ∷ [])) o
 
 -- and 21 is answered for no other counter
 abbrev pub OnlyTheLast : Type 0
 OnlyTheLast =
-    (l : Level) (key : List ℕ) (h : NwkHeader) (a : OptionAuxHeader) (p o : List ℕ)
+    (l : Level) (key : List ℕ) (h : NwkHeader) (a : Option NwkAuxHeader) (p o : List ℕ)
     → (seal_frame l key h a p o).answer.refusal ≡ 21 → counter_of a ≡ last_counter
 
 -- ---- "opening still accepts the old one"
@@ -56,7 +56,7 @@ OnlyTheLast =
 -- sealing law's first half says it
 abbrev pub StillOpened : Type 0
 StillOpened =
-    (l : Level) (key : List ℕ) (h : NwkHeader) (a : OptionAuxHeader) (p out out₂ : List ℕ)
+    (l : Level) (key : List ℕ) (h : NwkHeader) (a : Option NwkAuxHeader) (p out out₂ : List ℕ)
     → InRange h a
     → (seal_without21 l key h a p out).answer.refusal ≡ 0
     → length p ≤ length out₂

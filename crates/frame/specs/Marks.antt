@@ -2,7 +2,7 @@
 -- keys, frames and earlier output contents. Of bursts the claims are in crates/burst/specs/Claims.antt, and the sealing law in
 -- SealingLaw.antt speaks of sealed frames only.
 -- Assumes nothing.
-use Rattle.std.specs.Prelude.{◌≡◌, true, false, not, List, [], ◌∷◌, ℕ, ◌-◌, ◌≤◌, length, drop, ltb}
+use Rattle.std.specs.Prelude.{◌≡◌, true, false, not, List, [], ◌∷◌, ℕ, ◌-◌, ◌≤◌, length, drop, ltb, None}
 use Rattle.octets.specs.Refusals.{on, by, first_of}
 use Rattle.octets.specs.Writing.{written_bytes}
 use Rattle.types.specs.declared.level.Level.{Level}
@@ -12,7 +12,7 @@ use Rattle.header.specs.Reading.{control}
 use Rattle.header.specs.Same.{SameHeader, HeaderFits}
 use Rattle.ccm.specs.Verification.{Verified}
 use Rattle.ccm.specs.Operations.{ciph_of}
-use Rattle.frame.specs.declared.{OptionAuxHeader.OptionAuxHeader, FrameRead.FrameRead, Mark.Mark}
+use Rattle.frame.specs.declared.{FrameRead.FrameRead, Mark.Mark}
 use Rattle.frame.specs.Reading.{read_frame}
 use Rattle.frame.specs.Security.{or_blank, no_ieee}
 use Rattle.frame.specs.Writing.{write_frame}
@@ -33,7 +33,7 @@ pub record IsClear (f : List ℕ) : Type 0 where
 -- headers as read, no auxiliary header, "the length given is then the payload's", and the output as it was
 pub record Clear (l : Level) (key f o : List ℕ) : Type 0 where
   pub run : open_frame l key f o ≡ clear_given f (read_frame f) o
-  pub auxiliary : (open_frame l key f o).answer.aux ≡ OptionAuxHeader.Absent
+  pub auxiliary : (open_frame l key f o).answer.aux ≡ None
   pub length : (open_frame l key f o).answer.length ≡ length (drop (read_frame f).length f)
   pub untouched : (open_frame l key f o).out ≡ o
 

@@ -3,7 +3,7 @@
 -- crates/ccm/specs/Levels.antt, and of bursts in crates/burst/specs/Claims.antt; the figures are a table in
 -- crates/worked_frames/specs/Levels.antt.
 -- Assumes nothing.
-use Rattle.std.specs.Prelude.{◌≡◌, true, not, ◌&&◌, List, [], ◌∷◌, ◌++◌, ℕ, ◌+◌, ◌-◌, ◌%◌, length, get_or, drop, eqb, ltb}
+use Rattle.std.specs.Prelude.{◌≡◌, true, not, ◌&&◌, List, [], ◌∷◌, ◌++◌, ℕ, ◌+◌, ◌-◌, ◌%◌, length, get_or, drop, eqb, ltb, Option, Some}
 use Rattle.octets.specs.Numbers.{le}
 use Rattle.octets.specs.Refusals.{unless, on, by, first_of}
 use Rattle.types.specs.declared.level.Level.{Level}
@@ -16,7 +16,7 @@ use Rattle.header.specs.Writing.{header_bytes}
 use Rattle.ccm.specs.Generation.{Generated}
 use Rattle.ccm.specs.Verification.{Verified, decryption_verification}
 use Rattle.ccm.specs.Operations.{ciph_of, sealed_by}
-use Rattle.frame.specs.declared.{OptionAuxHeader.OptionAuxHeader, FrameRead.FrameRead}
+use Rattle.frame.specs.declared.FrameRead.{FrameRead}
 use Rattle.frame.specs.Reading.{read_frame}
 use Rattle.frame.specs.Writing.{length_refusals}
 use Rattle.frame.specs.Security.{sent_level, at_level, or_blank, ieee_of, no_ieee, nonce, authenticated}
@@ -43,24 +43,24 @@ LevelInNonce =
 -- in the first byte behind the header of whatever is sealed
 abbrev pub SentIsZero : Type 0
 SentIsZero =
-    (l : Level) (key : List ℕ) (h : NwkHeader) (a : OptionAuxHeader) (p o : List ℕ) → (seal_frame l key h a p o).answer.refusal ≡ 0
+    (l : Level) (key : List ℕ) (h : NwkHeader) (a : Option NwkAuxHeader) (p o : List ℕ) → (seal_frame l key h a p o).answer.refusal ≡ 0
     → get_or (drop (length (header_bytes h)) (bytes_written (seal_frame l key h a p o))) 0 0 % 8 ≡ 0
 
 -- the level in the auxiliary header that is handed to sealing does not matter
 abbrev pub HandedLevel : Type 0
 HandedLevel =
     (l : Level) (m : NwkSecurityLevel) (key : List ℕ) (h : NwkHeader) (a : NwkAuxHeader) (p o : List ℕ)
-    → seal_frame l key h (OptionAuxHeader.Present (at_level m a)) p o ≡ seal_frame l key h (OptionAuxHeader.Present a) p o
+    → seal_frame l key h (Some (at_level m a)) p o ≡ seal_frame l key h (Some a) p o
 
 -- ---- "29, before all .. if the level is another"
 
 -- nothing changes, whatever else is wrong
-pub record AllBy29 (l : Level) (key : List ℕ) (h : NwkHeader) (a : OptionAuxHeader) (p f o : List ℕ) : Type 0 where
+pub record AllBy29 (l : Level) (key : List ℕ) (h : NwkHeader) (a : Option NwkAuxHeader) (p f o : List ℕ) : Type 0 where
   pub sealing : seal_frame l key h a p o ≡ seal_nothing 29 o
   pub opening : open_frame l key f o ≡ open_nothing 29 o
 
 abbrev pub OtherLevel : Type 0
-OtherLevel = (l : Level) (key : List ℕ) (h : NwkHeader) (a : OptionAuxHeader) (p f o : List ℕ) → is_other l ≡ true → AllBy29 l key h a p f o
+OtherLevel = (l : Level) (key : List ℕ) (h : NwkHeader) (a : Option NwkAuxHeader) (p f o : List ℕ) → is_other l ≡ true → AllBy29 l key h a p f o
 
 -- ---- "level 5 .. answers as before"
 
@@ -81,7 +81,7 @@ former_opened key f r =
     decryption_verification 4 (ciph_of key) (former_nonce r.header (or_blank r.aux)) (former_data r.header (or_blank r.aux))
     (ciphertext_of 4 (behind f r)) (mic_of 4 (behind f r))
 
-unfoldable pub seal_formerly : List ℕ → NwkHeader → OptionAuxHeader → List ℕ → List ℕ → sealing.Run
+unfoldable pub seal_formerly : List ℕ → NwkHeader → Option NwkAuxHeader → List ℕ → List ℕ → sealing.Run
 seal_formerly key h a p o =
     seal_by (first_of (by (headers_refusal h a)
     ∷ on 21 (eqb (counter_of a) last_counter)
@@ -104,9 +104,9 @@ open_formerly key f o =
     (open_nothing (former_number key f (read_frame f) (length o)) o)
 
 -- at level 5 they are these
-pub record Former (key : List ℕ) (h : NwkHeader) (a : OptionAuxHeader) (p f o : List ℕ) : Type 0 where
+pub record Former (key : List ℕ) (h : NwkHeader) (a : Option NwkAuxHeader) (p f o : List ℕ) : Type 0 where
   pub sealing : seal_frame Level.EncMic32 key h a p o ≡ seal_formerly key h a p o
   pub opening : open_frame Level.EncMic32 key f o ≡ open_formerly key f o
 
 abbrev pub LevelFive : Type 0
-LevelFive = (key : List ℕ) (h : NwkHeader) (a : OptionAuxHeader) (p f o : List ℕ) → Former key h a p f o
+LevelFive = (key : List ℕ) (h : NwkHeader) (a : Option NwkAuxHeader) (p f o : List ℕ) → Former key h a p f o

@@ -2,16 +2,16 @@
 -- the frame. A frame whose security bit is off is clear: its payload is a part of the frame, and the output stays
 -- (document 02, 3).
 -- Assumes nothing.
-use Rattle.std.specs.Prelude.{ℕ, ◌-◌, Bool, cond, not, ◌&&◌, List, [], ◌∷◌, length, take, drop, ltb}
+use Rattle.std.specs.Prelude.{ℕ, ◌-◌, Bool, cond, not, ◌&&◌, List, [], ◌∷◌, length, take, drop, ltb, Option, None}
 use Rattle.octets.specs.Strings.{over}
 use Rattle.octets.specs.Refusals.{unless, Condition, on, by, first_of}
 use Rattle.header.specs.declared.nwk.NwkHeader.{NwkHeader}
 use Rattle.header.specs.Reading.{blank_header}
-use Rattle.types.specs.declared.{OptionEui64.OptionEui64, level.Level.Level}
+use Rattle.types.specs.declared.level.Level.{Level}
 use Rattle.types.specs.Levels.{is_other, tag_length}
 use Rattle.ccm.specs.Verification.{Verified, decryption_verification}
 use Rattle.ccm.specs.Operations.{ciph_of, ciph_under}
-use Rattle.frame.specs.declared.{OptionAuxHeader.OptionAuxHeader, FrameRead.FrameRead, Mark.Mark, FrameOpened.FrameOpened}
+use Rattle.frame.specs.declared.{FrameRead.FrameRead, Mark.Mark, FrameOpened.FrameOpened}
 use Rattle.frame.specs.Reading.{read_frame}
 use Rattle.frame.specs.Security.{or_blank, nonce_ieee, no_ieee, nonce, authenticated}
 
@@ -41,7 +41,7 @@ verified l ciph f r =
 
 -- document 02's 29 for another level; document 01's numbers 1 to 12 as reading gives them; then, if the frame is sealed, 15, 16 and 18,
 -- for the bytes behind the headers
-unfoldable pub open_refusals : Level → ℕ → NwkHeader → OptionAuxHeader → ℕ → ℕ → List Condition
+unfoldable pub open_refusals : Level → ℕ → NwkHeader → Option NwkAuxHeader → ℕ → ℕ → List Condition
 open_refusals l number h a part room =
     on 29 (is_other l)
     ∷ by number
@@ -60,7 +60,7 @@ open_refusal l ciph f r room =
 -- the number alone: no mark and no address stand beside a refusal
 unfoldable pub open_refused : ℕ → FrameOpened
 open_refused n =
-    record { refusal = n; mark = Mark.Unmarked; length = 0; nonce_ieee = OptionEui64.Absent; header = blank_header; aux = OptionAuxHeader.Absent }
+    record { refusal = n; mark = Mark.Unmarked; length = 0; nonce_ieee = None; header = blank_header; aux = None }
 
 -- what opening leaves: its answer, and the whole of the lent output
 pub record Run : Type 0 where
@@ -68,7 +68,7 @@ pub record Run : Type 0 where
   pub out : List ℕ
 
 -- the answer of a frame that was read: its headers, with the mark, the payload's length and the long address that the nonce used
-abbrev pub opened_given : FrameRead → Mark → ℕ → OptionEui64 → FrameOpened
+abbrev pub opened_given : FrameRead → Mark → ℕ → Option ℕ → FrameOpened
 opened_given r mark n ieee = record { refusal = 0; mark = mark; length = n; nonce_ieee = ieee; header = r.header; aux = r.aux }
 
 -- sealed: the payload at the front of the output
@@ -81,7 +81,7 @@ sealed_given r v o =
 
 -- clear: the payload stays in the frame, there is no address, and the output is as it was
 abbrev pub clear_given : List ℕ → FrameRead → List ℕ → Run
-clear_given f r o = record { answer = opened_given r Mark.Clear (length (behind f r)) OptionEui64.Absent; out = o }
+clear_given f r o = record { answer = opened_given r Mark.Clear (length (behind f r)) None; out = o }
 
 abbrev pub open_given : List ℕ → FrameRead → Verified → List ℕ → Run
 open_given f r v o = cond (is_sealed r.header) (sealed_given r v o) (clear_given f r o)

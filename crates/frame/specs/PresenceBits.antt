@@ -1,7 +1,7 @@
 -- Document 02, 8, sentence by sentence: presence bits must agree. Each is one claim over all levels, keys, headers, payloads, frames and
 -- earlier output contents. What it says of headers alone is in crates/header/specs/PresenceBits.antt.
 -- Assumes nothing.
-use Rattle.std.specs.Prelude.{◌≡◌, true, false, List, [], ◌∷◌, ◌↔◌, ℕ, ◌+◌, length, eqb, ltb}
+use Rattle.std.specs.Prelude.{◌≡◌, true, false, List, [], ◌∷◌, ◌↔◌, ℕ, ◌+◌, length, eqb, ltb, Option, Some, None}
 use Rattle.octets.specs.Refusals.{on, first_of}
 use Rattle.octets.specs.Writing.{Run, written}
 use Rattle.types.specs.declared.level.Level.{Level}
@@ -12,7 +12,6 @@ use Rattle.header.specs.Reading.{read_header}
 use Rattle.header.specs.Writing.{header_bytes, bad_header, write_header}
 use Rattle.header.specs.Same.{Agrees, AuxAgrees}
 use Rattle.header.specs.PresenceBits.{Disagrees}
-use Rattle.frame.specs.declared.OptionAuxHeader.{OptionAuxHeader}
 use Rattle.frame.specs.Reading.{read_frame}
 use Rattle.frame.specs.Writing.{frame_bytes, length_refusals, write_frame}
 use Rattle.frame.specs.Security.{is_absent, or_blank, no_ieee}
@@ -24,19 +23,19 @@ use Rattle.frame.specs.Opening.{is_sealed}
 -- extended nonce bit disagrees with the auxiliary address"
 
 -- what sealing refuses: one of the four bits, bit 9, or the extended nonce bit of an auxiliary header that is there
-pub data SealingDisagrees (h : NwkHeader) (a : OptionAuxHeader) : Type 0 where
+pub data SealingDisagrees (h : NwkHeader) (a : Option NwkAuxHeader) : Type 0 where
   header : Disagrees h → SealingDisagrees h a
   bit9 : h.frame_control.security ≡ false → SealingDisagrees h a
-  nonce : (x : NwkAuxHeader) → a ≡ OptionAuxHeader.Present x → (AuxAgrees x → ⊥) → SealingDisagrees h a
+  nonce : (x : NwkAuxHeader) → a ≡ Some x → (AuxAgrees x → ⊥) → SealingDisagrees h a
 
 -- 28 is the answer exactly there, unless 13 is, or in sealing 29; and for the extended nonce bit unless there is no auxiliary header, which is 14
-pub record Exactly28 (l : Level) (key : List ℕ) (h : NwkHeader) (a : OptionAuxHeader) (p o : List ℕ) : Type 0 where
+pub record Exactly28 (l : Level) (key : List ℕ) (h : NwkHeader) (a : Option NwkAuxHeader) (p o : List ℕ) : Type 0 where
   pub header : ((write_header h o).answer.refusal ≡ 28) ↔ ((bad_header h ≡ false) × Disagrees h)
   pub frame : ((write_frame h p o).answer.refusal ≡ 28) ↔ ((bad_header h ≡ false) × Disagrees h)
   pub sealed : ((seal_frame l key h a p o).answer.refusal ≡ 28) ↔ ((is_other l ≡ false) × (bad_header h ≡ false) × SealingDisagrees h a)
 
 abbrev pub TwentyEightExactly : Type 0
-TwentyEightExactly = (l : Level) (key : List ℕ) (h : NwkHeader) (a : OptionAuxHeader) (p o : List ℕ) → Exactly28 l key h a p o
+TwentyEightExactly = (l : Level) (key : List ℕ) (h : NwkHeader) (a : Option NwkAuxHeader) (p o : List ℕ) → Exactly28 l key h a p o
 
 -- ---- every other answer is what it was
 
@@ -50,7 +49,7 @@ unfoldable pub write_frame_before : NwkHeader → List ℕ → List ℕ → Run
 write_frame_before h p o =
     written (first_of (on 13 (bad_header h) ∷ length_refusals (length p) (length (header_bytes h) + length p) (length o))) (frame_bytes h p) o
 
-unfoldable pub seal_before : Level → List ℕ → NwkHeader → OptionAuxHeader → List ℕ → List ℕ → sealing.Run
+unfoldable pub seal_before : Level → List ℕ → NwkHeader → Option NwkAuxHeader → List ℕ → List ℕ → sealing.Run
 seal_before l key h a p o =
     seal_by (first_of (on 29 (is_other l)
     ∷ on 13 (bad_header h)
@@ -61,30 +60,30 @@ seal_before l key h a p o =
     (sealed_bytes l key h (or_blank a) p) o
 
 -- what is not refused by 28, all that is accepted among it, has the answer and leaves the output that it had
-pub record AsBefore (l : Level) (key : List ℕ) (h : NwkHeader) (a : OptionAuxHeader) (p o : List ℕ) : Type 0 where
+pub record AsBefore (l : Level) (key : List ℕ) (h : NwkHeader) (a : Option NwkAuxHeader) (p o : List ℕ) : Type 0 where
   pub header : ((write_header h o).answer.refusal ≡ 28 → ⊥) → write_header h o ≡ write_header_before h o
   pub frame : ((write_frame h p o).answer.refusal ≡ 28 → ⊥) → write_frame h p o ≡ write_frame_before h p o
   pub sealed : ((seal_frame l key h a p o).answer.refusal ≡ 28 → ⊥) → seal_frame l key h a p o ≡ seal_before l key h a p o
 
 abbrev pub OthersAsBefore : Type 0
-OthersAsBefore = (l : Level) (key : List ℕ) (h : NwkHeader) (a : OptionAuxHeader) (p o : List ℕ) → AsBefore l key h a p o
+OthersAsBefore = (l : Level) (key : List ℕ) (h : NwkHeader) (a : Option NwkAuxHeader) (p o : List ℕ) → AsBefore l key h a p o
 
 -- ---- "the sealing law loses its premises .., since sealing ensures them"
 
 -- an auxiliary header or none: its presence bit agrees with its field
-abbrev pub AuxOptionAgrees : OptionAuxHeader → Type 0
-AuxOptionAgrees OptionAuxHeader.Absent = Unit {0}
-AuxOptionAgrees (OptionAuxHeader.Present a) = AuxAgrees a
+abbrev pub AuxOptionAgrees : Option NwkAuxHeader → Type 0
+AuxOptionAgrees None = Unit {0}
+AuxOptionAgrees (Some a) = AuxAgrees a
 
 -- the security bit is set, and each presence bit agrees with its field
-pub record BitsAgree (h : NwkHeader) (a : OptionAuxHeader) : Type 0 where
+pub record BitsAgree (h : NwkHeader) (a : Option NwkAuxHeader) : Type 0 where
   pub security : h.frame_control.security ≡ true
   pub header : Agrees h
   pub auxiliary : AuxOptionAgrees a
 
 abbrev pub SealingEnsures : Type 0
 SealingEnsures =
-    (l : Level) (key : List ℕ) (h : NwkHeader) (a : OptionAuxHeader) (p o : List ℕ) → (seal_frame l key h a p o).answer.refusal ≡ 0 → BitsAgree h a
+    (l : Level) (key : List ℕ) (h : NwkHeader) (a : Option NwkAuxHeader) (p o : List ℕ) → (seal_frame l key h a p o).answer.refusal ≡ 0 → BitsAgree h a
 
 -- ---- what was read is never refused by 28 on writing
 

@@ -1,21 +1,21 @@
 -- Reading a frame (Zigbee Specification 3.3.1; `EncryptedNwkFrame::from_bytes`): the header, the auxiliary header exactly if
 -- the security bit is set, and what is behind them. It uses the answers of reading the two headers.
 -- Assumes nothing.
-use Rattle.std.specs.Prelude.{ℕ, ◌+◌, ◌-◌, Bool, true, false, cond, not, ◌&&◌, List, [], ◌∷◌, length, drop, ltb}
+use Rattle.std.specs.Prelude.{ℕ, ◌+◌, ◌-◌, Bool, true, false, cond, not, ◌&&◌, List, [], ◌∷◌, length, drop, ltb, Option, Some, None}
 use Rattle.octets.specs.Refusals.{unless, on, by, first_of}
 use Rattle.header.specs.declared.{auxiliary.NwkAuxHeader.NwkAuxHeader, auxiliary.AuxRead.AuxRead, nwk.HeaderRead.HeaderRead, control.NwkFrameType.NwkFrameType}
 use Rattle.header.specs.Reading.{read_header, blank_header}
 use Rattle.header.specs.Auxiliary.{read_aux}
-use Rattle.frame.specs.declared.{OptionAuxHeader.OptionAuxHeader, FrameRead.FrameRead, NwkPayload.NwkPayload}
+use Rattle.frame.specs.declared.{FrameRead.FrameRead, NwkPayload.NwkPayload}
 
 -- the security bit, bit 9 of frame control
 abbrev pub secured : HeaderRead → Bool
 secured h = h.header.frame_control.security
 
 -- the auxiliary header if the security bit is set
-abbrev pub aux_if : Bool → NwkAuxHeader → OptionAuxHeader
-aux_if true a = OptionAuxHeader.Present a
-aux_if false a = OptionAuxHeader.Absent
+abbrev pub aux_if : Bool → NwkAuxHeader → Option NwkAuxHeader
+aux_if true a = Some a
+aux_if false a = None
 
 -- the bytes behind the header, read as an auxiliary header
 abbrev pub aux_behind : List ℕ → HeaderRead → AuxRead
@@ -29,7 +29,7 @@ frame_refusal header is_secured aux payload =
 
 -- the number alone
 unfoldable pub frame_refused : ℕ → FrameRead
-frame_refused n = record { refusal = n; length = 0; header = blank_header; aux = OptionAuxHeader.Absent }
+frame_refused n = record { refusal = n; length = 0; header = blank_header; aux = None }
 
 -- the two headers and how many bytes they take
 abbrev pub frame_given : HeaderRead → AuxRead → FrameRead

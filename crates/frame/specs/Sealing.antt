@@ -1,6 +1,6 @@
 -- Sealing a frame at the network's level l (Zigbee Specification 4.3.1.1; `NwkFrame::serialize` with a key).
 -- Assumes nothing.
-use Rattle.std.specs.Prelude.{ℕ, ◌+◌, Bool, not, List, [], ◌∷◌, ◌++◌, length, eqb}
+use Rattle.std.specs.Prelude.{ℕ, ◌+◌, Bool, not, List, [], ◌∷◌, ◌++◌, length, eqb, Option}
 use Rattle.octets.specs.Strings.{over}
 use Rattle.octets.specs.Refusals.{unless, Condition, on, by, first_of}
 use Rattle.types.specs.declared.level.Level.{Level}
@@ -12,7 +12,7 @@ use Rattle.header.specs.Writing.{header_bytes, field_refusal}
 use Rattle.header.specs.Same.{aux_agrees}
 use Rattle.ccm.specs.Generation.{Generated}
 use Rattle.ccm.specs.Operations.{sealed_by}
-use Rattle.frame.specs.declared.{OptionAuxHeader.OptionAuxHeader, FrameSealed.FrameSealed}
+use Rattle.frame.specs.declared.FrameSealed.{FrameSealed}
 use Rattle.frame.specs.Writing.{length_refusals}
 use Rattle.frame.specs.Security.{sent_level, at_level, is_absent, or_blank, no_ieee, nonce, authenticated}
 
@@ -32,7 +32,7 @@ unfoldable pub sealed_length : Level → NwkHeader → NwkAuxHeader → ℕ → 
 sealed_length l h a n = length (header_bytes h) + length (aux_bytes a) + tag_length l + n
 
 -- those of the two headers: the fields' 13 and 28, to which bit 9 belongs here; 14; 28 where the extended nonce bit disagrees; 15
-unfoldable pub headers_refusal : NwkHeader → OptionAuxHeader → ℕ
+unfoldable pub headers_refusal : NwkHeader → Option NwkAuxHeader → ℕ
 headers_refusal h a =
     first_of (by (field_refusal h)
     ∷ on 28 (not h.frame_control.security)
@@ -42,18 +42,18 @@ headers_refusal h a =
     ∷ [])
 
 -- the counter to be sealed
-abbrev pub counter_of : OptionAuxHeader → ℕ
+abbrev pub counter_of : Option NwkAuxHeader → ℕ
 counter_of a = (or_blank a).frame_counter
 
 -- document 02's 29 for another level; the headers' numbers; document 02's 21 if the counter is the last one; then 17 and 18
-unfoldable pub seal_refusals : Bool → Level → NwkHeader → OptionAuxHeader → ℕ → ℕ → List Condition
+unfoldable pub seal_refusals : Bool → Level → NwkHeader → Option NwkAuxHeader → ℕ → ℕ → List Condition
 seal_refusals is_last l h a n room =
     on 29 (is_other l)
     ∷ by (headers_refusal h a)
     ∷ on 21 is_last
     ∷ length_refusals n (sealed_length l h (or_blank a) n) room
 
-unfoldable pub seal_refusal : Level → NwkHeader → OptionAuxHeader → ℕ → ℕ → ℕ
+unfoldable pub seal_refusal : Level → NwkHeader → Option NwkAuxHeader → ℕ → ℕ → ℕ
 seal_refusal l h a n room = first_of (seal_refusals (eqb (counter_of a) last_counter) l h a n room)
 
 -- ---- the run
@@ -79,6 +79,6 @@ seal_nothing n o = record { answer = seal_refused n; out = o }
 unfoldable pub seal_by : ℕ → List ℕ → List ℕ → Run
 seal_by n bs o = unless n (seal_given bs o) (seal_nothing n o)
 
-unfoldable pub seal_frame : Level → List ℕ → NwkHeader → OptionAuxHeader → List ℕ → List ℕ → Run
+unfoldable pub seal_frame : Level → List ℕ → NwkHeader → Option NwkAuxHeader → List ℕ → List ℕ → Run
 seal_frame l key h a p o =
     seal_by (seal_refusal l h a (length p) (length o)) (sealed_bytes l key h (or_blank a) p) o

@@ -12,14 +12,14 @@
 -- `Below 256` only say what every value of a type has, that each number is within its type's range; the functions of
 -- `header::ranges` and of src/ranges.rt promise them of every value.
 -- Assumes nothing.
-use Rattle.std.specs.Prelude.{◌≡◌, ℕ, ◌≤◌, ◌/◌, ◌%◌, List, length, get_or, take}
+use Rattle.std.specs.Prelude.{◌≡◌, ℕ, ◌≤◌, ◌/◌, ◌%◌, List, length, get_or, take, Option, Some, None}
 use Rattle.octets.specs.Strings.{Below}
 use Rattle.types.specs.declared.level.Level.{Level}
 use Rattle.types.specs.Counters.{last_counter}
 use Rattle.header.specs.declared.nwk.NwkHeader.{NwkHeader}
 use Rattle.header.specs.Reading.{read_header}
 use Rattle.header.specs.Same.{SameHeader, HeaderFits, AuxFits}
-use Rattle.frame.specs.declared.{OptionAuxHeader.OptionAuxHeader, Mark.Mark}
+use Rattle.frame.specs.declared.Mark.{Mark}
 use Rattle.frame.specs.Security.{sent_level, at_level}
 use Rattle.frame.specs.Sealing as sealing
 use Rattle.frame.specs.Sealing.{counter_of, seal_frame}
@@ -34,28 +34,28 @@ abbrev pub payload_given : opening.Run → List ℕ
 payload_given r = take r.answer.length r.out
 
 -- an auxiliary header or none is within its types' ranges
-abbrev pub AuxOptionFits : OptionAuxHeader → Type 0
-AuxOptionFits OptionAuxHeader.Absent = Unit {0}
-AuxOptionFits (OptionAuxHeader.Present a) = AuxFits a
+abbrev pub AuxOptionFits : Option NwkAuxHeader → Type 0
+AuxOptionFits None = Unit {0}
+AuxOptionFits (Some a) = AuxFits a
 
 -- what every pair of headers has
-pub record InRange (h : NwkHeader) (a : OptionAuxHeader) : Type 0 where
+pub record InRange (h : NwkHeader) (a : Option NwkAuxHeader) : Type 0 where
   pub header : HeaderFits h
   pub auxiliary : AuxOptionFits a
 
 -- the same auxiliary header or none, only the level now 0
-abbrev pub level_zero : OptionAuxHeader → OptionAuxHeader
-level_zero OptionAuxHeader.Absent = OptionAuxHeader.Absent
-level_zero (OptionAuxHeader.Present a) = OptionAuxHeader.Present (at_level sent_level a)
+abbrev pub level_zero : Option NwkAuxHeader → Option NwkAuxHeader
+level_zero None = None
+level_zero (Some a) = Some (at_level sent_level a)
 
 -- ---- the first half
 
 -- sealing into a frame's buffer, then opening the bytes written
-abbrev pub seal_then_open : Level → List ℕ → NwkHeader → OptionAuxHeader → List ℕ → List ℕ → List ℕ → opening.Run
+abbrev pub seal_then_open : Level → List ℕ → NwkHeader → Option NwkAuxHeader → List ℕ → List ℕ → List ℕ → opening.Run
 seal_then_open l key h a p out out₂ = open_frame l key (bytes_written (seal_frame l key h a p out)) out₂
 
 -- what opening r gives, of a frame sealed from the headers h and a and the payload p
-pub record Reopened (h : NwkHeader) (a : OptionAuxHeader) (p : List ℕ) (r : opening.Run) : Type 0 where
+pub record Reopened (h : NwkHeader) (a : Option NwkAuxHeader) (p : List ℕ) (r : opening.Run) : Type 0 where
   pub accepted : r.answer.refusal ≡ 0
   pub marked : r.answer.mark ≡ Mark.Sealed
   pub header : SameHeader h r.answer.header
@@ -65,7 +65,7 @@ pub record Reopened (h : NwkHeader) (a : OptionAuxHeader) (p : List ℕ) (r : op
 
 abbrev pub FirstHalf : Type 0
 FirstHalf =
-    (l : Level) (key : List ℕ) (h : NwkHeader) (a : OptionAuxHeader) (p out out₂ : List ℕ)
+    (l : Level) (key : List ℕ) (h : NwkHeader) (a : Option NwkAuxHeader) (p out out₂ : List ℕ)
     → InRange h a
     → (seal_frame l key h a p out).answer.refusal ≡ 0
     → length p ≤ length out₂

@@ -1,15 +1,14 @@
 -- What sealing and opening share (Zigbee Specification 4.3.1.1, 4.3.1.2 and 4.5.2): the network's level in the auxiliary
 -- header, the nonce and the authenticated bytes.
 -- Assumes nothing.
-use Rattle.std.specs.Prelude.{ℕ, Bool, true, false, not, ◌||◌, List, ◌++◌}
+use Rattle.std.specs.Prelude.{ℕ, Bool, true, false, not, ◌||◌, List, ◌++◌, Option, Some, None}
 use Rattle.octets.specs.Numbers.{le}
 use Rattle.header.specs.declared.{auxiliary.NwkSecurityLevel.NwkSecurityLevel, auxiliary.NwkAuxHeader.NwkAuxHeader, nwk.NwkHeader.NwkHeader}
-use Rattle.types.specs.declared.{OptionEui64.OptionEui64, level.Level.Level}
+use Rattle.types.specs.declared.level.Level.{Level}
 use Rattle.types.specs.Optional.{has_ieee}
 use Rattle.header.specs.AuxiliaryControl.{security_byte, with_level}
 use Rattle.header.specs.Auxiliary.{aux_bytes, blank_aux}
 use Rattle.header.specs.Writing.{header_bytes}
-use Rattle.frame.specs.declared.OptionAuxHeader.{OptionAuxHeader}
 
 -- the network's level in the security control field (document 02, 9); another level is in no frame
 abbrev pub field_level : Level → NwkSecurityLevel
@@ -32,25 +31,25 @@ at_level l a =
       key_sequence_number = a.key_sequence_number;
     }
 
-abbrev pub is_absent : OptionAuxHeader → Bool
-is_absent OptionAuxHeader.Absent = true
-is_absent (OptionAuxHeader.Present a) = false
+abbrev pub is_absent : Option NwkAuxHeader → Bool
+is_absent None = true
+is_absent (Some a) = false
 
 -- the auxiliary header that there is, or the blank one
-abbrev pub or_blank : OptionAuxHeader → NwkAuxHeader
-or_blank OptionAuxHeader.Absent = blank_aux
-or_blank (OptionAuxHeader.Present a) = a
+abbrev pub or_blank : Option NwkAuxHeader → NwkAuxHeader
+or_blank None = blank_aux
+or_blank (Some a) = a
 
 -- the nonce's IEEE: the auxiliary one, else the header's source
-abbrev pub ieee_of : OptionEui64 → OptionEui64 → ℕ
-ieee_of (OptionEui64.Present x) s = x
-ieee_of OptionEui64.Absent (OptionEui64.Present x) = x
-ieee_of OptionEui64.Absent OptionEui64.Absent = 0
+abbrev pub ieee_of : Option ℕ → Option ℕ → ℕ
+ieee_of (Some x) s = x
+ieee_of None (Some x) = x
+ieee_of None None = 0
 
 -- that address, or none where neither has one
-abbrev pub nonce_ieee : OptionEui64 → OptionEui64 → OptionEui64
-nonce_ieee (OptionEui64.Present x) s = OptionEui64.Present x
-nonce_ieee OptionEui64.Absent s = s
+abbrev pub nonce_ieee : Option ℕ → Option ℕ → Option ℕ
+nonce_ieee (Some x) s = Some x
+nonce_ieee None s = s
 
 -- neither has one (refusal 15)
 abbrev pub no_ieee : NwkHeader → NwkAuxHeader → Bool

@@ -1,5 +1,6 @@
 -- The fields that may be missing: how long their bytes are, reading them from those bytes, and the bytes of what was read.
 -- Assumes nothing.
+use Rattle.std.specs.Prelude.{Option, Some, None}
 use mathlib.Core.Path.{◌≡◌, refl, sym, ap, ◌∙◌}
 use mathlib.Core.Bool.{Bool, true, false, cond}
 use mathlib.Core.List.{List, [], ◌∷◌, ◌++◌, append_assoc}
@@ -14,9 +15,9 @@ use Rattle.octets.specs.Strings.{over, Below}
 use Rattle.octets.specs.Numbers.{le, le_at}
 use Rattle.octets.proofs.Strings.{over_over, below_or_last}
 use Rattle.octets.proofs.Numbers.{length_le, le_at_le, le_le_at, le_at_behind}
-use Rattle.types.specs.declared.{Nwk.Nwk, OptionEui64.OptionEui64}
+use Rattle.types.specs.declared.Nwk.{Nwk}
 use Rattle.types.specs.Addresses.{nwk, no_nwk}
-use Rattle.header.specs.declared.{optional.OptionMulticast.OptionMulticast, optional.NwkSourceRoute.NwkSourceRoute}
+use Rattle.header.specs.declared.optional.NwkSourceRoute.{NwkSourceRoute}
 use Rattle.header.specs.Optional.{has_multicast, multicast_if, multicast_bytes, has_route, route_if, relay_count, relay_bytes, route_bytes}
 use Rattle.types.specs.Optional.{has_ieee, ieee_if, ieee_bytes}
 use Rattle.octets.specs.Fields.{bit}
@@ -38,13 +39,13 @@ take_join f a n x r e =
 
 -- ---- a long address
 
-pub ieee_length : (o : OptionEui64) → length (ieee_bytes o) ≡ 8 * bit (has_ieee o)
-ieee_length OptionEui64.Absent = refl
-ieee_length (OptionEui64.Present x) = length_le 8 x
+pub ieee_length : (o : Option ℕ) → length (ieee_bytes o) ≡ 8 * bit (has_ieee o)
+ieee_length None = refl
+ieee_length (Some x) = length_le 8 x
 
-pub ieee_back : (o : OptionEui64) (r : List ℕ) → IeeeFits o → ieee_if (has_ieee o) (le_at 8 (ieee_bytes o ++ r) 0) ≡ o
-ieee_back OptionEui64.Absent r h = refl
-ieee_back (OptionEui64.Present x) r h = ap OptionEui64.Present (le_at_le 8 x r h)
+pub ieee_back : (o : Option ℕ) (r : List ℕ) → IeeeFits o → ieee_if (has_ieee o) (le_at 8 (ieee_bytes o ++ r) 0) ≡ o
+ieee_back None r h = refl
+ieee_back (Some x) r h = ap Some (le_at_le 8 x r h)
 
 pub ieee_read : (f : List ℕ) (b : Bool) (i : ℕ) → Below 256 f → i + 8 * bit b ≤ length f
     → ieee_bytes (ieee_if b (le_at 8 f i)) ≡ take (8 * bit b) (drop i f)
@@ -57,14 +58,14 @@ ieee_has false x = refl
 
 -- ---- the multicast control byte
 
-pub multicast_length : (o : OptionMulticast) → length (multicast_bytes o) ≡ bit (has_multicast o)
-multicast_length OptionMulticast.Absent = refl
-multicast_length (OptionMulticast.Present x) = length_le 1 x
+pub multicast_length : (o : Option ℕ) → length (multicast_bytes o) ≡ bit (has_multicast o)
+multicast_length None = refl
+multicast_length (Some x) = length_le 1 x
 
-pub multicast_back : (o : OptionMulticast) (r : List ℕ) → MulticastFits o
+pub multicast_back : (o : Option ℕ) (r : List ℕ) → MulticastFits o
     → multicast_if (has_multicast o) (get_or (multicast_bytes o ++ r) 0 0) ≡ o
-multicast_back OptionMulticast.Absent r h = refl
-multicast_back (OptionMulticast.Present x) r h = ap OptionMulticast.Present (rw (le_byte x h) refl)
+multicast_back None r h = refl
+multicast_back (Some x) r h = ap Some (rw (le_byte x h) refl)
 
 pub multicast_read : (f : List ℕ) (b : Bool) (i : ℕ) → Below 256 f → i + bit b ≤ length f
     → multicast_bytes (multicast_if b (get_or f i 0)) ≡ take (bit b) (drop i f)

@@ -1,24 +1,24 @@
 -- Fields that may be missing, beside the long addresses: whether one is there, what reading makes of its presence bit, and the bytes that it has.
 -- Assumes nothing.
-use Rattle.std.specs.Prelude.{ℕ, zero, suc, Bool, true, false, List, [], ◌++◌, get_or}
+use Rattle.std.specs.Prelude.{ℕ, zero, suc, Bool, true, false, List, [], ◌++◌, get_or, Option, Some, None}
 use Rattle.octets.specs.Numbers.{le}
 use Rattle.types.specs.declared.Nwk.{Nwk}
 use Rattle.types.specs.Addresses.{no_nwk}
-use Rattle.header.specs.declared.{optional.OptionMulticast.OptionMulticast, optional.NwkSourceRoute.NwkSourceRoute}
+use Rattle.header.specs.declared.optional.NwkSourceRoute.{NwkSourceRoute}
 
 -- ---- the multicast control byte
 
-abbrev pub has_multicast : OptionMulticast → Bool
-has_multicast OptionMulticast.Absent = false
-has_multicast (OptionMulticast.Present x) = true
+abbrev pub has_multicast : Option ℕ → Bool
+has_multicast None = false
+has_multicast (Some x) = true
 
-abbrev pub multicast_if : Bool → ℕ → OptionMulticast
-multicast_if true x = OptionMulticast.Present x
-multicast_if false x = OptionMulticast.Absent
+abbrev pub multicast_if : Bool → ℕ → Option ℕ
+multicast_if true x = Some x
+multicast_if false x = None
 
-abbrev pub multicast_bytes : OptionMulticast → List ℕ
-multicast_bytes OptionMulticast.Absent = []
-multicast_bytes (OptionMulticast.Present x) = le 1 x
+abbrev pub multicast_bytes : Option ℕ → List ℕ
+multicast_bytes None = []
+multicast_bytes (Some x) = le 1 x
 
 -- ---- the source route
 

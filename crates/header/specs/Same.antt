@@ -1,12 +1,12 @@
 -- Document 01's e, on headers: when a presence bit agrees with its field, as a statement and as the test that the writers make,
 -- and when two headers are the same. Apart from these, what every value of the two types has: each number is within its type's range.
 -- Assumes nothing.
-use Rattle.std.specs.Prelude.{◌≡◌, ℕ, ◌<◌, ◌^◌, Bool, cond, ◌&&◌, List, get_or, ltb}
+use Rattle.std.specs.Prelude.{◌≡◌, ℕ, ◌<◌, ◌^◌, Bool, cond, ◌&&◌, List, get_or, ltb, Option, Some, None}
 use Rattle.std.specs.Bool.{beq}
 use Rattle.octets.specs.Strings.{tab}
 use Rattle.types.specs.Addresses.{no_nwk}
-use Rattle.types.specs.declared.{Nwk.Nwk, OptionEui64.OptionEui64}
-use Rattle.header.specs.declared.{optional.OptionMulticast.OptionMulticast, optional.NwkSourceRoute.NwkSourceRoute, nwk.NwkHeader.NwkHeader, auxiliary.NwkAuxHeader.NwkAuxHeader}
+use Rattle.types.specs.declared.Nwk.{Nwk}
+use Rattle.header.specs.declared.{optional.NwkSourceRoute.NwkSourceRoute, nwk.NwkHeader.NwkHeader, auxiliary.NwkAuxHeader.NwkAuxHeader}
 use Rattle.header.specs.Optional.{has_multicast, has_route, relay_count}
 use Rattle.types.specs.Optional.{has_ieee}
 
@@ -63,13 +63,13 @@ cleared h =
 
 -- ---- what every value has
 
-abbrev pub IeeeFits : OptionEui64 → Type 0
-IeeeFits OptionEui64.Absent = Unit {0}
-IeeeFits (OptionEui64.Present x) = x < 2 ^ 64
+abbrev pub IeeeFits : Option ℕ → Type 0
+IeeeFits None = Unit {0}
+IeeeFits (Some x) = x < 2 ^ 64
 
-abbrev pub MulticastFits : OptionMulticast → Type 0
-MulticastFits OptionMulticast.Absent = Unit {0}
-MulticastFits (OptionMulticast.Present x) = x < 2 ^ 8
+abbrev pub MulticastFits : Option ℕ → Type 0
+MulticastFits None = Unit {0}
+MulticastFits (Some x) = x < 2 ^ 8
 
 abbrev pub RouteFits : NwkSourceRoute → Type 0
 RouteFits NwkSourceRoute.Absent = Unit {0}

@@ -1,4 +1,5 @@
 -- The claims about records behind the complete ones, about these, and about what the writer wrote and recovery gives. Assumes nothing.
+use Rattle.std.specs.Prelude.{Option}
 use mathlib.Core.Path.{◌≡◌, refl, sym, ap, subst, ◌∙◌}
 use mathlib.Core.Bool.{true, false, not, true≢false}
 use mathlib.Core.List.{List, [], ◌∷◌, ◌++◌, append-nil}
@@ -16,7 +17,7 @@ use Rattle.octets.specs.Numbers.{le}
 use Rattle.octets.proofs.Conditions.{accepted, none, or_false}
 use Rattle.octets.proofs.Strings.{take_over}
 use Rattle.octets.proofs.Writing.{written_number, write_accepted}
-use Rattle.journal.specs.declared.{format.JournalRecord.JournalRecord, OptionKeyNumber.OptionKeyNumber, Recovered.Recovered}
+use Rattle.journal.specs.declared.{format.JournalRecord.JournalRecord, Recovered.Recovered}
 use Rattle.journal.specs.Format.{is_kind, body_length, record_at, record_bytes, kinds_from, records_from, records, some_unknown, unknown_kind, total_length, bytes_of, complete_length}
 use Rattle.journal.specs.Recovery.{State, blank, key_number_after, applied, applied_all, state_of, recover_refusal, recover_given, recover_nothing, recover_answer, recovered_list}
 use Rattle.journal.specs.Writing.{record_of_kind, write_refusal, write_record, some_ceiling}
@@ -156,7 +157,7 @@ key_number_stays (JournalRecord.KeyNumber k ∷ rs) g n = absurd n
 pub last_key_number_or_none : LastKeyNumberOrNone
 unfolding recover_answer state_of applied_all key_number_after
 last_key_number_or_none j places z =
-    let number : Recovered → OptionKeyNumber = λ a. a.key_number in
+    let number : Recovered → Option ℕ = λ a. a.key_number in
     let given = ap number (accepted (recover_refusal j places) (recover_given j) (recover_nothing (recover_refusal j places)) z) in (
       λ before behind k e n. given ∙ ap (λ (rs : List JournalRecord). (applied_all rs blank).key_number) e
           ∙ ap (λ (g : State). g.key_number) (applied_append before (JournalRecord.KeyNumber k ∷ behind) blank) ∙ key_number_stays behind _ n,

@@ -1,6 +1,7 @@
 -- No counter is handed out twice: in every life each one handed out is up to the largest complete ceiling of the store, which no event makes
 -- lower, and up to the last counter after a recovery. A recovery starts from that ceiling, and a marked journal beside has the same.
 -- Assumes nothing.
+use Rattle.std.specs.Prelude.{Option, Some, None}
 use mathlib.Core.Path.{◌≡◌, refl, sym, ap, subst, ◌∙◌}
 use mathlib.Core.Bool.{Bool, true, false, cond, not}
 use mathlib.Core.List.{List, [], ◌∷◌, ◌++◌, append-nil}
@@ -17,7 +18,6 @@ use Rattle.octets.specs.Strings.{Below}
 use Rattle.octets.specs.Writing.{written}
 use Rattle.octets.proofs.Conditions.{none as no-condition, unless_either}
 use Rattle.octets.proofs.Strings.{take_over, take_below, append_below}
-use Rattle.senders.specs.declared.OptionCounter.{OptionCounter}
 use Rattle.journal.specs.declared.format.JournalRecord.{JournalRecord}
 use Rattle.journal.specs.Format.{record_bytes, records_from, records, complete_length}
 use Rattle.journal.specs.Recovery.{State, blank, ceiling_after, applied, applied_all, state_of, recover_refusal, recover_given, recover_nothing, recover_answer}
@@ -93,9 +93,9 @@ up_to_split d c [] behind u = u.0
 up_to_split d c (x ∷ before) behind u = up_to_split d c before behind u.1
 
 -- the last counter, after a recovery
-abbrev UpToLast : OptionCounter → List ℕ → Type 0
-UpToLast OptionCounter.Absent xs = Unit {0}
-UpToLast (OptionCounter.Present c) xs = UpTo c xs
+abbrev UpToLast : Option ℕ → List ℕ → Type 0
+UpToLast None xs = Unit {0}
+UpToLast (Some c) xs = UpTo c xs
 
 -- what is beside the journal j, with the mark, may take its place: bytes, whose ceiling is no lower
 abbrev StandsIn : Bool → List ℕ → List ℕ → Type 0
@@ -221,7 +221,7 @@ module _ (g : Gateway) (safe : Safe g) where
       unless_either Safe (next_counter g.stored c).refusal _ g
       (λ z. let n = next_given_lem g.stored c z in
       subst
-      (λ (x : ℕ). Safe (record { stored = g.stored; beside = g.beside; marked = g.marked; last = OptionCounter.Present x; handed = g.handed ++ (x ∷ []) }))
+      (λ (x : ℕ). Safe (record { stored = g.stored; beside = g.beside; marked = g.marked; last = Some x; handed = g.handed ++ (x ∷ []) }))
       (sym n.0)
       (record {
         rising = rises_snoc 0 c g.handed safe.rising (omega arith) u;
@@ -249,10 +249,10 @@ module _ (g : Gateway) (safe : Safe g) where
       storing_safe g.beside [] false s.0 s.1 tt
 
 -- after a recovery
-after_recovery_lem : (P : Gateway → Type 0) (o : OptionCounter) (f : ℕ → Gateway) (g : Gateway) → P g → ((c : ℕ) → o ≡ OptionCounter.Present c → P (f c))
+after_recovery_lem : (P : Gateway → Type 0) (o : Option ℕ) (f : ℕ → Gateway) (g : Gateway) → P g → ((c : ℕ) → o ≡ Some c → P (f c))
     → P (after_recovery o f g)
-after_recovery_lem P OptionCounter.Absent f g p q = p
-after_recovery_lem P (OptionCounter.Present c) f g p q = q c refl
+after_recovery_lem P None f g p q = p
+after_recovery_lem P (Some c) f g p q = q c refl
 
 safe_after : (e : Event) (g : Gateway) → Safe g → Safe (after e g)
 unfolding after
@@ -264,7 +264,7 @@ safe_after (cuts_appending w n) g safe = off_safe (appended (writes g.stored w) 
 safe_after (garbles t) g safe = behind_safe g safe (as_bytes t) (as_bytes_below t)
 safe_after hands g safe =
     after_recovery_lem Safe g.last (λ c. handed_out (next_counter g.stored c) g) g safe
-    (λ c e. handed_safe g safe c (subst (λ (o : OptionCounter). UpToLast o g.handed) e safe.up_to_last))
+    (λ c e. handed_safe g safe c (subst (λ (o : Option ℕ). UpToLast o g.handed) e safe.up_to_last))
 safe_after cuts g safe = off_safe g safe
 safe_after (shrinks o) g safe = beside_safe g safe o (length (given (shrink g.stored o))) true (shrunk_stands_in g safe o)
 safe_after (fails_shrinking o n) g safe = beside_safe g safe o n false (λ _. tt)

@@ -1,5 +1,6 @@
 -- One pass over a journal gathers its state: what was gathered before a place, with the records from there on applied, is the state
 -- of the whole. Assumes nothing.
+use Rattle.std.specs.Prelude.{Option, None}
 use mathlib.Core.Path.{◌≡◌, refl, sym, ap, subst, ◌∙◌}
 use mathlib.Core.Bool.{Bool, true≢false, ◌||◌}
 use mathlib.Core.List.{List, []}
@@ -11,18 +12,18 @@ use lib.ListN.{length, get_or, drop}
 use borrow.Author.Tests.{le-leb}
 use borrow.Table.Steps.{cases}
 use Rattle.senders.specs.declared.SenderRecord.{SenderRecord}
-use Rattle.journal.specs.declared.{format.JournalRecord.JournalRecord, OptionKeyNumber.OptionKeyNumber}
+use Rattle.journal.specs.declared.format.JournalRecord.{JournalRecord}
 use Rattle.journal.specs.Format.{is_kind, record_at, records, unknown_kind, total_length, complete_length}
 use Rattle.journal.specs.Recovery.{State, ceiling_after, key_number_after, senders_after, applied_all, state_of}
 use Rattle.journal.specs.Scan.{whole_at, table_of, Holds, Keeps, Scans}
 use Rattle.journal.proofs.Whole.{whole_inv, records-at, unknown-at, length_at, ends_there, unknown_there}
 
 -- the state with these parts
-abbrev part : ℕ → OptionKeyNumber → List SenderRecord → State
+abbrev part : ℕ → Option ℕ → List SenderRecord → State
 part ceiling key ss = record { ceiling = ceiling; key_number = key; senders = ss }
 
 -- before place i: what was gathered, and what is still to come
-pub record Reached (j : List ℕ) (room i ceiling : ℕ) (key : OptionKeyNumber) (n : ℕ) (xs cs : List ℕ) : Type 0 where
+pub record Reached (j : List ℕ) (room i ceiling : ℕ) (key : Option ℕ) (n : ℕ) (xs cs : List ℕ) : Type 0 where
   pub within : i ≤ length j
   pub known : unknown_kind j ≡ unknown_kind (drop i j)
   pub complete : complete_length j ≡ i + complete_length (drop i j)
@@ -32,7 +33,7 @@ pub record Reached (j : List ℕ) (room i ceiling : ℕ) (key : OptionKeyNumber)
   pub holds : Holds room n xs cs senders
 
 module _ (j : List ℕ) where
-  pub reached_none : (room : ℕ) (xs cs : List ℕ) → Reached j room 0 0 OptionKeyNumber.Absent 0 xs cs
+  pub reached_none : (room : ℕ) (xs cs : List ℕ) → Reached j room 0 0 None 0 xs cs
   unfolding state_of table_of
   reached_none room xs cs =
       record {
@@ -45,7 +46,7 @@ module _ (j : List ℕ) where
       }
 
   -- behind the record at place i
-  reached_more : (room i ceiling : ℕ) (key : OptionKeyNumber) (n : ℕ) (xs cs : List ℕ) → Reached j room i ceiling key n xs cs → (whole_at j i ≡ 0 → ⊥)
+  reached_more : (room i ceiling : ℕ) (key : Option ℕ) (n : ℕ) (xs cs : List ℕ) → Reached j room i ceiling key n xs cs → (whole_at j i ≡ 0 → ⊥)
       → (m : ℕ) (ys ds : List ℕ) → Keeps room (senders_after (record_at j i)) n xs cs m ys ds
       → Reached j room (i + whole_at j i) (ceiling_after (record_at j i) ceiling) (key_number_after (record_at j i) key) m ys ds
   unfolding applied_all total_length
@@ -63,9 +64,9 @@ module _ (j : List ℕ) where
       })
 
   -- the same, of the record r and its length w as they were read, and of what was made of them
-  pub reached_next : (room i ceiling : ℕ) (key : OptionKeyNumber) (n : ℕ) (xs cs : List ℕ) → Reached j room i ceiling key n xs cs
+  pub reached_next : (room i ceiling : ℕ) (key : Option ℕ) (n : ℕ) (xs cs : List ℕ) → Reached j room i ceiling key n xs cs
       → (w : ℕ) → w ≡ whole_at j i → (w ≡ 0 → ⊥) → (r : JournalRecord) → r ≡ record_at j i
-      → (ceiling' : ℕ) → ceiling' ≡ ceiling_after r ceiling → (key' : OptionKeyNumber) → key' ≡ key_number_after r key
+      → (ceiling' : ℕ) → ceiling' ≡ ceiling_after r ceiling → (key' : Option ℕ) → key' ≡ key_number_after r key
       → (m : ℕ) (ys ds : List ℕ) → Keeps room (senders_after r) n xs cs m ys ds → Reached j room (i + w) ceiling' key' m ys ds
   reached_next room i ceiling key n xs cs reached w e h r f ceiling' ce key' ke m ys ds keeps =
       let s : Keeps room (senders_after (record_at j i)) n xs cs m ys ds = subst (λ (x : JournalRecord). Keeps room (senders_after x) n xs cs m ys ds) f keeps in
@@ -73,7 +74,7 @@ module _ (j : List ℕ) where
       rw (e, ce, ke, f) next
 
   -- where the pass stops
-  pub reached_all : (room i ceiling : ℕ) (key : OptionKeyNumber) (n : ℕ) (xs cs : List ℕ) (known : Bool) → Reached j room i ceiling key n xs cs → whole_at j i ≡ 0
+  pub reached_all : (room i ceiling : ℕ) (key : Option ℕ) (n : ℕ) (xs cs : List ℕ) (known : Bool) → Reached j room i ceiling key n xs cs → whole_at j i ≡ 0
       → known ≡ (leb (length j) i || is_kind (get_or j i 0))
       → Scans room j (record { known = known; ceiling = ceiling; key_number = key; senders = n; complete = i }) xs cs
   unfolding applied_all total_length

@@ -1,5 +1,6 @@
 -- The senders that records make are named once each, with their last counters, and recovery's list stores just them. By induction on the
 -- records, and along the list. Assumes nothing.
+use Rattle.std.specs.Prelude.{Option, Some, None}
 use mathlib.Core.Path.{◌≡◌, refl, sym, ap, subst, ◌∙◌}
 use mathlib.Core.Bool.{Bool, true, false, cond, true≢false}
 use mathlib.Core.List.{List, [], ◌∷◌}
@@ -10,7 +11,7 @@ use lib.ListN.{length, get_or}
 use borrow.Author.Tests.{eqb-true, eqb-false, ne_eqb, ltb-false}
 use borrow.Table.Steps.{cases}
 use Rattle.octets.proofs.Conditions.{accepted, none, unless_either}
-use Rattle.senders.specs.declared.{SenderRecord.SenderRecord, OptionCounter.OptionCounter}
+use Rattle.senders.specs.declared.SenderRecord.{SenderRecord}
 use Rattle.senders.specs.Records.{names}
 use Rattle.senders.specs.Senders.{counted_places, counted, stored_in, stored}
 use Rattle.senders.proofs.Walks.{counted_within, counted_64}
@@ -20,17 +21,17 @@ use Rattle.journal.specs.Recovery.{State, blank, noted, senders_after, applied, 
 use Rattle.journal.specs.Claims.{last_of, LastCounterIsStored, EachSenderOnce, PlacesBehindStay}
 
 -- the counter of s among senders
-abbrev pub counter_of : ℕ → List SenderRecord → OptionCounter
-counter_of s [] = OptionCounter.Absent
-counter_of s (r ∷ l) = cond (eqb r.address s) (OptionCounter.Present r.counter) (counter_of s l)
+abbrev pub counter_of : ℕ → List SenderRecord → Option ℕ
+counter_of s [] = None
+counter_of s (r ∷ l) = cond (eqb r.address s) (Some r.counter) (counter_of s l)
 
 -- ---- senders, each marked and named once
 
 abbrev pub Once : List SenderRecord → Type 0
 Once [] = Unit {0}
-Once (r ∷ l) = (r.used ≡ 1) × ((counter_of r.address l ≡ OptionCounter.Absent) × Once l)
+Once (r ∷ l) = (r.used ≡ 1) × ((counter_of r.address l ≡ None) × Once l)
 
-counter_noted : (s t c : ℕ) (l : List SenderRecord) → counter_of s (noted t c l) ≡ cond (eqb t s) (OptionCounter.Present c) (counter_of s l)
+counter_noted : (s t c : ℕ) (l : List SenderRecord) → counter_of s (noted t c l) ≡ cond (eqb t s) (Some c) (counter_of s l)
 unfolding noted
 counter_noted s t c [] = refl
 counter_noted s t c (r ∷ l) =
@@ -45,7 +46,7 @@ unfolding noted
 once_noted s c [] o = (refl, (refl, tt))
 once_noted s c (r ∷ l) o =
     cases (eqb r.address s)
-    (λ e. rw e (refl, (subst (λ (x : ℕ). counter_of x l ≡ OptionCounter.Absent) (eqb-true r.address s e) o.1.0, o.1.1)))
+    (λ e. rw e (refl, (subst (λ (x : ℕ). counter_of x l ≡ None) (eqb-true r.address s e) o.1.0, o.1.1)))
     (λ e. rw e (o.0, (counter_noted r.address s c l ∙ rw (ne_eqb s r.address (λ q. eqb-false r.address s e (sym q))) o.1.0, once_noted s c l o.1.1)))
 
 -- ---- along the records
@@ -62,7 +63,7 @@ unfolding applied_all senders_after last_of
 last_all s [] g = refl
 last_all s (JournalRecord.Ceiling c ∷ rs) g = last_all s rs (applied (JournalRecord.Ceiling c) g)
 last_all s (JournalRecord.Sender t c ∷ rs) g =
-    last_all s rs (applied (JournalRecord.Sender t c) g) ∙ ap (λ (o : OptionCounter). last_of s o rs) (counter_noted s t c g.senders)
+    last_all s rs (applied (JournalRecord.Sender t c) g) ∙ ap (λ (o : Option ℕ). last_of s o rs) (counter_noted s t c g.senders)
 last_all s (JournalRecord.KeyNumber k ∷ rs) g = last_all s rs (applied (JournalRecord.KeyNumber k) g)
 
 -- ---- along the list, of which n places count
@@ -81,16 +82,16 @@ stored_anew s (suc n) (r ∷ ss) (x ∷ l) o h g =
     rw (names_marked s r o.0) (cases (eqb r.address s) (λ e. rw e refl) (λ e. rw e (stored_anew s n ss l o.1.1 (omega (arith, h)) (omega (arith, g)))))
 
 -- a counter is not none
-abbrev is_there : OptionCounter → Bool
-is_there OptionCounter.Absent = false
-is_there (OptionCounter.Present c) = true
+abbrev is_there : Option ℕ → Bool
+is_there None = false
+is_there (Some c) = true
 
-pub there : (c : ℕ) → OptionCounter.Present c ≡ OptionCounter.Absent → ⊥
+pub there : (c : ℕ) → Some c ≡ None → ⊥
 there c e = true≢false (ap is_there e)
 
 -- where a place names s, s is one of the senders
 named : (s n : ℕ) (ss l : List SenderRecord) (i : ℕ) (d : SenderRecord) → Once ss → i < n → i < length l → names s (get_or (anew n ss l) i d) ≡ true
-    → counter_of s ss ≡ OptionCounter.Absent → ⊥
+    → counter_of s ss ≡ None → ⊥
 unfolding anew
 named s zero ss l i d o h g e a = omega (arith, h)
 named s (suc n) ss [] i d o h g e a = omega (arith, g)
@@ -109,7 +110,7 @@ module _ (s : ℕ) (d : SenderRecord) where
       → names s (get_or (anew n ss l) i d) ≡ true → ⊥
   twice n r ss l i o h g e f =
       let a : r.address ≡ s = eqb-true r.address s (sym (names_marked s r o.0) ∙ e) in
-      named s n ss l i d o.1.1 h g f (subst (λ (x : ℕ). counter_of x ss ≡ OptionCounter.Absent) a o.1.0)
+      named s n ss l i d o.1.1 h g f (subst (λ (x : ℕ). counter_of x ss ≡ None) a o.1.0)
 
   one_place : (n : ℕ) (ss l : List SenderRecord) (i k : ℕ) → Once ss → i < n → k < n → i < length l → k < length l
       → names s (get_or (anew n ss l) i d) ≡ true → names s (get_or (anew n ss l) k d) ≡ true → i ≡ k

@@ -1,5 +1,6 @@
 -- The bytes of a shrunk journal: their lengths, one sender's record behind the others, and all of them from what a pass gathered. Assumes
 -- nothing.
+use Rattle.std.specs.Prelude.{Option, Some, None}
 use mathlib.Core.Path.{◌≡◌, refl, sym, ap, ◌∙◌}
 use mathlib.Core.Bool.{false}
 use mathlib.Core.List.{List, [], ◌∷◌, ◌++◌, append_assoc, append-nil}
@@ -16,7 +17,7 @@ use Rattle.octets.proofs.Conditions.{none}
 use Rattle.octets.proofs.Strings.{over_nil, over_then}
 use Rattle.senders.specs.declared.SenderRecord.{SenderRecord}
 use Rattle.senders.specs.Records.{record_of}
-use Rattle.journal.specs.declared.{format.JournalRecord.JournalRecord, OptionKeyNumber.OptionKeyNumber, scan.Scanned.Scanned}
+use Rattle.journal.specs.declared.{format.JournalRecord.JournalRecord, scan.Scanned.Scanned}
 use Rattle.journal.specs.Format.{record_bytes, unknown_kind, bytes_of}
 use Rattle.journal.specs.Recovery.{State, state_of}
 use Rattle.journal.specs.Shrinking.{address_before, inserted, sorted, key_number_records, ceiling_records, sender_records, shrunk_records, shrunk, shrink_refusal}
@@ -68,10 +69,10 @@ unfolding sender_records record_bytes le
 length_senders [] = refl
 length_senders (r ∷ l) = omega (arith, length_senders l)
 
-pub length_key_number : (o : OptionKeyNumber) → length (bytes_of (key_number_records o)) ≤ 2
+pub length_key_number : (o : Option ℕ) → length (bytes_of (key_number_records o)) ≤ 2
 unfolding key_number_records record_bytes le
-length_key_number OptionKeyNumber.Absent = omega arith
-length_key_number (OptionKeyNumber.Present k) = omega arith
+length_key_number None = omega arith
+length_key_number (Some k) = omega arith
 
 pub length_ceiling : (c : ℕ) → length (bytes_of (ceiling_records c)) ≤ 5
 unfolding ceiling_records record_bytes le

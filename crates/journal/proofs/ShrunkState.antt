@@ -1,5 +1,6 @@
 -- A shrunk journal reads as the records that it was written from, and they make the state anew, with the senders in their new order.
 -- States that are alike shrink to the same records. Assumes nothing.
+use Rattle.std.specs.Prelude.{Option, Some, None}
 use mathlib.Core.Path.{◌≡◌, refl, sym, ap, subst, ◌∙◌}
 use mathlib.Core.Bool.{Bool, true, false, cond}
 use mathlib.Core.List.{List, [], ◌∷◌, ◌++◌}
@@ -13,8 +14,8 @@ use Rattle.octets.specs.Strings.{Below}
 use Rattle.octets.specs.Numbers.{le}
 use Rattle.octets.proofs.Numbers.{le_below}
 use Rattle.octets.proofs.Strings.{append_below}
-use Rattle.senders.specs.declared.{SenderRecord.SenderRecord, OptionCounter.OptionCounter}
-use Rattle.journal.specs.declared.{format.JournalRecord.JournalRecord, OptionKeyNumber.OptionKeyNumber}
+use Rattle.senders.specs.declared.SenderRecord.{SenderRecord}
+use Rattle.journal.specs.declared.format.JournalRecord.{JournalRecord}
 use Rattle.journal.specs.Format.{record_bytes, kinds_from, records_from, records, some_unknown, unknown_kind, total_length, bytes_of, complete_length}
 use Rattle.journal.specs.Recovery.{State, blank, noted, ceiling_after, key_number_after, senders_after, applied, applied_all, state_of}
 use Rattle.journal.specs.Shrinking.{sorted, key_number_records, ceiling_records, sender_records, shrunk_records, shrunk}
@@ -60,15 +61,15 @@ bytes_below (r ∷ rs) i = append_below (record_bytes r) (bytes_of rs) 256 (reco
 
 -- ---- the state that a shrunk journal's records make
 
-abbrev front : ℕ → OptionKeyNumber → State
+abbrev front : ℕ → Option ℕ → State
 front c o = record { ceiling = c; key_number = o; senders = [] }
 
-key_number_made : (o : OptionKeyNumber) → applied_all (key_number_records o) blank ≡ front 0 o
+key_number_made : (o : Option ℕ) → applied_all (key_number_records o) blank ≡ front 0 o
 unfolding applied_all key_number_records ceiling_after key_number_after senders_after
-key_number_made OptionKeyNumber.Absent = refl
-key_number_made (OptionKeyNumber.Present k) = refl
+key_number_made None = refl
+key_number_made (Some k) = refl
 
-ceiling_made : (c : ℕ) (o : OptionKeyNumber) → applied_all (ceiling_records c) (front 0 o) ≡ front c o
+ceiling_made : (c : ℕ) (o : Option ℕ) → applied_all (ceiling_records c) (front 0 o) ≡ front c o
 unfolding applied_all ceiling_records ceiling_after key_number_after senders_after
 ceiling_made c o =
     cases (eqb c 0) (λ e. rw e (ap (λ (x : ℕ). front x o) (sym (eqb-true c 0 e)))) (λ e. rw (e, lt-ltb 0 c (above (eqb-false c 0 e))) refl)
@@ -84,25 +85,25 @@ stay [] g = (refl, refl)
 stay (r ∷ l) g = stay l (applied (JournalRecord.Sender r.address r.counter) g)
 
 -- the last counter of a sender among records that name each once
-last_step : (s : ℕ) (o : OptionCounter) (r : SenderRecord) (l : List SenderRecord) (b : Bool) → eqb r.address s ≡ b
-    → last_of s o (sender_records (r ∷ l)) ≡ last_of s (cond b (OptionCounter.Present r.counter) o) (sender_records l)
+last_step : (s : ℕ) (o : Option ℕ) (r : SenderRecord) (l : List SenderRecord) (b : Bool) → eqb r.address s ≡ b
+    → last_of s o (sender_records (r ∷ l)) ≡ last_of s (cond b (Some r.counter) o) (sender_records l)
 unfolding last_of sender_records
-last_step s o r l b e = ap (λ (x : Bool). last_of s (cond x (OptionCounter.Present r.counter) o) (sender_records l)) e
+last_step s o r l b e = ap (λ (x : Bool). last_of s (cond x (Some r.counter) o) (sender_records l)) e
 
-last_none : (s : ℕ) (o : OptionCounter) (l : List SenderRecord) → counter_of s l ≡ OptionCounter.Absent → last_of s o (sender_records l) ≡ o
+last_none : (s : ℕ) (o : Option ℕ) (l : List SenderRecord) → counter_of s l ≡ None → last_of s o (sender_records l) ≡ o
 unfolding last_of sender_records
 last_none s o [] a = refl
 last_none s o (r ∷ l) a = let n = none_of s r l a in last_step s o r l false (ne_eqb r.address s n.0) ∙ last_none s o l n.1
 
-last_once : (s : ℕ) (l : List SenderRecord) → Once l → last_of s OptionCounter.Absent (sender_records l) ≡ counter_of s l
+last_once : (s : ℕ) (l : List SenderRecord) → Once l → last_of s None (sender_records l) ≡ counter_of s l
 unfolding last_of sender_records
 last_once s [] o = refl
 last_once s (r ∷ l) o =
     cases (eqb r.address s)
-    (λ e. last_step s OptionCounter.Absent r l true e
-    ∙ last_none s (OptionCounter.Present r.counter) l
-    (subst (λ (x : ℕ). counter_of x l ≡ OptionCounter.Absent) (eqb-true r.address s e) o.1.0) ∙ sym (rw e refl))
-    (λ e. last_step s OptionCounter.Absent r l false e ∙ last_once s l o.1.1 ∙ sym (rw e refl))
+    (λ e. last_step s None r l true e
+    ∙ last_none s (Some r.counter) l
+    (subst (λ (x : ℕ). counter_of x l ≡ None) (eqb-true r.address s e) o.1.0) ∙ sym (rw e refl))
+    (λ e. last_step s None r l false e ∙ last_once s l o.1.1 ∙ sym (rw e refl))
 
 -- ---- states that recover to the same
 
@@ -148,14 +149,14 @@ module _ (g h : State) (a : Alike g h) (o : Once g.senders) (p : Once h.senders)
 -- ---- how many senders there are with one more record
 
 -- one more, where the sender was none of them
-with_one : OptionCounter → ℕ → ℕ
-with_one OptionCounter.Absent n = suc n
-with_one (OptionCounter.Present c) n = n
+with_one : Option ℕ → ℕ → ℕ
+with_one None n = suc n
+with_one (Some c) n = n
 
-with_one_suc : (o : OptionCounter) (n : ℕ) → suc (with_one o n) ≡ with_one o (suc n)
+with_one_suc : (o : Option ℕ) (n : ℕ) → suc (with_one o n) ≡ with_one o (suc n)
 unfolding with_one
-with_one_suc OptionCounter.Absent n = refl
-with_one_suc (OptionCounter.Present c) n = refl
+with_one_suc None n = refl
+with_one_suc (Some c) n = refl
 
 length_noted : (s c : ℕ) (l : List SenderRecord) → length (noted s c l) ≡ with_one (counter_of s l) (length l)
 unfolding noted with_one

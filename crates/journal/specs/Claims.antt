@@ -1,13 +1,13 @@
 -- What document 02, 6 promises of the journal, each one claim over all journals, records, lists and lives. They are proved in
 -- `proofs/Claims.antt`, `proofs/SendersOnce.antt`, `proofs/FirstAppearance.antt` and `proofs/NoCounterTwice.antt`.
 -- Assumes nothing.
-use Rattle.std.specs.Prelude.{ℕ, suc, ◌+◌, ◌^◌, ◌≤◌, ◌<◌, ◌≡◌, Bool, true, false, cond, ◌||◌, List, [], ◌∷◌, ◌++◌, ◌⊎◌, eqb, ltb, length, get_or, take}
+use Rattle.std.specs.Prelude.{ℕ, suc, ◌+◌, ◌^◌, ◌≤◌, ◌<◌, ◌≡◌, Bool, true, false, cond, ◌||◌, List, [], ◌∷◌, ◌++◌, ◌⊎◌, eqb, ltb, length, get_or, take, Option, Some, None}
 use Rattle.octets.specs.Strings.{Below}
 use Rattle.types.specs.Counters.{last_counter}
-use Rattle.senders.specs.declared.{SenderRecord.SenderRecord, OptionCounter.OptionCounter}
+use Rattle.senders.specs.declared.SenderRecord.{SenderRecord}
 use Rattle.senders.specs.Records.{names, free_record}
 use Rattle.senders.specs.Senders.{counted_places, counted, stored}
-use Rattle.journal.specs.declared.{format.JournalRecord.JournalRecord, OptionKeyNumber.OptionKeyNumber}
+use Rattle.journal.specs.declared.format.JournalRecord.{JournalRecord}
 use Rattle.journal.specs.Format.{record_bytes, records, unknown_kind, bytes_of, complete_length}
 use Rattle.journal.specs.Recovery.{applied, state_of, recover_refusal, recover_answer, recovered_list}
 use Rattle.journal.specs.Writing.{record_of_kind, some_ceiling, next_counter}
@@ -100,20 +100,20 @@ abbrev pub LastKeyNumberOrNone : Type 0
 LastKeyNumberOrNone =
     (j : List ℕ) (places : ℕ) → recover_refusal j places ≡ 0
     → ((before behind : List JournalRecord) (k : ℕ) → records j ≡ before ++ (JournalRecord.KeyNumber k ∷ behind) → NoKeyNumber behind
-    → (recover_answer j places).key_number ≡ OptionKeyNumber.Present k)
-    × (NoKeyNumber (records j) → (recover_answer j places).key_number ≡ OptionKeyNumber.Absent)
+    → (recover_answer j places).key_number ≡ Some k)
+    × (NoKeyNumber (records j) → (recover_answer j places).key_number ≡ None)
 
 -- the counter of the last record of s, or none
-unfoldable pub last_of : ℕ → OptionCounter → List JournalRecord → OptionCounter
+unfoldable pub last_of : ℕ → Option ℕ → List JournalRecord → Option ℕ
 last_of s o [] = o
 last_of s o (JournalRecord.Ceiling c ∷ rs) = last_of s o rs
-last_of s o (JournalRecord.Sender t c ∷ rs) = last_of s (cond (eqb t s) (OptionCounter.Present c) o) rs
+last_of s o (JournalRecord.Sender t c ∷ rs) = last_of s (cond (eqb t s) (Some c) o) rs
 last_of s o (JournalRecord.KeyNumber k ∷ rs) = last_of s o rs
 
 -- the list recovered stores each sender's last counter, and names no other sender
 abbrev pub LastCounterIsStored : Type 0
 LastCounterIsStored =
-    (j : List ℕ) (l : List SenderRecord) (s : ℕ) → recover_refusal j (length l) ≡ 0 → stored s (recovered_list j l) ≡ last_of s OptionCounter.Absent (records j)
+    (j : List ℕ) (l : List SenderRecord) (s : ℕ) → recover_refusal j (length l) ≡ 0 → stored s (recovered_list j l) ≡ last_of s None (records j)
 
 -- whether s is one of xs
 abbrev pub among : ℕ → List ℕ → Bool

@@ -1,10 +1,10 @@
 -- The life of a gateway over its journal (document 02, 6 and 7): what can happen to it, in any order and any number of times. What a call
 -- refuses does not happen: the gateway is then as it was.
 -- Assumes nothing.
-use Rattle.std.specs.Prelude.{ℕ, ◌%◌, Bool, true, false, cond, List, [], ◌∷◌, ◌++◌, length, take}
+use Rattle.std.specs.Prelude.{ℕ, ◌%◌, Bool, true, false, cond, List, [], ◌∷◌, ◌++◌, length, take, Option, Some, None}
 use Rattle.octets.specs.Refusals.{unless}
 use Rattle.octets.specs.Writing.{Run}
-use Rattle.senders.specs.declared.{SenderRecord.SenderRecord, OptionCounter.OptionCounter}
+use Rattle.senders.specs.declared.SenderRecord.{SenderRecord}
 use Rattle.journal.specs.declared.{Recovered.Recovered, NextCounter.NextCounter}
 use Rattle.journal.specs.Format.{complete_length}
 use Rattle.journal.specs.Recovery.{recover_answer}
@@ -21,13 +21,13 @@ pub record Gateway : Type 0 where
   -- in memory: what is beside is complete, and nothing was appended to the journal since
   pub marked : Bool
   -- in memory: the last counter, or none before a recovery
-  pub last : OptionCounter
+  pub last : Option ℕ
   -- the counters handed out so far, in order
   pub handed : List ℕ
 
 -- an empty store, the power off
 abbrev pub begun : Gateway
-begun = record { stored = []; beside = []; marked = false; last = OptionCounter.Absent; handed = [] }
+begun = record { stored = []; beside = []; marked = false; last = None; handed = [] }
 
 -- ---- what can happen to it
 
@@ -80,13 +80,13 @@ given r = take r.answer.length r.out
 
 -- what is in memory is lost
 abbrev pub off : Gateway → Gateway
-off g = record { stored = g.stored; beside = g.beside; marked = false; last = OptionCounter.Absent; handed = g.handed }
+off g = record { stored = g.stored; beside = g.beside; marked = false; last = None; handed = g.handed }
 
 -- after a recovery the last counter is its ceiling
 abbrev pub recovered : Recovered → Gateway → Gateway
 recovered a g =
     unless a.refusal
-    (record { stored = g.stored; beside = g.beside; marked = g.marked; last = OptionCounter.Present a.ceiling; handed = g.handed }) g
+    (record { stored = g.stored; beside = g.beside; marked = g.marked; last = Some a.ceiling; handed = g.handed }) g
 
 -- the store has these bytes and those beside, with the mark or without it
 abbrev pub storing : List ℕ → List ℕ → Bool → Gateway → Gateway
@@ -113,7 +113,7 @@ handed_out a g =
       stored = g.stored;
       beside = g.beside;
       marked = g.marked;
-      last = OptionCounter.Present a.counter;
+      last = Some a.counter;
       handed = g.handed ++ (a.counter ∷ []);
     }) g
 
@@ -122,9 +122,9 @@ abbrev pub shrunk_beside : Run → ℕ → Bool → Gateway → Gateway
 shrunk_beside r n m g = unless r.answer.refusal (storing g.stored (take n (given r)) m g) g
 
 -- no counter is handed out before a recovery
-abbrev pub after_recovery : OptionCounter → (ℕ → Gateway) → Gateway → Gateway
-after_recovery OptionCounter.Absent f g = g
-after_recovery (OptionCounter.Present c) f g = f c
+abbrev pub after_recovery : Option ℕ → (ℕ → Gateway) → Gateway → Gateway
+after_recovery None f g = g
+after_recovery (Some c) f g = f c
 
 unfoldable pub after : Event → Gateway → Gateway
 after (recovers l) g = recovered (recover_answer g.stored (length l)) g

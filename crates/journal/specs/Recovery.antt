@@ -1,24 +1,24 @@
 -- What recovery takes from a journal (document 02, 6): the largest ceiling, or 0; each sender once, by first appearance, with its last
 -- counter; the last key number, or none; and the length of the complete records. It fills the list of senders anew.
 -- Assumes nothing.
-use Rattle.std.specs.Prelude.{ℕ, zero, suc, cond, List, [], ◌∷◌, eqb, ltb, length}
+use Rattle.std.specs.Prelude.{ℕ, zero, suc, cond, List, [], ◌∷◌, eqb, ltb, length, Option, Some, None}
 use Rattle.octets.specs.Refusals.{unless, on, first_of}
 use Rattle.senders.specs.declared.SenderRecord.{SenderRecord}
 use Rattle.senders.specs.Records.{record_of, free_record}
 use Rattle.senders.specs.Senders.{counted_places, counted}
-use Rattle.journal.specs.declared.{format.JournalRecord.JournalRecord, OptionKeyNumber.OptionKeyNumber, Recovered.Recovered}
+use Rattle.journal.specs.declared.{format.JournalRecord.JournalRecord, Recovered.Recovered}
 use Rattle.journal.specs.Format.{records, unknown_kind, complete_length}
 
 -- ---- the state that records make
 
 pub record State : Type 0 where
   pub ceiling : ℕ
-  pub key_number : OptionKeyNumber
+  pub key_number : Option ℕ
   pub senders : List SenderRecord
 
 -- of an empty journal
 abbrev pub blank : State
-blank = record { ceiling = 0; key_number = OptionKeyNumber.Absent; senders = [] }
+blank = record { ceiling = 0; key_number = None; senders = [] }
 
 abbrev pub larger : ℕ → ℕ → ℕ
 larger a b = cond (ltb a b) b a
@@ -34,10 +34,10 @@ ceiling_after (JournalRecord.Ceiling c) x = larger x c
 ceiling_after (JournalRecord.Sender s c) x = x
 ceiling_after (JournalRecord.KeyNumber k) x = x
 
-unfoldable pub key_number_after : JournalRecord → OptionKeyNumber → OptionKeyNumber
+unfoldable pub key_number_after : JournalRecord → Option ℕ → Option ℕ
 key_number_after (JournalRecord.Ceiling c) o = o
 key_number_after (JournalRecord.Sender s c) o = o
-key_number_after (JournalRecord.KeyNumber k) o = OptionKeyNumber.Present k
+key_number_after (JournalRecord.KeyNumber k) o = Some k
 
 unfoldable pub senders_after : JournalRecord → List SenderRecord → List SenderRecord
 senders_after (JournalRecord.Ceiling c) l = l
@@ -78,7 +78,7 @@ abbrev pub recover_given : List ℕ → Recovered
 recover_given j = record { refusal = 0; ceiling = (state_of j).ceiling; key_number = (state_of j).key_number; complete = complete_length j }
 
 abbrev pub recover_nothing : ℕ → Recovered
-recover_nothing n = record { refusal = n; ceiling = 0; key_number = OptionKeyNumber.Absent; complete = 0 }
+recover_nothing n = record { refusal = n; ceiling = 0; key_number = None; complete = 0 }
 
 -- for the journal and the list's places
 unfoldable pub recover_answer : List ℕ → ℕ → Recovered

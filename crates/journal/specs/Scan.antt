@@ -1,11 +1,11 @@
 -- What one pass over a journal gathers: it goes from record to record, and keeps the senders in a table of two columns.
 -- Assumes nothing.
-use Rattle.std.specs.Prelude.{ℕ, zero, suc, ◌+◌, ◌*◌, ◌≤◌, ◌≡◌, Bool, false, cond, not, ◌&&◌, ◌||◌, List, [], ◌∷◌, ◌++◌, eqb, leb, ltb, length, get_or}
+use Rattle.std.specs.Prelude.{ℕ, zero, suc, ◌+◌, ◌*◌, ◌≤◌, ◌≡◌, Bool, false, cond, not, ◌&&◌, ◌||◌, List, [], ◌∷◌, ◌++◌, eqb, leb, ltb, length, get_or, Option}
 use Rattle.octets.specs.Refusals.{unless, on, first_of}
 use Rattle.senders.specs.declared.SenderRecord.{SenderRecord}
 use Rattle.senders.specs.Records.{record_of, free_record}
 use Rattle.senders.specs.Senders.{counted_places, counted}
-use Rattle.journal.specs.declared.{Found.Found, Recovered.Recovered, OptionKeyNumber.OptionKeyNumber, scan.Scanned.Scanned}
+use Rattle.journal.specs.declared.{Found.Found, Recovered.Recovered, scan.Scanned.Scanned}
 use Rattle.journal.specs.Format.{is_kind, body_length, unknown_kind, bytes_of, complete_length}
 use Rattle.journal.specs.Recovery.{state_of, recover_refusal, recover_answer, recover_nothing}
 use Rattle.journal.specs.Shrinking.{address_before, key_number_records, ceiling_records, sender_records}
@@ -79,7 +79,7 @@ next_refusal_by known ceiling last = first_of (on 25 (not known) ∷ on 26 (leb 
 -- ---- shrinking, by what was gathered
 
 -- the length of the records before the senders
-unfoldable pub front_length : OptionKeyNumber → ℕ → ℕ
+unfoldable pub front_length : Option ℕ → ℕ → ℕ
 front_length o c = length (bytes_of (key_number_records o)) + length (bytes_of (ceiling_records c))
 
 unfoldable pub shrunk_length_by : Scanned → ℕ

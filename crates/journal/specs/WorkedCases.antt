@@ -1,11 +1,11 @@
 -- Readings of document 02, 6 and 7, at their edges, as one table. What a row says of the definitions is `Holds`; that every row holds is one
 -- claim, in proofs/WorkedCases.antt.
 -- Assumes nothing.
-use Rattle.std.specs.Prelude.{◌≡◌, List, [], ◌∷◌, ◌++◌, ℕ, zero, suc, length, replicate, take}
+use Rattle.std.specs.Prelude.{◌≡◌, List, [], ◌∷◌, ◌++◌, ℕ, zero, suc, length, replicate, take, Option, Some, None}
 use Rattle.octets.specs.Writing.{wrote, wrote_nothing}
 use Rattle.senders.specs.declared.SenderRecord.{SenderRecord}
 use Rattle.senders.specs.Records.{record_of, free_record}
-use Rattle.journal.specs.declared.{format.JournalRecord.JournalRecord, OptionKeyNumber.OptionKeyNumber}
+use Rattle.journal.specs.declared.format.JournalRecord.{JournalRecord}
 use Rattle.journal.specs.Format.{record_bytes}
 use Rattle.journal.specs.Recovery.{recover_nothing, recover_answer, recovered_list}
 use Rattle.journal.specs.Writing.{write_record, next_given, next_nothing, next_counter}
@@ -16,7 +16,7 @@ use Rattle.journal.specs.Life.{Event, Writing, recovers, shortens, appends, fail
 
 pub data Case : Type 0 where
   -- recovering a journal into a list gives a ceiling, a key number or none, and the length of the complete records, and leaves a list
-  gives : List ℕ → List SenderRecord → ℕ → OptionKeyNumber → ℕ → List SenderRecord → Case
+  gives : List ℕ → List SenderRecord → ℕ → Option ℕ → ℕ → List SenderRecord → Case
   -- it refuses by a number, and changes nothing
   refuses : List ℕ → List SenderRecord → ℕ → Case
   -- writing a record of a kind, a sender, a counter and a key number behind a journal gives bytes
@@ -75,7 +75,7 @@ abbrev pub three : List ℕ
 three = ceiling_record 7 ++ (sender_record probe 1000 ++ (3 ∷ 5 ∷ []))
 
 abbrev pub part_of : List ℕ → ℕ → Case
-part_of r n = gives (three ++ take n r) used 7 (OptionKeyNumber.Present 5) 20 (record_of probe 1000 ∷ free_record ∷ [])
+part_of r n = gives (three ++ take n r) used 7 (Some 5) 20 (record_of probe 1000 ∷ free_record ∷ [])
 
 -- n senders, one record each
 unfoldable pub many : ℕ → List ℕ
@@ -96,12 +96,12 @@ ceiling_written c = record { kind = 1; sender = 0; counter = c; key_number = 0; 
 unfoldable pub recoveries : List Case
 recoveries =
     -- an empty journal: no ceiling, no key number, and a list of zeros
-    gives [] used 0 OptionKeyNumber.Absent 0 (free_record ∷ free_record ∷ [])
-    ∷ gives [] [] 0 OptionKeyNumber.Absent 0 []
+    gives [] used 0 None 0 (free_record ∷ free_record ∷ [])
+    ∷ gives [] [] 0 None 0 []
     -- each kind whole, byte by byte
-    ∷ gives (1 ∷ 4 ∷ 3 ∷ 2 ∷ 1 ∷ []) [] 0x01020304 OptionKeyNumber.Absent 5 []
-    ∷ gives (2 ∷ 8 ∷ 7 ∷ 6 ∷ 5 ∷ 4 ∷ 3 ∷ 2 ∷ 1 ∷ 4 ∷ 3 ∷ 2 ∷ 1 ∷ []) (free_record ∷ []) 0 OptionKeyNumber.Absent 13 (record_of 0x0102030405060708 0x01020304 ∷ [])
-    ∷ gives (3 ∷ 0 ∷ []) [] 0 (OptionKeyNumber.Present 0) 2 []
+    ∷ gives (1 ∷ 4 ∷ 3 ∷ 2 ∷ 1 ∷ []) [] 0x01020304 None 5 []
+    ∷ gives (2 ∷ 8 ∷ 7 ∷ 6 ∷ 5 ∷ 4 ∷ 3 ∷ 2 ∷ 1 ∷ 4 ∷ 3 ∷ 2 ∷ 1 ∷ []) (free_record ∷ []) 0 None 13 (record_of 0x0102030405060708 0x01020304 ∷ [])
+    ∷ gives (3 ∷ 0 ∷ []) [] 0 (Some 0) 2 []
     -- a record cut after each of its bytes: a ceiling, a sender, a key number
     ∷ part_of (ceiling_record 9) 0 ∷ part_of (ceiling_record 9) 1 ∷ part_of (ceiling_record 9) 2 ∷ part_of (ceiling_record 9) 3 ∷ part_of (ceiling_record 9) 4
     ∷ part_of (sender_record probe 2000) 1 ∷ part_of (sender_record probe 2000) 2 ∷ part_of (sender_record probe 2000) 3 ∷ part_of (sender_record probe 2000) 4
@@ -109,11 +109,11 @@ recoveries =
     ∷ part_of (sender_record probe 2000) 9 ∷ part_of (sender_record probe 2000) 10 ∷ part_of (sender_record probe 2000) 11 ∷ part_of (sender_record probe 2000) 12
     ∷ part_of (3 ∷ 6 ∷ []) 1
     -- ceilings 5, 9, 7: the largest
-    ∷ gives (ceiling_record 5 ++ (ceiling_record 9 ++ ceiling_record 7)) [] 9 OptionKeyNumber.Absent 15 []
+    ∷ gives (ceiling_record 5 ++ (ceiling_record 9 ++ ceiling_record 7)) [] 9 None 15 []
     -- a sender twice: the place of the first, the counter of the second, even a lower one
-    ∷ gives (sender_record probe 9 ++ (sender_record other 5 ++ sender_record probe 3)) used 0 OptionKeyNumber.Absent 39 (record_of probe 3 ∷ record_of other 5 ∷ [])
+    ∷ gives (sender_record probe 9 ++ (sender_record other 5 ++ sender_record probe 3)) used 0 None 39 (record_of probe 3 ∷ record_of other 5 ∷ [])
     -- key numbers 1 and 2: the last
-    ∷ gives (3 ∷ 1 ∷ 3 ∷ 2 ∷ []) [] 0 (OptionKeyNumber.Present 2) 4 []
+    ∷ gives (3 ∷ 1 ∷ 3 ∷ 2 ∷ []) [] 0 (Some 2) 4 []
     -- kind 0, kind 4, and kind 4 as an incomplete last byte
     ∷ refuses (0 ∷ []) used 25 ∷ refuses (three ++ (4 ∷ 1 ∷ 2 ∷ 3 ∷ [])) used 25 ∷ refuses (three ++ (4 ∷ [])) used 25
     -- it is looked for before 24
@@ -123,7 +123,7 @@ recoveries =
     ∷ refuses (sender_record probe 9 ++ (sender_record other 5 ++ sender_record 1 1)) used 24
     ∷ refuses (many 65) (replicate 70 free_record) 24
     -- 64 senders, and a place behind them
-    ∷ gives (many 64) (replicate 64 free_record ++ used) 0 OptionKeyNumber.Absent 832 (listed 64 ++ used)
+    ∷ gives (many 64) (replicate 64 free_record ++ used) 0 None 832 (listed 64 ++ used)
     ∷ []
 
 unfoldable pub writings : List Case

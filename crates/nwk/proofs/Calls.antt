@@ -1,6 +1,7 @@
 -- What a C function answers and leaves in a buffer where its refusal number is known: refused, or passed. And the answer's
 -- parts can be read back.
 -- Assumes nothing.
+use Rattle.std.specs.Prelude.{Some, None}
 use mathlib.Core.Path.{◌≡◌, refl, ap, ◌∙◌}
 use mathlib.Core.List.{List}
 use Prim.Native.Nat.{ℕ, zero, suc, ◌/◌, ◌%◌, ◌^◌, ◌<◌}
@@ -13,8 +14,6 @@ use Rattle.octets.specs.Writing.{written}
 use Rattle.octets.proofs.Conditions as conditions
 use Rattle.frame.specs.declared.{Mark.Mark, FrameSealed.FrameSealed}
 use Rattle.frame.specs.Sealing.{seal_refused, seal_by}
-use Rattle.senders.specs.declared.OptionCounter.{OptionCounter}
-use Rattle.journal.specs.declared.OptionKeyNumber.{OptionKeyNumber}
 use Rattle.journal.specs.Recovery.{recover_nothing}
 use Rattle.nwk.specs.Answer.{answer, clear_bit, opened_answer, answer_by, given}
 use Rattle.nwk.specs.Inbound.{earlier_answer}
@@ -54,20 +53,20 @@ unfolding opened_answer
 opened_clear_bit m n = omega arith
 
 -- of noting a known sender: its earlier counter, no refusal, and bit 41 set; else no counter, the refusal, and bit 41 off
-pub noted_known : (n c : ℕ) → c < 2 ^ 32 → let a = earlier_answer n (OptionCounter.Present c) in (a % 2 ^ 32 ≡ c) × ((a / 2 ^ 32 % 2 ^ 8 ≡ 0) × (a / 2 ^ 41 ≡ 1))
+pub noted_known : (n c : ℕ) → c < 2 ^ 32 → let a = earlier_answer n (Some c) in (a % 2 ^ 32 ≡ c) × ((a / 2 ^ 32 % 2 ^ 8 ≡ 0) × (a / 2 ^ 41 ≡ 1))
 noted_known n c h = (omega (arith, h), (omega (arith, h), omega (arith, h)))
 
-pub noted_new : (n : ℕ) → n < 2 ^ 8 → let a = earlier_answer n OptionCounter.Absent in (a % 2 ^ 32 ≡ 0) × ((a / 2 ^ 32 % 2 ^ 8 ≡ n) × (a / 2 ^ 41 ≡ 0))
+pub noted_new : (n : ℕ) → n < 2 ^ 8 → let a = earlier_answer n None in (a % 2 ^ 32 ≡ 0) × ((a / 2 ^ 32 % 2 ^ 8 ≡ n) × (a / 2 ^ 41 ≡ 0))
 unfolding answer
 noted_new n h = (omega (arith, h), (omega (arith, h), omega (arith, h)))
 
 -- of recovery: the ceiling, no refusal, and where there is a key number bit 41 set and that number; else bit 41 off and 0
-pub recovered_known : (c k m : ℕ) → c < 2 ^ 32 → let a = recovered_answer (record { refusal = 0; ceiling = c; key_number = OptionKeyNumber.Present k; complete = m }) in
+pub recovered_known : (c k m : ℕ) → c < 2 ^ 32 → let a = recovered_answer (record { refusal = 0; ceiling = c; key_number = Some k; complete = m }) in
     (a % 2 ^ 32 ≡ c) × ((a / 2 ^ 32 % 2 ^ 8 ≡ 0) × ((a / 2 ^ 41 % 2 ≡ 1) × (a / 2 ^ 48 ≡ k)))
 unfolding recovered_answer unless
 recovered_known c k m h = (omega (arith, h), (omega (arith, h), (omega (arith, h), omega (arith, h))))
 
-pub recovered_none : (c m : ℕ) → c < 2 ^ 32 → let a = recovered_answer (record { refusal = 0; ceiling = c; key_number = OptionKeyNumber.Absent; complete = m }) in
+pub recovered_none : (c m : ℕ) → c < 2 ^ 32 → let a = recovered_answer (record { refusal = 0; ceiling = c; key_number = None; complete = m }) in
     (a % 2 ^ 32 ≡ c) × ((a / 2 ^ 32 % 2 ^ 8 ≡ 0) × ((a / 2 ^ 41 % 2 ≡ 0) × (a / 2 ^ 48 ≡ 0)))
 unfolding recovered_answer unless
 recovered_none c m h = (omega (arith, h), (omega (arith, h), (omega (arith, h), omega (arith, h))))

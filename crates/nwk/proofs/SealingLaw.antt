@@ -1,6 +1,7 @@
 -- The sealing law over the C functions, and the payload's place: a value of each statement in specs/SealingLaw.antt. A C function is
 -- its operation between the records' inverse laws, so the frame's law carries over.
 -- Assumes nothing.
+use Rattle.std.specs.Prelude.{Option, Some, None}
 use mathlib.Core.Path.{◌≡◌, refl, sym, ap, ◌∙◌}
 use mathlib.Core.Bool.{Bool, true, false, true≢false, cond}
 use mathlib.Core.List.{List, ◌++◌, append_assoc}
@@ -31,7 +32,7 @@ use Rattle.header.proofs.ReadBack.{same_cleared}
 use Rattle.header.proofs.ReadFacts.{header_number, aux_number}
 use Rattle.header.proofs.ReadFits.{ieee_fits, multicast_fits, route_fits, relays_fit, aux_read_fits}
 use Rattle.ccm.specs.Operations.{ciph_of}
-use Rattle.frame.specs.declared.{OptionAuxHeader.OptionAuxHeader, Mark.Mark, FrameOpened.FrameOpened}
+use Rattle.frame.specs.declared.{Mark.Mark, FrameOpened.FrameOpened}
 use Rattle.frame.specs.Reading.{secured, aux_if, aux_behind, frame_refusal, frame_number, read_frame}
 use Rattle.frame.specs.Security.{sent_level, or_blank}
 use Rattle.frame.specs.Writing.{length_refusals}
@@ -63,7 +64,7 @@ use Rattle.nwk.proofs.FrameRefusals.{open_number_lem, opened_number}
 
 -- ---- every number fits the eight bits of an answer
 
-headers_below : (h : NwkHeader) (a : OptionAuxHeader) → headers_refusal h a < 256
+headers_below : (h : NwkHeader) (a : Option NwkAuxHeader) → headers_refusal h a < 256
 unfolding headers_refusal field_refusal
 headers_below h a =
     number_below 256 _ (omega arith) (number_below 256 _ (omega arith) (refl, (refl, tt)), (refl, (refl, (refl, (refl, tt)))))
@@ -160,18 +161,18 @@ cleared_places : (h : NwkHeader) → length (cleared h).relays ≡ 54
 unfolding cleared
 cleared_places h = length_tab _ 54
 
-level_zero_fits : (a : OptionAuxHeader) → frames.AuxOptionFits a → frames.AuxOptionFits (frames.level_zero a)
-level_zero_fits OptionAuxHeader.Absent f = tt
-level_zero_fits (OptionAuxHeader.Present x) f = level_fits sent_level sent_level x f
+level_zero_fits : (a : Option NwkAuxHeader) → frames.AuxOptionFits a → frames.AuxOptionFits (frames.level_zero a)
+level_zero_fits None f = tt
+level_zero_fits (Some x) f = level_fits sent_level sent_level x f
 
 blank_fits : AuxFits blank_aux
 unfolding blank_aux
 blank_fits = aux_read_fits _ _ (λ i. omega arith)
 
-counter_in : (a : OptionAuxHeader) → frames.AuxOptionFits a → le_at 4 (option_record a) 5 ≡ counter_of a
+counter_in : (a : Option NwkAuxHeader) → frames.AuxOptionFits a → le_at 4 (option_record a) 5 ≡ counter_of a
 unfolding option_record aux_of
-counter_in OptionAuxHeader.Absent f = ap (λ (x : NwkAuxHeader). x.frame_counter) (aux_back false blank_aux blank_fits)
-counter_in (OptionAuxHeader.Present x) f = ap (λ (y : NwkAuxHeader). y.frame_counter) (aux_back true x f)
+counter_in None f = ap (λ (x : NwkAuxHeader). x.frame_counter) (aux_back false blank_aux blank_fits)
+counter_in (Some x) f = ap (λ (y : NwkAuxHeader). y.frame_counter) (aux_back true x f)
 
 -- ---- the two records in an opened record
 
@@ -259,14 +260,14 @@ sealed_over l key r x p o e short =
 -- ---- the first half
 
 -- nwk_open of a frame that was sealed from the headers h and a and the payload p
-sealed_then_opened : (l : Level) (key : List ℕ) (h : NwkHeader) (a : OptionAuxHeader) (p : List ℕ) (is_last : Bool) (room : ℕ) (out : List ℕ)
+sealed_then_opened : (l : Level) (key : List ℕ) (h : NwkHeader) (a : Option NwkAuxHeader) (p : List ℕ) (is_last : Bool) (room : ℕ) (out : List ℕ)
     → frames.InRange h a → Sealable is_last l h a (length p) room → length p ≤ length out
     → let r = open_frame l key (sealed_bytes l key h (or_blank a) p) out in
     (r.answer.refusal ≡ 0) × ((r.answer.mark ≡ Mark.Sealed) × ((r.answer.length ≡ length p)
     × ((r.answer.header ≡ cleared h) × ((r.answer.aux ≡ frames.level_zero a) × (r.out ≡ over out 0 p)))))
 unfolding open_with
-sealed_then_opened l key h OptionAuxHeader.Absent p is_last room out fits s within = absurd (true≢false s.headers.present)
-sealed_then_opened l key h (OptionAuxHeader.Present x) p is_last room out fits s within =
+sealed_then_opened l key h None p is_last room out fits s within = absurd (true≢false s.headers.present)
+sealed_then_opened l key h (Some x) p is_last room out fits s within =
     let run = first-half-proofs.reopened l key h x p s.level fits.header fits.auxiliary s.headers s.whole out within in (
       ap (λ (r : opening.Run). r.answer.refusal) run,
       (
@@ -321,7 +322,7 @@ sealed_mark Mark.Clear h e = absurd (omega arith)
 sealed_mark Mark.Sealed h e = refl
 
 -- nwk_seal of the records of headers that sealing takes
-seals_again : (l : Level) (key f : List ℕ) (h : NwkHeader) (a : OptionAuxHeader) (p out : List ℕ) → HeaderFits h → length h.relays ≡ 54 → frames.AuxOptionFits a
+seals_again : (l : Level) (key f : List ℕ) (h : NwkHeader) (a : Option NwkAuxHeader) (p out : List ℕ) → HeaderFits h → length h.relays ≡ 54 → frames.AuxOptionFits a
     → frames.Resealed f (seal_frame l key h a p out)
     → Resealed f (seal_answer l key (header_record h) (option_record a) p out) (seal_output l key (header_record h) (option_record a) p out)
 unfolding sealed_records seal_frame option_record

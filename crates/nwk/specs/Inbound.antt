@@ -1,9 +1,9 @@
 -- What the C functions over a list of senders answer (document 02, 5).
 -- Assumes nothing.
-use Rattle.std.specs.Prelude.{ℕ, ◌+◌, ◌^◌, List}
+use Rattle.std.specs.Prelude.{ℕ, ◌+◌, ◌^◌, List, Option, Some, None}
 use Rattle.octets.specs.Refusals.{unless}
 use Rattle.types.specs.Keys.{key, key_bytes}
-use Rattle.senders.specs.declared.{SenderRecord.SenderRecord, OptionCounter.OptionCounter, Asked.Asked, Noted.Noted}
+use Rattle.senders.specs.declared.{SenderRecord.SenderRecord, Asked.Asked, Noted.Noted}
 use Rattle.senders.specs.Senders.{inbound_network_key}
 use Rattle.nwk.specs.Answer.{answer, answer_by}
 
@@ -23,9 +23,9 @@ key_left a o = unless a.refusal a.key.0 o
 -- ---- noting
 
 -- the earlier counter in the length's place, with bit 41 set; where there is none, the refusal alone
-abbrev pub earlier_answer : ℕ → OptionCounter → ℕ
-earlier_answer refusal OptionCounter.Absent = answer refusal 0
-earlier_answer refusal (OptionCounter.Present c) = c + 2 ^ 41
+abbrev pub earlier_answer : ℕ → Option ℕ → ℕ
+earlier_answer refusal None = answer refusal 0
+earlier_answer refusal (Some c) = c + 2 ^ 41
 
 abbrev pub noted_answer : Noted → ℕ
 noted_answer n = earlier_answer n.refusal n.earlier

@@ -1,17 +1,17 @@
 -- What the C functions over a journal answer (document 02, 6 and 7).
 -- Assumes nothing.
-use Rattle.std.specs.Prelude.{ℕ, ◌+◌, ◌*◌, ◌^◌}
+use Rattle.std.specs.Prelude.{ℕ, ◌+◌, ◌*◌, ◌^◌, Option, Some, None}
 use Rattle.octets.specs.declared.Written.{Written}
 use Rattle.octets.specs.Refusals.{unless}
-use Rattle.journal.specs.declared.{OptionKeyNumber.OptionKeyNumber, Recovered.Recovered, NextCounter.NextCounter}
+use Rattle.journal.specs.declared.{Recovered.Recovered, NextCounter.NextCounter}
 use Rattle.nwk.specs.Answer.{answer}
 
 -- ---- recovery
 
 -- bit 41 says that there is a key number, which stands in bits 48 to 55
-abbrev pub key_number_bits : OptionKeyNumber → ℕ
-key_number_bits OptionKeyNumber.Absent = 0
-key_number_bits (OptionKeyNumber.Present k) = 2 ^ 41 + k * 2 ^ 48
+abbrev pub key_number_bits : Option ℕ → ℕ
+key_number_bits None = 0
+key_number_bits (Some k) = 2 ^ 41 + k * 2 ^ 48
 
 -- the ceiling in the length's place with the key number's bits, or the refusal alone
 unfoldable pub recovered_answer : Recovered → ℕ

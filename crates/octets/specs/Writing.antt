@@ -1,9 +1,19 @@
 -- What an operation leaves that writes bytes to the front of a lent output.
 -- Assumes nothing.
-use Rattle.std.specs.Prelude.{ℕ, List, length, take}
-use Rattle.octets.specs.declared.Written.{Written}
+use Rattle.std.specs.Prelude.{ℕ, List, length, take, Result, Ok, Err}
+use Rattle.octets.specs.declared.refusals.Refusal.{Refusal}
 use Rattle.octets.specs.Strings.{over}
-use Rattle.octets.specs.Refusals.{unless}
+use Rattle.octets.specs.Refusals.{unless, number_of}
+
+-- what a writer answers: a refusal's number with length 0, or 0 and how many bytes it wrote
+pub record Written : Type 0 where
+  pub refusal : ℕ
+  pub length : ℕ
+
+-- the same, of the code's answer
+abbrev pub told : Result ℕ Refusal → Written
+told (Ok n) = record { refusal = 0; length = n }
+told (Err r) = record { refusal = number_of r; length = 0 }
 
 -- its answer, and the whole of the output
 pub record Run : Type 0 where

@@ -1,6 +1,7 @@
 -- The answer that its opened record says is the answer itself: the header record and the auxiliary record stand at their
 -- places and are read back by their own laws.
 -- Assumes nothing.
+use Rattle.std.specs.Prelude.{Option, Some, None}
 use mathlib.Core.Path.{◌≡◌, refl, ap, ◌∙◌}
 use mathlib.Core.Bool.{Bool, true, false}
 use mathlib.Core.List.{List, [], ◌∷◌, ◌++◌, append_assoc}
@@ -12,7 +13,6 @@ use Rattle.octets.specs.Strings.{Below}
 use Rattle.octets.specs.Numbers.{le, le_at}
 use Rattle.octets.proofs.Strings.{length_tab, drop_below}
 use Rattle.octets.proofs.Numbers.{le_at_le}
-use Rattle.types.specs.declared.OptionEui64.{OptionEui64}
 use Rattle.types.specs.declared.level.Level.{Level}
 use Rattle.header.specs.Control.{control_of}
 use Rattle.header.specs.Reading.{relays_of, header_by, blank_header, read_header}
@@ -20,7 +20,7 @@ use Rattle.header.specs.Auxiliary.{blank_aux}
 use Rattle.header.specs.Same.{IeeeFits, HeaderFits}
 use Rattle.header.proofs.ReadFits.{read_fits}
 use Rattle.header.proofs.ReadFacts.{header_facts, aux_facts}
-use Rattle.frame.specs.declared.{OptionAuxHeader.OptionAuxHeader, Mark.Mark, FrameOpened.FrameOpened}
+use Rattle.frame.specs.declared.{Mark.Mark, FrameOpened.FrameOpened}
 use Rattle.frame.specs.Reading.{aux_if, aux_behind, read_frame}
 use Rattle.frame.specs.Security.{nonce_ieee}
 use Rattle.frame.specs.Opening.{is_sealed, behind, verified, open_refused, Run, sealed_given, clear_given, open_with}
@@ -36,10 +36,10 @@ use Rattle.records.specs.OpenedRecord.{option_record, option_of, mark_code, mark
 use Rattle.records.proofs.Sizes.{length_header, length_front}
 use Rattle.records.proofs.RoundTrip.{ieee_written, header_back, aux_back, present_back}
 
-pub option_back : (o : OptionAuxHeader) → AuxOptionFits o → option_of (option_record o) ≡ o
+pub option_back : (o : Option NwkAuxHeader) → AuxOptionFits o → option_of (option_record o) ≡ o
 unfolding option_of option_record
-option_back OptionAuxHeader.Absent f = ap (λ (b : Bool). aux_if b (aux_of (aux_record false blank_aux))) (present_back false blank_aux)
-option_back (OptionAuxHeader.Present a) f = λ i. aux_if (present_back true a i) (aux_back true a f i)
+option_back None f = ap (λ (b : Bool). aux_if b (aux_of (aux_record false blank_aux))) (present_back false blank_aux)
+option_back (Some a) f = λ i. aux_if (present_back true a i) (aux_back true a f i)
 
 -- the mark that its number says
 pub mark_back : (m : Mark) → mark_of (mark_code m) ≡ m
@@ -83,9 +83,9 @@ opened_back o f =
 -- ---- what opening answers
 
 -- of two long addresses in range the one that the nonce uses is in range
-nonce_fits : (a s : OptionEui64) → IeeeFits a → IeeeFits s → IeeeFits (nonce_ieee a s)
-nonce_fits OptionEui64.Absent s f g = g
-nonce_fits (OptionEui64.Present x) s f g = f
+nonce_fits : (a s : Option ℕ) → IeeeFits a → IeeeFits s → IeeeFits (nonce_ieee a s)
+nonce_fits None s f g = g
+nonce_fits (Some x) s f g = f
 
 -- it has all that, for every frame of bytes: where the frame is sealed, and where it is clear
 sealed_fits : (l : Level) (ciph : List ℕ → List ℕ) (f o : List ℕ) → Below 256 f → Openable l ciph f (read_frame f) (length o)

@@ -1,6 +1,7 @@
 -- The records of which RecordBack speaks are those that are filled in: every record of a header that is not bad, and
 -- every record of an auxiliary header, is bytes, is not bad, and has 0 in its absent fields.
 -- Assumes nothing.
+use Rattle.std.specs.Prelude.{Option, Some, None}
 use mathlib.Core.Path.{◌≡◌, refl, sym, ap, ◌∙◌}
 use mathlib.Core.Bool.{Bool, false}
 use mathlib.Core.List.{List, [], ◌∷◌, ◌++◌}
@@ -13,8 +14,8 @@ use lib.Seq.{get_or-append-add}
 use Rattle.octets.specs.Strings.{Below}
 use Rattle.octets.specs.Numbers.{le}
 use Rattle.octets.proofs.Numbers.{le_below}
-use Rattle.types.specs.declared.{Nwk.Nwk, OptionEui64.OptionEui64}
-use Rattle.header.specs.declared.{optional.OptionMulticast.OptionMulticast, optional.NwkSourceRoute.NwkSourceRoute, control.NwkFrameControl.NwkFrameControl, nwk.NwkHeader.NwkHeader, auxiliary.NwkAuxHeader.NwkAuxHeader}
+use Rattle.types.specs.declared.Nwk.{Nwk}
+use Rattle.header.specs.declared.{optional.NwkSourceRoute.NwkSourceRoute, control.NwkFrameControl.NwkFrameControl, nwk.NwkHeader.NwkHeader, auxiliary.NwkAuxHeader.NwkAuxHeader}
 use Rattle.header.specs.Optional.{relay_bytes}
 use Rattle.header.specs.Control.{control_values}
 use Rattle.header.specs.Writing.{bad_header}
@@ -114,15 +115,15 @@ zeros_blank zero rest h k l = absurd (omega arith)
 zeros_blank (suc n) rest h zero l = refl
 zeros_blank (suc n) rest h (suc k) l = rw one-add (rw one-add at (zeros_blank n rest refl k (omega arith)))
 
-ieee_blank : (o : OptionEui64) (rest : List ℕ) → Blank (ieee_record o ++ rest) 0 8
+ieee_blank : (o : Option ℕ) (rest : List ℕ) → Blank (ieee_record o ++ rest) 0 8
 unfolding ieee_record le
-ieee_blank OptionEui64.Absent rest = zeros_blank 8 rest
-ieee_blank (OptionEui64.Present x) rest = λ h. absurd (omega arith)
+ieee_blank None rest = zeros_blank 8 rest
+ieee_blank (Some x) rest = λ h. absurd (omega arith)
 
-multicast_blank : (o : OptionMulticast) (rest : List ℕ) → Blank (multicast_record o ++ rest) 0 1
+multicast_blank : (o : Option ℕ) (rest : List ℕ) → Blank (multicast_record o ++ rest) 0 1
 unfolding multicast_record le
-multicast_blank OptionMulticast.Absent rest = zeros_blank 1 rest
-multicast_blank (OptionMulticast.Present x) rest = λ h. absurd (omega arith)
+multicast_blank None rest = zeros_blank 1 rest
+multicast_blank (Some x) rest = λ h. absurd (omega arith)
 
 route_blank : (o : NwkSourceRoute) (rest : List ℕ) → Blank (route_record o ++ rest) 0 2
 unfolding route_record le

@@ -1,6 +1,7 @@
 -- The header, and the auxiliary header, that its record says is the header itself: every field stands at its own place,
 -- so each is read back by the law of its kind.
 -- Assumes nothing.
+use Rattle.std.specs.Prelude.{Option, Some, None}
 use mathlib.Core.Path.{◌≡◌, refl, sym, ap, ◌∙◌}
 use mathlib.Core.Bool.{Bool}
 use mathlib.Core.List.{List, [], ◌++◌, append-nil}
@@ -12,9 +13,9 @@ use lib.Seq.{take_all}
 use Rattle.octets.specs.Numbers.{le, le_at}
 use Rattle.octets.proofs.Strings.{tab_ext, tab_get_or}
 use Rattle.octets.proofs.Numbers.{le_at_le, le_at_behind}
-use Rattle.types.specs.declared.{Nwk.Nwk, OptionEui64.OptionEui64}
+use Rattle.types.specs.declared.Nwk.{Nwk}
 use Rattle.types.specs.Addresses.{nwk, no_nwk}
-use Rattle.header.specs.declared.{optional.OptionMulticast.OptionMulticast, optional.NwkSourceRoute.NwkSourceRoute, control.NwkFrameControl.NwkFrameControl, nwk.NwkHeader.NwkHeader, auxiliary.NwkAuxHeader.NwkAuxHeader}
+use Rattle.header.specs.declared.{optional.NwkSourceRoute.NwkSourceRoute, control.NwkFrameControl.NwkFrameControl, nwk.NwkHeader.NwkHeader, auxiliary.NwkAuxHeader.NwkAuxHeader}
 use Rattle.header.specs.Control.{control_values, control_from}
 use Rattle.header.specs.Optional.{relay_bytes}
 use Rattle.header.specs.Same.{IeeeFits, MulticastFits, RouteFits, RelaysFit, HeaderFits, AuxFits}
@@ -26,15 +27,15 @@ use Rattle.records.specs.AuxiliaryRecord.{counter_record, aux_record, security_a
 
 -- ---- the optional fields
 
-pub ieee_written : (o : OptionEui64) (rest : List ℕ) → IeeeFits o → ieee_in (ieee_record o ++ rest) 0 ≡ o
+pub ieee_written : (o : Option ℕ) (rest : List ℕ) → IeeeFits o → ieee_in (ieee_record o ++ rest) 0 ≡ o
 unfolding ieee_in ieee_record le le_at
-ieee_written OptionEui64.Absent rest h = refl
-ieee_written (OptionEui64.Present x) rest h = ap OptionEui64.Present (le_at_le 8 x rest h)
+ieee_written None rest h = refl
+ieee_written (Some x) rest h = ap Some (le_at_le 8 x rest h)
 
-multicast_written : (o : OptionMulticast) (rest : List ℕ) → MulticastFits o → multicast_in (multicast_record o ++ rest) 0 ≡ o
+multicast_written : (o : Option ℕ) (rest : List ℕ) → MulticastFits o → multicast_in (multicast_record o ++ rest) 0 ≡ o
 unfolding multicast_in multicast_record le
-multicast_written OptionMulticast.Absent rest h = refl
-multicast_written (OptionMulticast.Present x) rest h = ap OptionMulticast.Present (mod-eq_of_lt h)
+multicast_written None rest h = refl
+multicast_written (Some x) rest h = ap Some (mod-eq_of_lt h)
 
 route_written : (o : NwkSourceRoute) (rest : List ℕ) → RouteFits o → route_in (route_record o ++ rest) 0 ≡ o
 unfolding route_in route_record le

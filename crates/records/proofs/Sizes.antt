@@ -1,25 +1,25 @@
 -- How long the parts of the records are.
 -- Assumes nothing.
+use Rattle.std.specs.Prelude.{Option}
 use mathlib.Core.Path.{◌≡◌}
 use mathlib.Core.Bool.{Bool, not}
 use Prim.Native.Nat.{ℕ}
 use lib.ListN.{length, length-append}
 use Rattle.octets.proofs.Numbers.{length_le}
-use Rattle.types.specs.declared.OptionEui64.{OptionEui64}
-use Rattle.header.specs.declared.{optional.OptionMulticast.OptionMulticast, optional.NwkSourceRoute.NwkSourceRoute, nwk.NwkHeader.NwkHeader, auxiliary.NwkAuxHeader.NwkAuxHeader}
+use Rattle.header.specs.declared.{optional.NwkSourceRoute.NwkSourceRoute, nwk.NwkHeader.NwkHeader, auxiliary.NwkAuxHeader.NwkAuxHeader}
 use Rattle.header.proofs.OptionalFields.{relay_length}
 use Rattle.records.specs.Optional.{ieee_record, multicast_record, route_record}
 use Rattle.records.specs.HeaderRecord.{address_record, optional_record, header_record}
 use Rattle.records.specs.AuxiliaryRecord.{counter_record, aux_record}
 use Rattle.records.specs.OpenedRecord.{option_record, opened_front, opened_record}
-use Rattle.frame.specs.declared.{OptionAuxHeader.OptionAuxHeader, FrameOpened.FrameOpened}
+use Rattle.frame.specs.declared.FrameOpened.{FrameOpened}
 use Rattle.frame.specs.Security.{is_absent, or_blank}
 
-pub length_ieee : (o : OptionEui64) → length (ieee_record o) ≡ 9
+pub length_ieee : (o : Option ℕ) → length (ieee_record o) ≡ 9
 unfolding ieee_record
 length_ieee o = simp (length-append, length_le)
 
-pub length_multicast : (o : OptionMulticast) → length (multicast_record o) ≡ 2
+pub length_multicast : (o : Option ℕ) → length (multicast_record o) ≡ 2
 unfolding multicast_record
 length_multicast o = simp (length-append, length_le)
 
@@ -47,11 +47,11 @@ pub length_aux : (p : Bool) (a : NwkAuxHeader) → length (aux_record p a) ≡ 1
 unfolding aux_record
 length_aux p a = simp length_counter
 
-pub length_option : (o : OptionAuxHeader) → length (option_record o) ≡ 19
+pub length_option : (o : Option NwkAuxHeader) → length (option_record o) ≡ 19
 unfolding option_record
 length_option o = length_aux (not (is_absent o)) (or_blank o)
 
-pub length_front : (refusal mark n : ℕ) (ieee : OptionEui64) → length (opened_front refusal mark n ieee) ≡ 16
+pub length_front : (refusal mark n : ℕ) (ieee : Option ℕ) → length (opened_front refusal mark n ieee) ≡ 16
 unfolding opened_front
 length_front refusal mark n ieee = simp (length-append, length_le, length_ieee)
 

@@ -2,10 +2,9 @@
 -- address, 14 two bytes, 16 the header record, 163 the auxiliary record. The count and the two bytes are 0, kept for what later
 -- requests add. Here too is the record of an auxiliary header or none.
 -- Assumes nothing.
-use Rattle.std.specs.Prelude.{ℕ, cond, not, List, [], ◌∷◌, ◌++◌, get_or, take, drop, eqb}
+use Rattle.std.specs.Prelude.{ℕ, cond, not, List, [], ◌∷◌, ◌++◌, get_or, take, drop, eqb, Option}
 use Rattle.octets.specs.Numbers.{le, le_at}
-use Rattle.types.specs.declared.OptionEui64.{OptionEui64}
-use Rattle.frame.specs.declared.{OptionAuxHeader.OptionAuxHeader, Mark.Mark, FrameOpened.FrameOpened}
+use Rattle.frame.specs.declared.{Mark.Mark, FrameOpened.FrameOpened}
 use Rattle.frame.specs.Reading.{aux_if}
 use Rattle.frame.specs.Security as security
 use Rattle.records.specs.Optional.{ieee_record, ieee_in}
@@ -13,10 +12,10 @@ use Rattle.records.specs.HeaderRecord.{header_record, header_of}
 use Rattle.records.specs.AuxiliaryRecord.{aux_record, aux_of, aux_present}
 
 -- the record of an auxiliary header or none, and the one that a record encodes
-unfoldable pub option_record : OptionAuxHeader → List ℕ
+unfoldable pub option_record : Option NwkAuxHeader → List ℕ
 option_record o = aux_record (not (security.is_absent o)) (security.or_blank o)
 
-unfoldable pub option_of : List ℕ → OptionAuxHeader
+unfoldable pub option_of : List ℕ → Option NwkAuxHeader
 option_of r = aux_if (aux_present r) (aux_of r)
 
 abbrev pub opened_record_size : ℕ
@@ -32,7 +31,7 @@ unfoldable pub mark_of : ℕ → Mark
 mark_of n = cond (eqb n 1) Mark.Clear (cond (eqb n 2) Mark.Sealed Mark.Unmarked)
 
 -- 0 to 15
-unfoldable pub opened_front : ℕ → ℕ → ℕ → OptionEui64 → List ℕ
+unfoldable pub opened_front : ℕ → ℕ → ℕ → Option ℕ → List ℕ
 opened_front refusal mark length ieee = refusal ∷ mark ∷ (le 2 length ++ (0 ∷ (ieee_record ieee ++ (0 ∷ 0 ∷ []))))
 
 unfoldable pub opened_record : FrameOpened → List ℕ

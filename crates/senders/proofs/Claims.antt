@@ -1,6 +1,7 @@
 -- The claims of specs/Claims.antt: a value of each. What is asked depends on a list by the counter that it stores only, and
 -- noting has three cases.
 -- Assumes nothing.
+use Rattle.std.specs.Prelude.{Option, Some, None}
 use mathlib.Core.Path.{◌≡◌, refl, sym, ap, subst, ◌∙◌}
 use mathlib.Core.Bool.{Bool, true, false, true≢false}
 use mathlib.Core.List.{List, [], ◌∷◌, ◌++◌}
@@ -15,7 +16,7 @@ use borrow.Table.Steps.{cases}
 use Rattle.octets.specs.Refusals.{unless, first_of}
 use Rattle.types.specs.Counters.{last_counter}
 use Rattle.types.specs.declared.Key.{Key}
-use Rattle.senders.specs.declared.{SenderRecord.SenderRecord, OptionCounter.OptionCounter}
+use Rattle.senders.specs.declared.SenderRecord.{SenderRecord}
 use Rattle.senders.specs.Records.{is_free, names, record_of}
 use Rattle.senders.specs.Senders.{some_of, first_place, stored, knows, has_free, ask_refused, ask_refusal, asked_by, inbound_network_key, Run, note, forget}
 use Rattle.senders.specs.Claims as claims
@@ -28,28 +29,28 @@ use Rattle.senders.proofs.Noting.{answer, refusal, list, placing, note_known, no
 -- ---- asking, by the counter stored
 
 module _ (key : Key) (active : ℕ) where
-  ask_by : (s k x : ℕ) (l : List SenderRecord) {o : OptionCounter} → stored s l ≡ o → inbound_network_key key active l s k x ≡ asked_by key active o k x
+  ask_by : (s k x : ℕ) (l : List SenderRecord) {o : Option ℕ} → stored s l ≡ o → inbound_network_key key active l s k x ≡ asked_by key active o k x
   unfolding inbound_network_key
-  ask_by s k x l e = ap (λ (o : OptionCounter). asked_by key active o k x) e
+  ask_by s k x l e = ap (λ (o : Option ℕ). asked_by key active o k x) e
 
-  ask_below : (c x : ℕ) → x ≤ c → asked_by key active (OptionCounter.Present c) active x ≡ ask_refused 23
+  ask_below : (c x : ℕ) → x ≤ c → asked_by key active (Some c) active x ≡ ask_refused 23
   unfolding asked_by ask_refusal first_of unless
   ask_below c x h =
       rw (eq-eqb active active refl, le-leb x c h) (cases (eqb x last_counter) (λ e. rw e refl) (λ e. rw e refl))
 
-  ask_above : (c x : ℕ) → c < x → x < last_counter → asked_by key active (OptionCounter.Present c) active x ≡ record { refusal = 0; key = key }
+  ask_above : (c x : ℕ) → c < x → x < last_counter → asked_by key active (Some c) active x ≡ record { refusal = 0; key = key }
   unfolding asked_by ask_refusal first_of unless
   ask_above c x h b = rw (eq-eqb active active refl, lt-leb x c h, ne_eqb x last_counter (omega arith)) refl
 
-  ask_absent : (x : ℕ) → x < last_counter → asked_by key active OptionCounter.Absent active x ≡ record { refusal = 0; key = key }
+  ask_absent : (x : ℕ) → x < last_counter → asked_by key active None active x ≡ record { refusal = 0; key = key }
   unfolding asked_by ask_refusal first_of unless
   ask_absent x b = rw (eq-eqb active active refl, ne_eqb x last_counter (omega arith)) refl
 
-  ask_last : (o : OptionCounter) → asked_by key active o active last_counter ≡ ask_refused 23
+  ask_last : (o : Option ℕ) → asked_by key active o active last_counter ≡ ask_refused 23
   unfolding asked_by ask_refusal first_of unless
   ask_last o = rw (eq-eqb active active refl) refl
 
-  ask_wrong : (o : OptionCounter) (k x : ℕ) → (k ≡ active → ⊥) → asked_by key active o k x ≡ ask_refused 22
+  ask_wrong : (o : Option ℕ) (k x : ℕ) → (k ≡ active → ⊥) → asked_by key active o k x ≡ ask_refused 22
   unfolding asked_by ask_refusal first_of unless
   ask_wrong o k x h = rw (ne_eqb k active h) refl
 
@@ -58,12 +59,12 @@ refused_by_number key active s k c l = (
   λ h. ask_by key active s k c l refl ∙ ask_wrong key active (stored s l) k c h,
   (
     λ e f. ask_by key active s k c l refl ∙ asked-with (stored s l) e ∙ ap (asked_by key active (stored s l) active) f ∙ ask_last key active (stored s l),
-    λ x e f h. ask_by key active s k c l f ∙ asked-with (OptionCounter.Present x) e ∙ ask_below key active x c h,
+    λ x e f h. ask_by key active s k c l f ∙ asked-with (Some x) e ∙ ask_below key active x c h,
   ),
 )
   where
     -- the key sequence number is the active one
-    asked-with : (o : OptionCounter) → k ≡ active → asked_by key active o k c ≡ asked_by key active o active c
+    asked-with : (o : Option ℕ) → k ≡ active → asked_by key active o k c ≡ asked_by key active o active c
     asked-with o e = ap (λ (m : ℕ). asked_by key active o m c) e
 
 pub else_the_active_key : claims.ElseTheActiveKey
@@ -147,7 +148,7 @@ forgetting_changes_only_the_sender s l = (
 
 -- ---- 2
 
-stored_noted : (s c : ℕ) (l : List SenderRecord) → (note s c l).answer.refusal ≡ 0 → stored s (note s c l).list ≡ OptionCounter.Present c
+stored_noted : (s c : ℕ) (l : List SenderRecord) → (note s c l).answer.refusal ≡ 0 → stored s (note s c l).list ≡ Some c
 stored_noted s c l ok =
     note_cases s l
     (λ k. ap (stored s) (ap list (note_known s c l k)) ∙ stored_own s (record_of s c) (names_its_sender s c) 64 l k)
@@ -171,8 +172,8 @@ pub after_forgetting : claims.AfterForgetting
 unfolding forget
 after_forgetting key active s x l =
     let then = forget s l in
-    let e : stored s then ≡ OptionCounter.Absent = stored_forgotten s 64 l in
-    let earlier : Run → OptionCounter = λ r. r.answer.earlier in (
+    let e : stored s then ≡ None = stored_forgotten s 64 l in
+    let earlier : Run → Option ℕ = λ r. r.answer.earlier in (
       λ b. ask_by key active s active x then e ∙ ask_absent key active x b,
       note_cases s then
           (λ k. ap earlier (note_known s x then k) ∙ e)

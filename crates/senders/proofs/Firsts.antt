@@ -1,5 +1,6 @@
 -- The first of a list's counted records that meets a test: its place, and the list with another record there.
 -- Assumes nothing.
+use Rattle.std.specs.Prelude.{Some}
 use mathlib.Core.Path.{◌≡◌, refl, ap}
 use mathlib.Core.Bool.{Bool, true, false, cond, false≢true, ◌||◌}
 use mathlib.Core.List.{List, [], ◌∷◌, ◌++◌}
@@ -8,7 +9,7 @@ use native.Mathlib.Omega.{arith}
 use lib.ListN.{length, get_or, set}
 use borrow.Table.Steps.{cases}
 use Rattle.octets.proofs.Conditions.{or_false}
-use Rattle.senders.specs.declared.{SenderRecord.SenderRecord, OptionCounter.OptionCounter}
+use Rattle.senders.specs.declared.SenderRecord.{SenderRecord}
 use Rattle.senders.specs.Records.{names}
 use Rattle.senders.specs.Senders.{some_of, first_place, first_replaced, stored_in}
 
@@ -50,12 +51,12 @@ module _ (p : SenderRecord → Bool) where
   stored_other t x a b (suc n) (r ∷ l) =
       cases (p r)
       (λ e. rw e (rw (a, b r e) refl))
-      (λ e. rw e (ap (cond (names t r) (OptionCounter.Present r.counter)) (stored_other t x a b n l)))
+      (λ e. rw e (ap (cond (names t r) (Some r.counter)) (stored_other t x a b n l)))
 
   -- the sender's own, where no record named it before
   pub stored_new : (s : ℕ) (x : SenderRecord) → names s x ≡ true
       → (n : ℕ) (l : List SenderRecord) → some_of (names s) n l ≡ false → some_of p n l ≡ true
-      → stored_in s n (first_replaced p x n l) ≡ OptionCounter.Present x.counter
+      → stored_in s n (first_replaced p x n l) ≡ Some x.counter
   unfolding first_replaced stored_in some_of
   stored_new s x a zero l k h = absurd (false≢true h)
   stored_new s x a (suc n) [] k h = absurd (false≢true h)
@@ -66,7 +67,7 @@ module _ (p : SenderRecord → Bool) where
 
 -- it has the counter that the list stores for s
 pub stored_first : (s n : ℕ) (l : List SenderRecord) (d : SenderRecord) → some_of (names s) n l ≡ true
-    → stored_in s n l ≡ OptionCounter.Present (get_or l (first_place (names s) n l) d).counter
+    → stored_in s n l ≡ Some (get_or l (first_place (names s) n l) d).counter
 unfolding some_of first_place stored_in
 stored_first s zero l d h = absurd (false≢true h)
 stored_first s (suc n) [] d h = absurd (false≢true h)
@@ -75,7 +76,7 @@ stored_first s (suc n) (r ∷ l) d h = cases (names s r) (λ e. rw e refl) (λ e
 -- the sender's own, over its first record
 pub stored_own : (s : ℕ) (x : SenderRecord) → names s x ≡ true
     → (n : ℕ) (l : List SenderRecord) → some_of (names s) n l ≡ true
-    → stored_in s n (first_replaced (names s) x n l) ≡ OptionCounter.Present x.counter
+    → stored_in s n (first_replaced (names s) x n l) ≡ Some x.counter
 unfolding first_replaced stored_in some_of
 stored_own s x a zero l h = absurd (false≢true h)
 stored_own s x a (suc n) [] h = absurd (false≢true h)
@@ -100,7 +101,7 @@ module _ (p : SenderRecord → Bool) (r : SenderRecord) (meets : p r ≡ true) (
       rw o.0 (ap (λ (t : List SenderRecord). x ∷ t) (replaced_there y n before (omega (arith, h)) o.1))
 
 pub stored_there : (s : ℕ) (r : SenderRecord) → names s r ≡ true → (behind : List SenderRecord) (n : ℕ) (before : List SenderRecord) → length before < n
-    → some_of (names s) n before ≡ false → stored_in s n (before ++ (r ∷ behind)) ≡ OptionCounter.Present r.counter
+    → some_of (names s) n before ≡ false → stored_in s n (before ++ (r ∷ behind)) ≡ Some r.counter
 unfolding some_of stored_in
 stored_there s r e behind zero before h k = absurd (omega (arith, h))
 stored_there s r e behind (suc n) [] h k = rw e refl

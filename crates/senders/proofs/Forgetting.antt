@@ -1,5 +1,6 @@
 -- Laws of forgetting a sender, each by induction on the places that count.
 -- Assumes nothing.
+use Rattle.std.specs.Prelude.{Some, None}
 use mathlib.Core.Path.{◌≡◌, refl, ap, ◌∙◌}
 use mathlib.Core.Bool.{Bool, true, false, cond, ◌||◌, false≢true}
 use mathlib.Core.List.{List, [], ◌∷◌}
@@ -8,7 +9,7 @@ use native.Mathlib.Omega.{arith}
 use lib.ListN.{length, get_or}
 use borrow.Table.Steps.{cases}
 use Rattle.octets.proofs.Conditions.{or_false}
-use Rattle.senders.specs.declared.{SenderRecord.SenderRecord, OptionCounter.OptionCounter}
+use Rattle.senders.specs.declared.SenderRecord.{SenderRecord}
 use Rattle.senders.specs.Records.{is_free, names, free_record, kept}
 use Rattle.senders.specs.Senders.{some_of, stored_in, forgotten_in}
 use Rattle.senders.proofs.Naming.{names_one}
@@ -52,7 +53,7 @@ module _ (s : ℕ) where
   zeros_forgotten (suc n) (r ∷ l) zero d h b e = rw e refl
   zeros_forgotten (suc n) (r ∷ l) (suc i) d h b e = zeros_forgotten n l i d (omega (arith, h)) (omega (arith, b)) e
 
-  pub stored_forgotten : (n : ℕ) (l : List SenderRecord) → stored_in s n (forgotten_in s n l) ≡ OptionCounter.Absent
+  pub stored_forgotten : (n : ℕ) (l : List SenderRecord) → stored_in s n (forgotten_in s n l) ≡ None
   unfolding forgotten_in stored_in
   stored_forgotten zero l = refl
   stored_forgotten (suc n) [] = refl
@@ -65,7 +66,7 @@ module _ (s : ℕ) where
   other_forgotten t h (suc n) (r ∷ l) =
       cases (names s r)
       (λ e. rw (kept_own r e, names_one s t r h e) (other_forgotten t h n l))
-      (λ e. rw (kept_other r e) (ap (cond (names t r) (OptionCounter.Present r.counter)) (other_forgotten t h n l)))
+      (λ e. rw (kept_other r e) (ap (cond (names t r) (Some r.counter)) (other_forgotten t h n l)))
 
   pub forgotten_twice : (n : ℕ) (l : List SenderRecord) → forgotten_in s n (forgotten_in s n l) ≡ forgotten_in s n l
   unfolding forgotten_in

@@ -1,5 +1,6 @@
 -- The places that count: whether one of them meets a test, by index, and that those past them do not matter.
 -- Assumes nothing.
+use Rattle.std.specs.Prelude.{Some}
 use mathlib.Core.Path.{◌≡◌, refl, ap}
 use mathlib.Core.Bool.{Bool, false, cond, ◌||◌}
 use mathlib.Core.List.{List, [], ◌∷◌, ◌++◌}
@@ -8,7 +9,7 @@ use native.Mathlib.Omega.{arith}
 use lib.ListN.{length, get_or}
 use borrow.Table.Steps.{cases}
 use Rattle.octets.proofs.Conditions.{or_false}
-use Rattle.senders.specs.declared.{SenderRecord.SenderRecord, OptionCounter.OptionCounter}
+use Rattle.senders.specs.declared.SenderRecord.{SenderRecord}
 use Rattle.senders.specs.Records.{names, kept}
 use Rattle.senders.specs.Senders.{some_of, first_replaced, stored_in, forgotten_in}
 
@@ -54,7 +55,7 @@ module _ (s : ℕ) (past : List SenderRecord) where
   unfolding stored_in
   stored_past zero l h = refl
   stored_past (suc n) [] h = absurd (omega arith)
-  stored_past (suc n) (r ∷ l) h = ap (cond (names s r) (OptionCounter.Present r.counter)) (stored_past n l (omega arith))
+  stored_past (suc n) (r ∷ l) h = ap (cond (names s r) (Some r.counter)) (stored_past n l (omega arith))
 
   pub forgotten_past : (n : ℕ) (l : List SenderRecord) → n ≤ length l → forgotten_in s n (l ++ past) ≡ forgotten_in s n l ++ past
   unfolding forgotten_in

@@ -1,10 +1,10 @@
 -- What document 02, 5 promises of the inbound counters, each one claim over all lists, senders and counters, proved in
 -- `proofs/Claims.antt`.
 -- Assumes nothing.
-use Rattle.std.specs.Prelude.{ℕ, ◌≤◌, ◌<◌, ◌≡◌, true, false, cond, List, [], ◌∷◌, ◌++◌, length, get_or, set}
+use Rattle.std.specs.Prelude.{ℕ, ◌≤◌, ◌<◌, ◌≡◌, true, false, cond, List, [], ◌∷◌, ◌++◌, length, get_or, set, Some, None}
 use Rattle.types.specs.Counters.{last_counter}
 use Rattle.types.specs.declared.Key.{Key}
-use Rattle.senders.specs.declared.{SenderRecord.SenderRecord, OptionCounter.OptionCounter}
+use Rattle.senders.specs.declared.SenderRecord.{SenderRecord}
 use Rattle.senders.specs.Records.{is_free, names, record_of, free_record}
 use Rattle.senders.specs.Senders.{counted_places, stored, knows, has_free, inbound_network_key, ask_refused, note, note_nothing, forget}
 
@@ -17,14 +17,14 @@ RefusedByNumber =
     (key : Key) (active s k c : ℕ) (l : List SenderRecord)
     → ((k ≡ active → ⊥) → inbound_network_key key active l s k c ≡ ask_refused 22)
     × ((k ≡ active → c ≡ last_counter → inbound_network_key key active l s k c ≡ ask_refused 23)
-    × ((x : ℕ) → k ≡ active → stored s l ≡ OptionCounter.Present x → c ≤ x → inbound_network_key key active l s k c ≡ ask_refused 23))
+    × ((x : ℕ) → k ≡ active → stored s l ≡ Some x → c ≤ x → inbound_network_key key active l s k c ≡ ask_refused 23))
 
 -- any other counter above the stored one gives the active key, and so does any other of an unknown sender
 abbrev pub ElseTheActiveKey : Type 0
 ElseTheActiveKey =
     (key : Key) (active s c : ℕ) (l : List SenderRecord) → c < last_counter
-    → ((x : ℕ) → stored s l ≡ OptionCounter.Present x → x < c → inbound_network_key key active l s active c ≡ record { refusal = 0; key = key })
-    × (stored s l ≡ OptionCounter.Absent → inbound_network_key key active l s active c ≡ record { refusal = 0; key = key })
+    → ((x : ℕ) → stored s l ≡ Some x → x < c → inbound_network_key key active l s active c ≡ record { refusal = 0; key = key })
+    × (stored s l ≡ None → inbound_network_key key active l s active c ≡ record { refusal = 0; key = key })
 
 -- ---- which place
 
@@ -32,7 +32,7 @@ ElseTheActiveKey =
 abbrev pub FirstRecordCounts : Type 0
 FirstRecordCounts =
     (s c : ℕ) (before behind : List SenderRecord) (r : SenderRecord) → length before < counted_places → knows s before ≡ false → names s r ≡ true
-    → (stored s (before ++ (r ∷ behind)) ≡ OptionCounter.Present r.counter)
+    → (stored s (before ++ (r ∷ behind)) ≡ Some r.counter)
     × ((note s c (before ++ (r ∷ behind))).list ≡ before ++ (record_of s c ∷ behind))
 
 -- a sender that no record names takes the first free place r, within the first 64, and has no earlier counter
@@ -41,7 +41,7 @@ FirstFreePlace =
     (s c : ℕ) (before behind : List SenderRecord) (r : SenderRecord) → length before < counted_places → has_free before ≡ false → is_free r ≡ true
     → knows s (before ++ (r ∷ behind)) ≡ false
     → note s c (before ++ (r ∷ behind))
-    ≡ record { answer = record { refusal = 0; earlier = OptionCounter.Absent }; list = before ++ (record_of s c ∷ behind) }
+    ≡ record { answer = record { refusal = 0; earlier = None }; list = before ++ (record_of s c ∷ behind) }
 
 -- ---- 1: a call changes the list only at records of the sender named
 
@@ -81,7 +81,7 @@ AfterNoting =
     (key : Key) (active s c x : ℕ) (l : List SenderRecord) → (note s c l).answer.refusal ≡ 0
     → (x ≤ c → inbound_network_key key active (note s c l).list s active x ≡ ask_refused 23)
     × ((c < x → x < last_counter → inbound_network_key key active (note s c l).list s active x ≡ record { refusal = 0; key = key })
-    × ((note s x (note s c l).list).answer ≡ record { refusal = 0; earlier = OptionCounter.Present c }))
+    × ((note s x (note s c l).list).answer ≡ record { refusal = 0; earlier = Some c }))
 
 -- ---- 3: after forgetting s
 
@@ -90,7 +90,7 @@ abbrev pub AfterForgetting : Type 0
 AfterForgetting =
     (key : Key) (active s x : ℕ) (l : List SenderRecord)
     → (x < last_counter → inbound_network_key key active (forget s l) s active x ≡ record { refusal = 0; key = key })
-    × ((note s x (forget s l)).answer.earlier ≡ OptionCounter.Absent)
+    × ((note s x (forget s l)).answer.earlier ≡ None)
 
 -- every counted place that named it is left with zeros
 abbrev pub ForgettingLeavesZeros : Type 0
@@ -102,7 +102,7 @@ ForgettingTwice = (s : ℕ) (l : List SenderRecord) → forget s (forget s l) �
 
 -- an unknown sender changes nothing
 abbrev pub ForgettingTheUnknown : Type 0
-ForgettingTheUnknown = (s : ℕ) (l : List SenderRecord) → stored s l ≡ OptionCounter.Absent → forget s l ≡ l
+ForgettingTheUnknown = (s : ℕ) (l : List SenderRecord) → stored s l ≡ None → forget s l ≡ l
 
 -- the next new sender can use the place
 abbrev pub ForgettingFrees : Type 0

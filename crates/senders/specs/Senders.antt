@@ -2,13 +2,13 @@
 -- of security.rs over a list of sender records, and forgetting a sender. The first 64 places of a list count: a
 -- recursion along a list carries how many places still count, and stops there.
 -- Assumes nothing.
-use Rattle.std.specs.Prelude.{ℕ, zero, suc, Bool, true, false, cond, not, ◌&&◌, ◌||◌, List, [], ◌∷◌, eqb, leb, ltb, get_or}
+use Rattle.std.specs.Prelude.{ℕ, zero, suc, Bool, true, false, cond, not, ◌&&◌, ◌||◌, List, [], ◌∷◌, eqb, leb, ltb, get_or, Option, Some, None}
 use Rattle.octets.specs.Strings.{tab}
 use Rattle.octets.specs.Refusals.{unless, on, first_of}
 use Rattle.types.specs.declared.Key.{Key}
 use Rattle.types.specs.Counters.{last_counter}
 use Rattle.types.specs.Keys.{key}
-use Rattle.senders.specs.declared.{SenderRecord.SenderRecord, OptionCounter.OptionCounter, Found.Found, Asked.Asked, Noted.Noted}
+use Rattle.senders.specs.declared.{SenderRecord.SenderRecord, Found.Found, Asked.Asked, Noted.Noted}
 use Rattle.senders.specs.Records.{is_free, names, record_of, free_record, kept}
 
 abbrev pub counted_places : ℕ
@@ -19,9 +19,9 @@ unfoldable pub counted : ℕ → ℕ
 counted n = cond (ltb n counted_places) n counted_places
 
 -- the counter c if it is there
-abbrev pub counter_if : Bool → ℕ → OptionCounter
-counter_if true c = OptionCounter.Present c
-counter_if false c = OptionCounter.Absent
+abbrev pub counter_if : Bool → ℕ → Option ℕ
+counter_if true c = Some c
+counter_if false c = None
 
 -- ---- along a list, of which n places still count
 
@@ -44,10 +44,10 @@ first_replaced p x (suc n) [] = []
 first_replaced p x (suc n) (r ∷ l) = cond (p r) (x ∷ l) (r ∷ first_replaced p x n l)
 
 -- the counter of the first of its records that names s
-unfoldable pub stored_in : ℕ → ℕ → List SenderRecord → OptionCounter
-stored_in s zero l = OptionCounter.Absent
-stored_in s (suc n) [] = OptionCounter.Absent
-stored_in s (suc n) (r ∷ l) = cond (names s r) (OptionCounter.Present r.counter) (stored_in s n l)
+unfoldable pub stored_in : ℕ → ℕ → List SenderRecord → Option ℕ
+stored_in s zero l = None
+stored_in s (suc n) [] = None
+stored_in s (suc n) (r ∷ l) = cond (names s r) (Some r.counter) (stored_in s n l)
 
 -- its records that name s made free
 unfoldable pub forgotten_in : ℕ → ℕ → List SenderRecord → List SenderRecord
@@ -66,7 +66,7 @@ abbrev pub has_free : List SenderRecord → Bool
 has_free l = some_of is_free counted_places l
 
 -- the counter that it stores for s; of two records that name s the first counts
-abbrev pub stored : ℕ → List SenderRecord → OptionCounter
+abbrev pub stored : ℕ → List SenderRecord → Option ℕ
 stored s l = stored_in s counted_places l
 
 -- what it says of s: the first counted place whose record names s, and that record's counter; else the first free place, or 64
@@ -79,18 +79,18 @@ found s l =
 -- ---- asking for the key
 
 -- a counter is compared with a stored one only
-abbrev pub not_above : ℕ → OptionCounter → Bool
-not_above c OptionCounter.Absent = false
-not_above c (OptionCounter.Present x) = leb c x
+abbrev pub not_above : ℕ → Option ℕ → Bool
+not_above c None = false
+not_above c (Some x) = leb c x
 
 unfoldable pub ask_refused : ℕ → Asked
 ask_refused n = record { refusal = n; key = key (tab (λ (i : ℕ). 0) 16) }
 
 -- for the active key and its number, the stored counter, and the key sequence number and counter asked with
-unfoldable pub ask_refusal : ℕ → OptionCounter → ℕ → ℕ → ℕ
+unfoldable pub ask_refusal : ℕ → Option ℕ → ℕ → ℕ → ℕ
 ask_refusal active o k c = first_of (on 22 (not (eqb k active)) ∷ on 23 (eqb c last_counter || not_above c o) ∷ [])
 
-unfoldable pub asked_by : Key → ℕ → OptionCounter → ℕ → ℕ → Asked
+unfoldable pub asked_by : Key → ℕ → Option ℕ → ℕ → ℕ → Asked
 asked_by ak active o k c = unless (ask_refusal active o k c) (record { refusal = 0; key = ak }) (ask_refused (ask_refusal active o k c))
 
 unfoldable pub inbound_network_key : Key → ℕ → List SenderRecord → ℕ → ℕ → ℕ → Asked
@@ -117,7 +117,7 @@ note_given s c l =
 
 -- refused by a number, nothing changed
 abbrev pub note_nothing : ℕ → List SenderRecord → Run
-note_nothing n l = record { answer = record { refusal = n; earlier = OptionCounter.Absent }; list = l }
+note_nothing n l = record { answer = record { refusal = n; earlier = None }; list = l }
 
 unfoldable pub note : ℕ → ℕ → List SenderRecord → Run
 note s c l = unless (note_refusal s l) (note_given s c l) (note_nothing (note_refusal s l) l)

@@ -1,7 +1,7 @@
 -- One turn of the walk that finds a sender, and what noting answers by what was found: for the contracts of the functions that they name.
 -- Assumes nothing.
-use Rattle.std.specs.Prelude.{ℕ, true, false, cond, ltb}
-use Rattle.senders.specs.declared.{SenderRecord.SenderRecord, OptionCounter.OptionCounter, Found.Found, Noted.Noted}
+use Rattle.std.specs.Prelude.{ℕ, true, false, cond, ltb, None}
+use Rattle.senders.specs.declared.{SenderRecord.SenderRecord, Found.Found, Noted.Noted}
 use Rattle.senders.specs.Records.{is_free, names}
 use Rattle.senders.specs.Senders.{counted_places, counter_if}
 
@@ -15,4 +15,4 @@ seen s f i r =
 
 -- what noting answers
 unfoldable pub noted_by : Found → Noted
-noted_by f = cond (ltb f.place counted_places) (record { refusal = 0; earlier = counter_if f.named f.counter }) (record { refusal = 24; earlier = OptionCounter.Absent })
+noted_by f = cond (ltb f.place counted_places) (record { refusal = 0; earlier = counter_if f.named f.counter }) (record { refusal = 24; earlier = None })

@@ -1,10 +1,10 @@
 -- Readings of document 02, 5 at its edges, as one table. What a row says of the definitions is `Holds`; that every row holds is
 -- one claim, in proofs/WorkedCases.antt.
 -- Assumes nothing.
-use Rattle.std.specs.Prelude.{◌≡◌, List, [], ◌∷◌, ◌++◌, ℕ, replicate}
+use Rattle.std.specs.Prelude.{◌≡◌, List, [], ◌∷◌, ◌++◌, ℕ, replicate, Option, Some, None}
 use Rattle.types.specs.declared.Key.{Key}
 use Rattle.types.specs.Keys.{key}
-use Rattle.senders.specs.declared.{SenderRecord.SenderRecord, OptionCounter.OptionCounter}
+use Rattle.senders.specs.declared.SenderRecord.{SenderRecord}
 use Rattle.senders.specs.Records.{record_of, free_record}
 use Rattle.senders.specs.Senders.{ask_refused, inbound_network_key, note_nothing, note, forget}
 
@@ -16,7 +16,7 @@ pub data Case : Type 0 where
   -- it refuses by a number
   refuses : List SenderRecord → ℕ → ℕ → ℕ → ℕ → Case
   -- noting in a list for a sender a counter gives the earlier counter, and leaves a list
-  notes : List SenderRecord → ℕ → ℕ → OptionCounter → List SenderRecord → Case
+  notes : List SenderRecord → ℕ → ℕ → Option ℕ → List SenderRecord → Case
   -- it refuses by a number, and changes nothing
   note_refuses : List SenderRecord → ℕ → ℕ → ℕ → Case
   -- forgetting in a list a sender leaves a list
@@ -84,29 +84,29 @@ worked =
     ∷ gives once probe active 1001
     ∷ gives once other active 1000
     -- noting takes any counter, and after the last one nothing passes
-    ∷ notes once probe 0xFFFFFFFF (OptionCounter.Present 1000) exhausted
+    ∷ notes once probe 0xFFFFFFFF (Some 1000) exhausted
     ∷ refuses exhausted probe active 0 23
     ∷ refuses exhausted probe active 0xFFFFFFFE 23
     ∷ refuses exhausted probe active 0xFFFFFFFF 23
-    ∷ notes once probe 999 (OptionCounter.Present 1000) (record_of probe 999 ∷ [])
+    ∷ notes once probe 999 (Some 1000) (record_of probe 999 ∷ [])
     -- address 0 with the mark is a sender
     ∷ refuses (record_of 0 7 ∷ []) 0 active 7 23
-    ∷ notes (record_of 0 7 ∷ []) 0 8 (OptionCounter.Present 7) (record_of 0 8 ∷ [])
+    ∷ notes (record_of 0 7 ∷ []) 0 8 (Some 7) (record_of 0 8 ∷ [])
     -- without the mark no address is one: all zeros, or one left over
     ∷ gives (free_record ∷ []) 0 active 0
     ∷ gives (marked 0 ∷ []) probe active 0
-    ∷ notes (marked 0 ∷ []) probe 5 OptionCounter.Absent (record_of probe 5 ∷ [])
+    ∷ notes (marked 0 ∷ []) probe 5 None (record_of probe 5 ∷ [])
     ∷ forgets (marked 0 ∷ []) probe (marked 0 ∷ [])
     -- of two records that name a sender the first counts; both are forgotten
     ∷ refuses twice probe active 1000 23
     ∷ gives twice probe active 1001
-    ∷ notes twice probe 1500 (OptionCounter.Present 1000) (record_of probe 1500 ∷ record_of probe 2000 ∷ [])
+    ∷ notes twice probe 1500 (Some 1000) (record_of probe 1500 ∷ record_of probe 2000 ∷ [])
     ∷ forgets twice probe (free_record ∷ free_record ∷ [])
     -- a known sender keeps its record, though a free place stands before it
-    ∷ notes (free_record ∷ once) probe 1001 (OptionCounter.Present 1000) (free_record ∷ record_of probe 1001 ∷ [])
+    ∷ notes (free_record ∷ once) probe 1001 (Some 1000) (free_record ∷ record_of probe 1001 ∷ [])
     -- any mark but 0 counts, and noting writes 1
     ∷ refuses (marked 255 ∷ []) probe active 1000 23
-    ∷ notes (marked 255 ∷ []) probe 1001 (OptionCounter.Present 1000) (record_of probe 1001 ∷ [])
+    ∷ notes (marked 255 ∷ []) probe 1001 (Some 1000) (record_of probe 1001 ∷ [])
     -- the 65th place neither names nor is free
     ∷ gives (behind64 (record_of probe 1000)) probe active 0
     ∷ forgets (behind64 (record_of probe 1000)) probe (behind64 (record_of probe 1000))
@@ -114,6 +114,6 @@ worked =
     ∷ note_refuses (behind64 free_record) probe 1001 24
     ∷ note_refuses [] probe 1001 24
     -- an earlier counter of 0 is there, and a new sender has none
-    ∷ notes (record_of probe 0 ∷ []) probe 1 (OptionCounter.Present 0) (record_of probe 1 ∷ [])
-    ∷ notes (record_of other 7 ∷ free_record ∷ []) probe 1 OptionCounter.Absent (record_of other 7 ∷ record_of probe 1 ∷ [])
+    ∷ notes (record_of probe 0 ∷ []) probe 1 (Some 0) (record_of probe 1 ∷ [])
+    ∷ notes (record_of other 7 ∷ free_record ∷ []) probe 1 None (record_of other 7 ∷ record_of probe 1 ∷ [])
     ∷ []

@@ -1,6 +1,7 @@
 -- Addresses: reading undoes writing and writing undoes reading, and display order twice is wire order.
 -- Each is a law of byte strings at its length.
 -- Assumes nothing.
+use Rattle.std.specs.Prelude.{Some, MatchOption}
 use mathlib.Core.Path.{◌≡◌, refl, ap, ◌∙◌}
 use mathlib.Core.List.{List, ◌++◌}
 use Prim.Native.Nat.{ℕ, ◌-◌, ◌^◌, ◌≤◌, ◌<◌}
@@ -18,30 +19,30 @@ use Rattle.types.specs.Addresses.{nwk, pan_id, eui64, read_nwk, read_pan_id, rea
 enough : (n x : ℕ) (rest : List ℕ) → n ≤ length (le n x ++ rest)
 enough n x rest = simp (length-append, length_le) (omega arith)
 
-pub read_nwk_written : (x : ℕ) (rest : List ℕ) → x < 256 ^ 2 → read_nwk (le 2 x ++ rest) ≡ record { nwk = nwk x; used = 2 }
+pub read_nwk_written : (x : ℕ) (rest : List ℕ) → x < 256 ^ 2 → read_nwk (le 2 x ++ rest) ≡ Some (nwk x, 2)
 unfolding read_nwk
 read_nwk_written x rest h = rw (le-ltb _ _ (enough 2 x rest), le_at_le 2 x rest h) refl
 
-pub written_read_nwk : (s : List ℕ) → Below 256 s → 2 ≤ length s → le 2 (read_nwk s).nwk.0 ≡ take 2 s
+pub written_read_nwk : (s : List ℕ) → Below 256 s → 2 ≤ length s → MatchOption (read_nwk s) ⊥ (λ (a, _). le 2 a.0 ≡ take 2 s)
 unfolding read_nwk
 written_read_nwk s b h = rw (le-ltb _ _ h) (le_le_at 2 s 0 b h)
 
-pub read_pan_id_written : (x : ℕ) (rest : List ℕ) → x < 256 ^ 2 → read_pan_id (le 2 x ++ rest) ≡ record { pan_id = pan_id x; used = 2 }
+pub read_pan_id_written : (x : ℕ) (rest : List ℕ) → x < 256 ^ 2 → read_pan_id (le 2 x ++ rest) ≡ Some (pan_id x, 2)
 unfolding read_pan_id
 read_pan_id_written x rest h = rw (le-ltb _ _ (enough 2 x rest), le_at_le 2 x rest h) refl
 
-pub written_read_pan_id : (s : List ℕ) → Below 256 s → 2 ≤ length s → le 2 (read_pan_id s).pan_id.0 ≡ take 2 s
+pub written_read_pan_id : (s : List ℕ) → Below 256 s → 2 ≤ length s → MatchOption (read_pan_id s) ⊥ (λ (a, _). le 2 a.0 ≡ take 2 s)
 unfolding read_pan_id
 written_read_pan_id s b h = rw (le-ltb _ _ h) (le_le_at 2 s 0 b h)
 
-pub read_eui64_written : (s rest : List ℕ) → length s ≡ 8 → read_eui64 (s ++ rest) ≡ record { eui64 = eui64 s; used = 8 }
+pub read_eui64_written : (s rest : List ℕ) → length s ≡ 8 → read_eui64 (s ++ rest) ≡ Some (eui64 s, 8)
 unfolding read_eui64
 read_eui64_written s rest e =
     let l : 8 ≤ length (s ++ rest) = simp (length-append) (omega arith) in
     let t : take 8 (s ++ rest) ≡ s = lib.Seq.take_at s rest 8 e in
     rw (le-ltb _ _ l, t) refl
 
-pub written_read_eui64 : (s : List ℕ) → 8 ≤ length s → (read_eui64 s).eui64.0 ≡ take 8 s
+pub written_read_eui64 : (s : List ℕ) → 8 ≤ length s → MatchOption (read_eui64 s) ⊥ (λ (a, _). a.0 ≡ take 8 s)
 unfolding read_eui64
 written_read_eui64 s h = rw (le-ltb _ _ h) refl
 

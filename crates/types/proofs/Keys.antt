@@ -1,5 +1,6 @@
 -- Keys: reading undoes writing, and a key as two numbers is the key again. Each is a law of byte strings at its length.
 -- Assumes nothing.
+use Rattle.std.specs.Prelude.{Some}
 use mathlib.Core.Path.{◌≡◌, refl, sym, ap, ◌∙◌}
 use mathlib.Core.List.{List, [], ◌++◌, append-nil}
 use Prim.Native.Nat.{ℕ, ◌+◌, ◌^◌, ◌<◌}
@@ -14,7 +15,7 @@ use Rattle.octets.proofs.Numbers.{length_le, le_at_le, le_le_at, le_at_behind}
 use Rattle.types.specs.Keys.{key, read_key, key_bytes}
 
 -- the bytes of a key read as that key
-pub read_key_written : (s : List ℕ) → length s ≡ 16 → read_key s ≡ record { key = key s; used = 16 }
+pub read_key_written : (s : List ℕ) → length s ≡ 16 → read_key s ≡ Some (key s)
 unfolding read_key
 read_key_written s e = rw (eq-eqb _ _ e) refl
 

@@ -1,10 +1,11 @@
 -- Addresses: a 16-bit address or PAN identifier is its number, written least significant byte first; an IEEE address is
--- its eight bytes in wire order. What remains after reading is the bytes behind `used`.
+-- its eight bytes in wire order. Reading gives the value and how many bytes
+-- it took, or nothing.
 -- Assumes nothing.
-use Rattle.std.specs.Prelude.{ℕ, ◌-◌, cond, List, ltb, length, get_or, take}
+use Rattle.std.specs.Prelude.{ℕ, ◌-◌, cond, List, ltb, length, get_or, take, Option, Some, None}
 use Rattle.octets.specs.Strings.{tab}
 use Rattle.octets.specs.Numbers.{le_at}
-use Rattle.types.specs.declared.{Nwk.Nwk, NwkRead.NwkRead, PanId.PanId, PanIdRead.PanIdRead, Eui64.Eui64, Eui64Read.Eui64Read}
+use Rattle.types.specs.declared.{Nwk.Nwk, PanId.PanId, Eui64.Eui64}
 
 -- the address of a number
 abbrev pub nwk : ℕ → Nwk
@@ -23,16 +24,16 @@ abbrev pub eui64 : List ℕ → Eui64
 eui64 s = record { 0 = s }
 
 -- reading an address: nothing below two bytes
-unfoldable pub read_nwk : List ℕ → NwkRead
-read_nwk s = cond (ltb (length s) 2) (record { nwk = nwk 0; used = 0 }) (record { nwk = nwk (le_at 2 s 0); used = 2 })
+unfoldable pub read_nwk : List ℕ → Option (Nwk × ℕ)
+read_nwk s = cond (ltb (length s) 2) None (Some (nwk (le_at 2 s 0), 2))
 
 -- reading a PAN identifier: nothing below two bytes
-unfoldable pub read_pan_id : List ℕ → PanIdRead
-read_pan_id s = cond (ltb (length s) 2) (record { pan_id = pan_id 0; used = 0 }) (record { pan_id = pan_id (le_at 2 s 0); used = 2 })
+unfoldable pub read_pan_id : List ℕ → Option (PanId × ℕ)
+read_pan_id s = cond (ltb (length s) 2) None (Some (pan_id (le_at 2 s 0), 2))
 
 -- reading an IEEE address: nothing below eight bytes
-unfoldable pub read_eui64 : List ℕ → Eui64Read
-read_eui64 s = cond (ltb (length s) 8) (record { eui64 = eui64 (tab (λ (i : ℕ). 0) 8); used = 0 }) (record { eui64 = eui64 (take 8 s); used = 8 })
+unfoldable pub read_eui64 : List ℕ → Option (Eui64 × ℕ)
+read_eui64 s = cond (ltb (length s) 8) None (Some (eui64 (take 8 s), 8))
 
 -- eight bytes the other way round: wire order to display order and back
 unfoldable pub reversed : List ℕ → List ℕ

@@ -1,17 +1,16 @@
 -- Keys: sixteen bytes, or two numbers of eight bytes each.
 -- Assumes nothing.
-use Rattle.std.specs.Prelude.{ℕ, cond, List, ◌++◌, eqb, length}
-use Rattle.octets.specs.Strings.{tab}
+use Rattle.std.specs.Prelude.{ℕ, cond, List, ◌++◌, eqb, length, Option, Some, None}
 use Rattle.octets.specs.Numbers.{le}
-use Rattle.types.specs.declared.{Key.Key, KeyRead.KeyRead}
+use Rattle.types.specs.declared.Key.{Key}
 
 -- the key of sixteen bytes
 abbrev pub key : List ℕ → Key
 key s = record { 0 = s }
 
 -- reading a key: nothing unless the bytes are exactly sixteen
-unfoldable pub read_key : List ℕ → KeyRead
-read_key s = cond (eqb (length s) 16) (record { key = key s; used = 16 }) (record { key = key (tab (λ (i : ℕ). 0) 16); used = 0 })
+unfoldable pub read_key : List ℕ → Option Key
+read_key s = cond (eqb (length s) 16) (Some (key s)) None
 
 -- the bytes of a key given as two numbers
 unfoldable pub key_bytes : ℕ → ℕ → List ℕ

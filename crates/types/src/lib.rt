@@ -1,6 +1,6 @@
 // Addresses and keys, as numbers and as bytes: the port of types.rs, hex text left out. The Rust's
-// `Result` with the bytes that remain is here a record of the value and how many bytes it took,
-// with 0 for both where the bytes do not give one.
+// `Result` with the bytes that remain is here the value and how many bytes it took, if the bytes
+// give one.
 #![tactic(auto)]
 
 ghost use Rattle.std.specs.Prelude.{◌≡◌, ◌+◌, ◌≤◌, length};
@@ -8,7 +8,7 @@ ghost use Rattle.octets.specs.Strings.{over};
 ghost use Rattle.octets.specs.Numbers.{le};
 ghost use Rattle.types.specs.Addresses.{read_nwk, read_pan_id, read_eui64, reversed};
 ghost use Rattle.types.specs.Keys.{read_key, key_bytes};
-ghost use Rattle.types.specs.Optional.{has_ieee, ieee_if, ieee_bytes};
+ghost use Rattle.types.specs.Optional.{ieee_bytes};
 
 pub mod level;
 pub mod ranges;
@@ -34,60 +34,19 @@ pub struct PanId(pub u16);
 #[derive(Clone, Copy)]
 pub struct Eui64(pub [u8; 8]);
 
-// An optional long address. Inside an enum an IEEE is a 64-bit number, its first wire byte lowest.
-#[derive(Clone, Copy)]
-pub enum OptionEui64 {
-    Absent,
-    Present(u64),
-}
-
 // A 128-bit key.
 #[derive(Clone, Copy)]
 pub struct Key(pub [u8; 16]);
 
-// What reading an address gives; used is 0 where the bytes end early.
-#[derive(Clone, Copy)]
-pub struct NwkRead {
-    pub nwk: Nwk,
-    pub used: usize,
-}
-
-// What reading a PAN identifier gives, likewise.
-#[derive(Clone, Copy)]
-pub struct PanIdRead {
-    pub pan_id: PanId,
-    pub used: usize,
-}
-
-// What reading an IEEE address gives, likewise.
-#[derive(Clone, Copy)]
-pub struct Eui64Read {
-    pub eui64: Eui64,
-    pub used: usize,
-}
-
-// What reading a key gives; used is 0 where the bytes are not exactly 16.
-#[derive(Clone, Copy)]
-pub struct KeyRead {
-    pub key: Key,
-    pub used: usize,
-}
-
 impl Nwk {
-    // The address that the first two bytes give, least significant first.
-    pub fn deserialize(bytes: &[u8]) -> NwkRead
+    // The address that the first two bytes give, least significant first, and how many bytes it took.
+    pub fn deserialize(bytes: &[u8]) -> Option<(Nwk, usize)>
         ensures { result ≡ read_nwk bytes.now }
     {
         if bytes.len() < 2 {
-            return NwkRead {
-                nwk: Nwk(0),
-                used: 0,
-            };
+            return None;
         }
-        NwkRead {
-            nwk: Nwk(octets::read_u16(bytes, 0)),
-            used: 2,
-        }
+        Some((Nwk(octets::read_u16(bytes, 0)), 2))
     }
 
     // Its two bytes as they stand in a frame.
@@ -106,20 +65,14 @@ impl Nwk {
 }
 
 impl PanId {
-    // The identifier that the first two bytes give, least significant first.
-    pub fn deserialize(bytes: &[u8]) -> PanIdRead
+    // The identifier that the first two bytes give, least significant first, and how many bytes it took.
+    pub fn deserialize(bytes: &[u8]) -> Option<(PanId, usize)>
         ensures { result ≡ read_pan_id bytes.now }
     {
         if bytes.len() < 2 {
-            return PanIdRead {
-                pan_id: PanId(0),
-                used: 0,
-            };
+            return None;
         }
-        PanIdRead {
-            pan_id: PanId(octets::read_u16(bytes, 0)),
-            used: 2,
-        }
+        Some((PanId(octets::read_u16(bytes, 0)), 2))
     }
 
     // Its two bytes as they stand in a frame.
@@ -131,22 +84,16 @@ impl PanId {
 }
 
 impl Eui64 {
-    // The address that the first eight bytes are.
-    pub fn deserialize(bytes: &[u8]) -> Eui64Read
+    // The address that the first eight bytes are, and how many bytes it took.
+    pub fn deserialize(bytes: &[u8]) -> Option<(Eui64, usize)>
         ensures { result ≡ read_eui64 bytes.now }
     {
-        let mut eui = [0u8; 8];
         if bytes.len() < 8 {
-            return Eui64Read {
-                eui64: Eui64(eui),
-                used: 0,
-            };
+            return None;
         }
+        let mut eui = [0u8; 8];
         octets::copy_at(&mut eui, 0, &bytes[..8]);
-        Eui64Read {
-            eui64: Eui64(eui),
-            used: 8,
-        }
+        Some((Eui64(eui), 8))
     }
 
     // Over-the-air order, as the address appears in a frame.
@@ -174,49 +121,26 @@ impl Eui64 {
     }
 }
 
-impl OptionEui64 {
-    // The address x if its presence bit is set.
-    pub fn when(present: bool, x: u64) -> OptionEui64
-        ensures { result ≡ ieee_if present x }
-    {
-        if present {
-            OptionEui64::Present(x)
-        } else {
-            OptionEui64::Absent
-        }
+// How many bytes a long address that may be missing takes in a frame. It is a 64-bit number, its first wire byte lowest.
+pub fn ieee_size(ieee: Option<u64>) -> usize
+    ensures { (result ≡ length (ieee_bytes ieee)) × (result ≤ 8) }
+{
+    match ieee {
+        None => 0,
+        Some(_) => 8,
     }
+}
 
-    // Whether it is there.
-    pub fn is_present(self) -> bool
-        ensures { result ≡ has_ieee self }
-    {
-        match self {
-            OptionEui64::Absent => false,
-            OptionEui64::Present(_) => true,
-        }
-    }
-
-    // How many bytes it takes in a frame.
-    pub fn size(self) -> usize
-        ensures { (result ≡ length (ieee_bytes self)) × (result ≤ 8) }
-    {
-        match self {
-            OptionEui64::Absent => 0,
-            OptionEui64::Present(_) => 8,
-        }
-    }
-
-    // Write it at place i, and give the place behind it.
-    pub fn put(self, out: &mut [u8], i: usize) -> usize
-        requires { i + length (ieee_bytes self) ≤ length out.old }
-        ensures { (result ≡ i + length (ieee_bytes self)) × (out.new ≡ over out.old i (ieee_bytes self)) }
-    {
-        match self {
-            OptionEui64::Absent => i,
-            OptionEui64::Present(x) => {
-                octets::put_u64(out, i, x);
-                i + 8
-            }
+// Write it at place i, and give the place behind it.
+pub fn put_ieee(ieee: Option<u64>, out: &mut [u8], i: usize) -> usize
+    requires { i + length (ieee_bytes ieee) ≤ length out.old }
+    ensures { (result ≡ i + length (ieee_bytes ieee)) × (out.new ≡ over out.old i (ieee_bytes ieee)) }
+{
+    match ieee {
+        None => i,
+        Some(x) => {
+            octets::put_u64(out, i, x);
+            i + 8
         }
     }
 }
@@ -230,21 +154,15 @@ impl Key {
     }
 
     // The key that these bytes are, if they are exactly sixteen.
-    pub fn from_bytes(bytes: &[u8]) -> KeyRead
+    pub fn from_bytes(bytes: &[u8]) -> Option<Key>
         ensures { result ≡ read_key bytes.now }
     {
-        let mut key = [0u8; 16];
         if bytes.len() != 16 {
-            return KeyRead {
-                key: Key(key),
-                used: 0,
-            };
+            return None;
         }
+        let mut key = [0u8; 16];
         octets::copy_at(&mut key, 0, bytes);
-        KeyRead {
-            key: Key(key),
-            used: 16,
-        }
+        Some(Key(key))
     }
 
     // Its sixteen bytes.

@@ -2,12 +2,12 @@
 -- is `Holds`; that every row holds is one claim, in proofs/LastCounter.antt. Ciphertext and MIC of the two frames are another
 -- AES-CCM's (the Python library cryptography, 48.0.0).
 -- Assumes nothing.
-use Rattle.std.specs.Prelude.{◌≡◌, true, false, List, [], ◌∷◌, ◌++◌, ℕ, length, drop, replicate}
+use Rattle.std.specs.Prelude.{◌≡◌, true, false, List, [], ◌∷◌, ◌++◌, ℕ, length, drop, replicate, Option, Some, None}
 use Rattle.types.specs.Addresses.{no_nwk}
 use Rattle.types.specs.Optional.{has_ieee}
-use Rattle.types.specs.declared.{OptionEui64.OptionEui64, level.Level.Level}
+use Rattle.types.specs.declared.level.Level.{Level}
 use Rattle.header.specs.declared.{auxiliary.NwkSecurityLevel.NwkSecurityLevel, auxiliary.NwkSecurityHeaderKeyId.NwkSecurityHeaderKeyId, control.NwkFrameType.NwkFrameType, control.NwkRouteDiscovery.NwkRouteDiscovery, optional.NwkSourceRoute.NwkSourceRoute, nwk.NwkHeader.NwkHeader}
-use Rattle.frame.specs.declared.{OptionAuxHeader.OptionAuxHeader, Mark.Mark}
+use Rattle.frame.specs.declared.Mark.{Mark}
 use Rattle.frame.specs.Sealing.{seal_frame}
 use Rattle.frame.specs.Opening.{open_frame}
 use Rattle.boundary.specs.Starred.{from_probe}
@@ -17,11 +17,11 @@ use Rattle.worked_frames.specs.Bytes.{hex}
 
 pub data Case : Type 0 where
   -- with this auxiliary header a payload is sealed as a byte string
-  seals : OptionAuxHeader → List ℕ → List ℕ → Case
+  seals : Option NwkAuxHeader → List ℕ → List ℕ → Case
   -- with this auxiliary header sealing refuses a payload by a number
-  refuses : OptionAuxHeader → List ℕ → ℕ → Case
+  refuses : Option NwkAuxHeader → List ℕ → ℕ → Case
   -- a frame opens to this auxiliary header, this address that the nonce used, and this payload
-  opens : List ℕ → OptionAuxHeader → OptionEui64 → List ℕ → Case
+  opens : List ℕ → Option NwkAuxHeader → Option ℕ → List ℕ → Case
 
 unfoldable pub key : List ℕ
 key = hex 16 0x01030507090B0D0F00020406080A0C0D
@@ -62,9 +62,9 @@ Holds (opens f a ieee p) =
 -- ---- what the rows name
 
 -- an auxiliary header under the network key, with this address for the nonce or none, and this counter
-unfoldable pub counted : OptionEui64 → ℕ → OptionAuxHeader
+unfoldable pub counted : Option ℕ → ℕ → Option NwkAuxHeader
 counted ieee counter =
-    OptionAuxHeader.Present
+    Some
     (record {
       security_control = record {
         security_level = NwkSecurityLevel.NoSecurity;
@@ -78,8 +78,8 @@ counted ieee counter =
     })
 
 -- the address whose bytes in a frame are `0D 6F 00 11 22 33 44 55`
-unfoldable pub probe_ieee : OptionEui64
-probe_ieee = OptionEui64.Present 0x5544332211006F0D
+unfoldable pub probe_ieee : Option ℕ
+probe_ieee = Some 0x5544332211006F0D
 
 -- one byte, `AA`, sealed with it under the counter before the last one, and under the last one
 unfoldable pub sealed_before : List ℕ
@@ -95,8 +95,8 @@ cases =
     seals (counted probe_ieee 0xFFFFFFFE) (0xAA ∷ []) sealed_before
     ∷ refuses (counted probe_ieee 0xFFFFFFFF) (0xAA ∷ []) 21
     -- with no address as well; and with no auxiliary header, which has the counter
-    ∷ refuses (counted OptionEui64.Absent 0xFFFFFFFF) (0xAA ∷ []) 15
-    ∷ refuses OptionAuxHeader.Absent (0xAA ∷ []) 14
+    ∷ refuses (counted None 0xFFFFFFFF) (0xAA ∷ []) 15
+    ∷ refuses None (0xAA ∷ []) 14
     -- a payload of 93 bytes, which makes a frame of 119: 21 is before 17
     ∷ refuses (counted probe_ieee 0xFFFFFFFF) (replicate 93 0xAA) 21
     ∷ refuses (counted probe_ieee 0xFFFFFFFE) (replicate 93 0xAA) 17

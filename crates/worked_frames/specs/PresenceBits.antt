@@ -1,14 +1,13 @@
 -- Document 02, 8, at its edges: which presence bits are refused by 28, and in which order, as tables. What a row says of the
 -- definitions is `Holds`; that every row of every table holds is one claim, in proofs/PresenceBits.antt.
 -- Assumes nothing.
-use Rattle.std.specs.Prelude.{◌≡◌, Bool, true, false, List, [], ◌∷◌, ◌++◌, ℕ, replicate, eqb}
+use Rattle.std.specs.Prelude.{◌≡◌, Bool, true, false, List, [], ◌∷◌, ◌++◌, ℕ, replicate, eqb, Option, Some, None}
 use Rattle.types.specs.Addresses.{nwk, no_nwk}
 use Rattle.types.specs.Optional.{ieee_if}
-use Rattle.types.specs.declared.{OptionEui64.OptionEui64, level.Level.Level}
+use Rattle.types.specs.declared.level.Level.{Level}
 use Rattle.header.specs.declared.{auxiliary.NwkSecurityLevel.NwkSecurityLevel, auxiliary.NwkSecurityHeaderKeyId.NwkSecurityHeaderKeyId, control.NwkFrameType.NwkFrameType, control.NwkRouteDiscovery.NwkRouteDiscovery, nwk.NwkHeader.NwkHeader}
 use Rattle.header.specs.Optional.{multicast_if, route_if}
 use Rattle.header.specs.Writing.{write_header}
-use Rattle.frame.specs.declared.OptionAuxHeader.{OptionAuxHeader}
 use Rattle.frame.specs.Writing.{write_frame}
 use Rattle.frame.specs.Sealing.{seal_frame}
 use Rattle.worked_frames.specs.LastCounter.{key}
@@ -19,7 +18,7 @@ pub data Case : Type 0 where
   -- writing the header, alone or in a frame without a key, answers a number, 0 where it is accepted
   writing : NwkHeader → ℕ → Case
   -- sealing with the header and this auxiliary header, or none, answers a number
-  sealing : NwkHeader → OptionAuxHeader → ℕ → Case
+  sealing : NwkHeader → Option NwkAuxHeader → ℕ → Case
 
 -- a frame's places
 abbrev pub lent : List ℕ
@@ -60,9 +59,9 @@ made version secured set there =
     }
 
 -- an auxiliary header with this extended nonce bit, this address or none, and this counter
-unfoldable pub auxiliary : Bool → OptionEui64 → ℕ → OptionAuxHeader
+unfoldable pub auxiliary : Bool → Option ℕ → ℕ → Option NwkAuxHeader
 auxiliary set ieee counter =
-    OptionAuxHeader.Present
+    Some
     (record {
       security_control = record {
         security_level = NwkSecurityLevel.NoSecurity;
@@ -76,8 +75,8 @@ auxiliary set ieee counter =
     })
 
 -- one that agrees, with an address
-unfoldable pub agreeing : OptionAuxHeader
-agreeing = auxiliary true (OptionEui64.Present 1) 1
+unfoldable pub agreeing : Option NwkAuxHeader
+agreeing = auxiliary true (Some 1) 1
 
 -- a row for each of the four bits
 unfoldable pub each : (ℕ → Case) → List Case
@@ -102,23 +101,23 @@ in_order =
     writing (made 2 true 0 0) 0
     ∷ sealing (made 2 true 0 0) agreeing 0
     ∷ sealing (made 2 false 0 0) agreeing 28
-    ∷ sealing (made 2 false 0 0) OptionAuxHeader.Absent 28
-    ∷ sealing (made 2 true 0 0) OptionAuxHeader.Absent 14
-    ∷ sealing (made 2 true 12 0) OptionAuxHeader.Absent 28
+    ∷ sealing (made 2 false 0 0) None 28
+    ∷ sealing (made 2 true 0 0) None 14
+    ∷ sealing (made 2 true 12 0) None 28
     -- the header's bits are before 15 too
-    ∷ sealing (made 2 false 0 0) (auxiliary false OptionEui64.Absent 1) 28
-    ∷ sealing (made 2 true 12 0) (auxiliary false OptionEui64.Absent 1) 28
+    ∷ sealing (made 2 false 0 0) (auxiliary false None 1) 28
+    ∷ sealing (made 2 true 12 0) (auxiliary false None 1) 28
     -- the extended nonce bit, with no address anywhere and with the header's
-    ∷ sealing (made 2 true 0 0) (auxiliary true OptionEui64.Absent 1) 28
-    ∷ sealing (made 2 true 0 0) (auxiliary false OptionEui64.Absent 1) 15
-    ∷ sealing (made 2 true 12 12) (auxiliary true OptionEui64.Absent 1) 28
-    ∷ sealing (made 2 true 12 12) (auxiliary false OptionEui64.Absent 1) 0
-    ∷ sealing (made 2 true 0 0) (auxiliary false (OptionEui64.Present 1) 1) 28
+    ∷ sealing (made 2 true 0 0) (auxiliary true None 1) 28
+    ∷ sealing (made 2 true 0 0) (auxiliary false None 1) 15
+    ∷ sealing (made 2 true 12 12) (auxiliary true None 1) 28
+    ∷ sealing (made 2 true 12 12) (auxiliary false None 1) 0
+    ∷ sealing (made 2 true 0 0) (auxiliary false (Some 1) 1) 28
     -- 13 is before 28, and 21 behind it
     ∷ writing (made 16 false 12 0) 13
-    ∷ sealing (made 16 false 12 0) (auxiliary true OptionEui64.Absent 1) 13
-    ∷ sealing (made 2 true 0 0) (auxiliary true OptionEui64.Absent 0xFFFFFFFF) 28
-    ∷ sealing (made 2 true 0 0) (auxiliary true (OptionEui64.Present 1) 0xFFFFFFFF) 21
+    ∷ sealing (made 16 false 12 0) (auxiliary true None 1) 13
+    ∷ sealing (made 2 true 0 0) (auxiliary true None 0xFFFFFFFF) 28
+    ∷ sealing (made 2 true 0 0) (auxiliary true (Some 1) 0xFFFFFFFF) 21
     ∷ []
 
 unfoldable pub cases : List (List Case)

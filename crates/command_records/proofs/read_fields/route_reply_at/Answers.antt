@@ -1,4 +1,5 @@
 -- `route_reply_at` meets its contract: the fields stand at their places in the record. Assumes nothing.
+use Rattle.std.specs.Prelude.{Some, None}
 use mathlib.Core.Path.{◌≡◌, refl, ◌∙◌}
 use Prim.Native.Nat.{ℕ}
 use lib.Dec.{eqb}
@@ -11,7 +12,6 @@ use Rattle.commands.specs.Reading.{command_of}
 use Rattle.command_records.specs.Fields.{record_values}
 use Rattle.octets.specs.Numbers.{le_at}
 use Rattle.types.specs.Addresses.{nwk}
-use Rattle.types.specs.declared.OptionEui64.{OptionEui64}
 use Rattle.commands.specs.Format.{Values}
 use Rattle.commands.specs.Commands.{address_of, entry_at, route_reply_of}
 use Rattle.command_records.proofs.read_fields.route_reply_at.Goals as goal
@@ -20,7 +20,7 @@ use Rattle.command_records.proofs.read_fields.route_reply_at.Goals as goal
 abbrev entries : Bool → ℕ → ℕ → Values
 entries b x y = record { head = []; entries = cond b ((x ∷ []) ∷ (y ∷ []) ∷ []) ((y ∷ []) ∷ []) }
 
-originator : (b : Bool) (x y : ℕ) → cond b (OptionEui64.Present x) OptionEui64.Absent ≡ address_of (bit b) (entry_at (entries b x y) 0)
+originator : (b : Bool) (x y : ℕ) → cond b (Some x) None ≡ address_of (bit b) (entry_at (entries b x y) 0)
 unfolding address_of
 originator true x y = refl
 originator false x y = refl

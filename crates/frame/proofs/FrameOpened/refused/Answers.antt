@@ -1,6 +1,6 @@
 -- `FrameOpened::refused` meets its contract: the blank headers stand beside the number. Assumes nothing.
-use Rattle.types.specs.declared.OptionEui64.{OptionEui64}
-use Rattle.frame.specs.declared.{OptionAuxHeader.OptionAuxHeader, Mark.Mark}
+use Rattle.std.specs.Prelude.{None}
+use Rattle.frame.specs.declared.Mark.{Mark}
 use Rattle.frame.specs.Opening.{open_refused}
 use Rattle.frame.proofs.FrameOpened.refused.Goals as goal
 
@@ -11,7 +11,7 @@ returns c =
       refusal = c.args.refusal;
       mark = Mark.Unmarked;
       length = 0;
-      nonce_ieee = OptionEui64.Absent;
+      nonce_ieee = None;
       header = c.blank.ensures i;
-      aux = OptionAuxHeader.Absent;
+      aux = None;
     }

@@ -1,4 +1,5 @@
--- `OptionAuxHeader::when` meets its contract: the security bit picks the case. Assumes nothing.
+-- `Option NwkAuxHeader::when` meets its contract: the security bit picks the case. Assumes nothing.
+use Rattle.std.specs.Prelude.{Option}
 use mathlib.Core.Path.{sym, ap}
 use mathlib.Core.Bool.{Bool}
 use Rattle.frame.specs.Reading.{aux_if}

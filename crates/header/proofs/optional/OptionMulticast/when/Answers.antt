@@ -1,4 +1,5 @@
--- `OptionMulticast::when` meets its contract: the presence bit picks the case. Assumes nothing.
+-- `Option ℕ::when` meets its contract: the presence bit picks the case. Assumes nothing.
+use Rattle.std.specs.Prelude.{Option}
 use mathlib.Core.Path.{sym, ap}
 use mathlib.Core.Bool.{Bool}
 use Rattle.header.specs.Optional.{multicast_if}
