@@ -2,8 +2,8 @@
 pub mod Strings
 pub mod Xor
 pub mod Numbers
+pub mod Conversions
 pub mod Words
 pub mod Fields
-mod Halves
 pub mod Conditions
 pub mod Writing

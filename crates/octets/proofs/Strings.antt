@@ -152,15 +152,6 @@ take_over o bs = rw over_front (lib.Seq.take-append_seam bs (drop (length bs) o)
 pub over_all : {A : Type 0} (o bs : List A) → length o ≡ length bs → over o 0 bs ≡ bs
 over_all o bs e = rw (over_front, ← e, drop-length) (append-nil bs)
 
--- a loop that copies from the front: one more entry stored
-pub copy_more : {A : Type 0} (o : List A) (i j : ℕ) (s : List A) (d : A) → i + j < length o → j < length s
-    → set (over o i (take j s)) (i + j) (get_or s j d) ≡ over o i (take (j + 1) s)
-copy_more o i j s d ho hs =
-    let l : length (take j s) ≡ j = length-take-le j s (omega arith) in
-    set_over (over o i (take j s)) (i + j) (get_or s j d) (rw (length_over o i (take j s) (rw l (omega arith))) ho)
-    ∙ over_over o i (i + j) (take j s) (get_or s j d ∷ []) (omega arith) (rw l refl)
-    ∙ ap (over o i) (rw (add-one) (sym (take-suc s j d hs)))
-
 -- ---- bytes
 
 -- what is behind the first n entries has no larger ones

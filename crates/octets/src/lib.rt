@@ -61,7 +61,10 @@ pub fn minus(a: usize, b: usize) -> usize
 pub fn exceeds(limit: usize, a: usize, b: usize) -> bool
     ensures { result ≡ ltb limit (a + b) }
 {
-    if limit < a { true } else { limit - a < b }
+    match a.checked_add(b) {
+        Some(sum) => limit < sum,
+        None => true,
+    }
 }
 
 // A byte as a wider number.
@@ -75,14 +78,14 @@ pub fn wide(x: u8) -> u64
 pub fn bit_of(b: bool) -> u8
     ensures { (result ≡ bit b) × (result < 2) }
 {
-    if b { 1 } else { 0 }
+    u8::from(b)
 }
 
 // The byte at place i, or 0 past the end.
 pub fn byte_at(s: &[u8], i: usize) -> u8
     ensures { result ≡ get_or s.now i 0 }
 {
-    if i < s.len() { s[i] } else { 0 }
+    s.get(i).copied().unwrap_or(0)
 }
 
 // The word of four bytes, least significant first.
@@ -90,19 +93,14 @@ pub fn word_of(a: u8, b: u8, c: u8, d: u8) -> u32
     ensures number { result ≡ le_at 4 (a ∷ b ∷ c ∷ d ∷ []) 0 }
     ensures bytes { le 4 result ≡ a ∷ b ∷ c ∷ d ∷ [] }
 {
-    (a as u32) + (b as u32) * 0x100 + (c as u32) * 0x1_0000 + (d as u32) * 0x100_0000
+    u32::from_le_bytes([a, b, c, d])
 }
 
 // The four bytes of a word, least significant first.
 pub fn bytes_of(w: u32) -> [u8; 4]
     ensures { result ≡ le 4 w }
 {
-    [
-        (w % 256) as u8,
-        (w / 0x100 % 256) as u8,
-        (w / 0x1_0000 % 256) as u8,
-        (w / 0x100_0000) as u8,
-    ]
+    w.to_le_bytes()
 }
 
 // The four words of sixteen bytes.
@@ -138,9 +136,7 @@ pub fn read_u16(s: &[u8], i: usize) -> u16
     if s.len() <= i {
         return 0;
     }
-    let low = byte_at(s, i);
-    let high = byte_at(s, i + 1);
-    (low as u16) + (high as u16) * 256
+    u16::from_le_bytes([byte_at(s, i), byte_at(s, i + 1)])
 }
 
 // The 32-bit number at place i, likewise.
@@ -155,7 +151,7 @@ pub fn read_u32(s: &[u8], i: usize) -> u32
     }
     let low = read_u16(s, i);
     let high = read_u16(s, i + 2);
-    (low as u32) + (high as u32) * 65536
+    u32::from(low) + u32::from(high) * 0x1_0000
 }
 
 // The 64-bit number at place i, likewise.
@@ -167,7 +163,7 @@ pub fn read_u64(s: &[u8], i: usize) -> u64
     }
     let low = read_u32(s, i);
     let high = read_u32(s, i + 4);
-    (low as u64) + (high as u64) * 0x1_0000_0000
+    u64::from(low) + u64::from(high) * 0x1_0000_0000
 }
 
 // Write one byte at place i.
@@ -183,8 +179,7 @@ pub fn put_u16(out: &mut [u8], i: usize, x: u16)
     requires { i + 2 ≤ length out.old }
     ensures { out.new ≡ over out.old i (le 2 x) }
 {
-    put_u8(out, i, (x % 256) as u8);
-    put_u8(out, i + 1, (x / 256) as u8);
+    copy_at(out, i, &x.to_le_bytes());
 }
 
 // Write a 32-bit number at place i, likewise.
@@ -192,8 +187,7 @@ pub fn put_u32(out: &mut [u8], i: usize, x: u32)
     requires { i + 4 ≤ length out.old }
     ensures { out.new ≡ over out.old i (le 4 x) }
 {
-    put_u16(out, i, (x % 65536) as u16);
-    put_u16(out, i + 2, (x / 65536) as u16);
+    copy_at(out, i, &x.to_le_bytes());
 }
 
 // Write a 64-bit number at place i, likewise.
@@ -201,8 +195,7 @@ pub fn put_u64(out: &mut [u8], i: usize, x: u64)
     requires { i + 8 ≤ length out.old }
     ensures { out.new ≡ over out.old i (le 8 x) }
 {
-    put_u32(out, i, (x % 0x1_0000_0000) as u32);
-    put_u32(out, i + 4, (x / 0x1_0000_0000) as u32);
+    copy_at(out, i, &x.to_le_bytes());
 }
 
 // Copy all of src over out from place i on.
@@ -210,9 +203,5 @@ pub fn copy_at(out: &mut [u8], i: usize, src: &[u8])
     requires { i + length src.now ≤ length out.old }
     ensures { out.new ≡ over out.old i src.now }
 {
-    let mut j = 0;
-    while j < src.len() {
-        out[i + j] = src[j];
-        j += 1;
-    }
+    out[i..i + src.len()].copy_from_slice(src);
 }

@@ -1,14 +1,15 @@
 -- Addresses: reading undoes writing and writing undoes reading, and display order twice is wire order.
 -- Each is a law of byte strings at its length.
 -- Assumes nothing.
-use Rattle.std.specs.Prelude.{Some, MatchOption}
-use mathlib.Core.Path.{◌≡◌, refl, ap, ◌∙◌}
+use Rattle.std.specs.Prelude.{Some, MatchOption, reverse}
+use mathlib.Core.Path.{◌≡◌, refl, sym, ap, ◌∙◌}
 use mathlib.Core.List.{List, ◌++◌}
 use Prim.Native.Nat.{ℕ, ◌-◌, ◌^◌, ◌≤◌, ◌<◌}
 use native.Mathlib.Omega.{arith}
 use borrow.Author.Tests.{le-ltb}
 use lib.ListN.{length, get_or, take, length-append}
 use lib.Seq.{take_all}
+use Rattle.std.proofs.lemmas.List.{get_or-reverse, length-reverse}
 use Rattle.octets.specs.Strings.{Below}
 use Rattle.octets.specs.Numbers.{le}
 use Rattle.octets.proofs.Strings.{get_or_tab, tab_ext, tab_get_or}
@@ -45,6 +46,13 @@ read_eui64_written s rest e =
 pub written_read_eui64 : (s : List ℕ) → 8 ≤ length s → MatchOption (read_eui64 s) ⊥ (λ (a, _). a.0 ≡ take 8 s)
 unfolding read_eui64
 written_read_eui64 s h = rw (le-ltb _ _ h) refl
+
+-- the library's order of eight bytes the other way round
+pub reverse_eight : (s : List ℕ) → length s ≡ 8 → reverse s ≡ reversed s
+unfolding reversed
+reverse_eight s e =
+    sym (take_all 8 (reverse s) (omega (arith, length-reverse s))) ∙ sym (tab_get_or (reverse s) 0 8 (omega (arith, length-reverse s)))
+    ∙ tab_ext _ (λ (i : ℕ). get_or s (7 - i) 0) 8 (λ i l. get_or-reverse s i 0 (omega arith) ∙ ap (λ (k : ℕ). get_or s k 0) (omega arith))
 
 -- display order, and back to wire order
 pub reversed_twice : (s : List ℕ) → length s ≡ 8 → reversed (reversed s) ≡ s

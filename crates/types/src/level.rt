@@ -11,11 +11,11 @@ pub enum Level {
     Other,
 }
 
-impl Level {
-    // The level of a number.
-    pub fn of(number: u64) -> Level
-        ensures { result ≡ network_level number }
-    {
+// The level of a number.
+impl From<u64> for Level {
+    ghost from_gives = { λ number level. level ≡ network_level number };
+
+    fn from(number: u64) -> Level {
         match number {
             5 => Level::EncMic32,
             6 => Level::EncMic64,
@@ -23,20 +23,18 @@ impl Level {
             _ => Level::Other,
         }
     }
+}
 
+impl Level {
     // Whether it is another than 5, 6 and 7 (refusal 29).
     pub fn is_other(self) -> bool
         ensures { result ≡ is_other self }
     {
-        match self {
-            Level::EncMic32 => false,
-            Level::EncMic64 => false,
-            Level::EncMic128 => false,
-            Level::Other => true,
-        }
+        matches!(self, Level::Other)
     }
 
     // How many bytes a tag has; none at another level.
+    #[tactic(auto, unfolding(crate::specs::Levels::tag_length))]
     pub fn tag_length(self) -> usize
         ensures { (result ≡ tag_length self) × (result ≤ 16) }
     {

@@ -43,17 +43,15 @@ impl Nwk {
     pub fn deserialize(bytes: &[u8]) -> Option<(Nwk, usize)>
         ensures { result ≡ read_nwk bytes.now }
     {
-        if bytes.len() < 2 {
-            return None;
-        }
-        Some((Nwk(octets::read_u16(bytes, 0)), 2))
+        let first = bytes.first_chunk::<2>()?;
+        Some((Nwk(u16::from_le_bytes(*first)), 2))
     }
 
     // Its two bytes as they stand in a frame.
     pub fn to_bytes(self) -> [u8; 2]
         ensures { result ≡ le 2 self.0 }
     {
-        [(self.0 % 256) as u8, (self.0 / 256) as u8]
+        self.0.to_le_bytes()
     }
 
     // The address as a number.
@@ -69,17 +67,15 @@ impl PanId {
     pub fn deserialize(bytes: &[u8]) -> Option<(PanId, usize)>
         ensures { result ≡ read_pan_id bytes.now }
     {
-        if bytes.len() < 2 {
-            return None;
-        }
-        Some((PanId(octets::read_u16(bytes, 0)), 2))
+        let first = bytes.first_chunk::<2>()?;
+        Some((PanId(u16::from_le_bytes(*first)), 2))
     }
 
     // Its two bytes as they stand in a frame.
     pub fn to_bytes(self) -> [u8; 2]
         ensures { result ≡ le 2 self.0 }
     {
-        [(self.0 % 256) as u8, (self.0 / 256) as u8]
+        self.0.to_le_bytes()
     }
 }
 
@@ -88,12 +84,8 @@ impl Eui64 {
     pub fn deserialize(bytes: &[u8]) -> Option<(Eui64, usize)>
         ensures { result ≡ read_eui64 bytes.now }
     {
-        if bytes.len() < 8 {
-            return None;
-        }
-        let mut eui = [0u8; 8];
-        octets::copy_at(&mut eui, 0, &bytes[..8]);
-        Some((Eui64(eui), 8))
+        let first = bytes.first_chunk::<8>()?;
+        Some((Eui64(*first), 8))
     }
 
     // Over-the-air order, as the address appears in a frame.
@@ -107,17 +99,18 @@ impl Eui64 {
     pub fn to_be_bytes(self) -> [u8; 8]
         ensures { result ≡ reversed self.0 }
     {
-        let b = self.0;
-        [b[7], b[6], b[5], b[4], b[3], b[2], b[1], b[0]]
+        let mut bytes = self.0;
+        bytes.reverse();
+        bytes
     }
 
     // The address whose display order these bytes are.
     pub fn from_be_bytes(bytes: [u8; 8]) -> Self
         ensures { result.0 ≡ reversed bytes }
     {
-        Eui64([
-            bytes[7], bytes[6], bytes[5], bytes[4], bytes[3], bytes[2], bytes[1], bytes[0],
-        ])
+        let mut wire = bytes;
+        wire.reverse();
+        Eui64(wire)
     }
 }
 
@@ -157,11 +150,9 @@ impl Key {
     pub fn from_bytes(bytes: &[u8]) -> Option<Key>
         ensures { result ≡ read_key bytes.now }
     {
-        if bytes.len() != 16 {
+        let Ok(key) = <[u8; 16]>::try_from(bytes) else {
             return None;
-        }
-        let mut key = [0u8; 16];
-        octets::copy_at(&mut key, 0, bytes);
+        };
         Some(Key(key))
     }
 

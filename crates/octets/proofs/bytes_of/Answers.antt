@@ -1,15 +1,7 @@
--- `octets::bytes_of` meets its contract: each byte is the definition's, by division. Assumes nothing.
-use mathlib.Core.Path.{◌≡◌}
-use mathlib.Core.List.{[], ◌∷◌}
-use Prim.Native.Nat.{◌/◌, ◌%◌}
-use native.Mathlib.Omega.{arith}
-use Rattle.octets.specs.Numbers.{le}
+-- `octets::bytes_of` meets its contract. Assumes nothing.
+use mathlib.Core.Path.{◌∙◌}
+use Rattle.octets.proofs.Conversions.{library_bytes}
 use Rattle.octets.proofs.bytes_of.Goals as goal
 
 pub returns : goal.returns
-unfolding le
-returns c =
-    let w = c.args.w in
-    let third : w / 65536 % 256 ≡ w / 256 / 256 % 256 = omega arith in
-    let fourth : w / 16777216 ≡ w / 256 / 256 / 256 % 256 = omega arith in
-    λ i. w % 256 ∷ w / 256 % 256 ∷ third i ∷ fourth i ∷ []
+returns c = c.to_le_bytes.ensures ∙ library_bytes 4 c.args.w

@@ -1,11 +1,10 @@
--- `octets::put_u32` meets its contract: the lower half of the number and the upper, one part behind the other. Assumes nothing.
-use Rattle.octets.proofs.Halves.{put_halves}
+-- `octets::put_u32` meets its contract: the number's bytes are copied. Assumes nothing.
+use mathlib.Core.Path.{ap, ◌∙◌}
+use mathlib.Core.List.{List}
+use Rattle.octets.specs.Strings.{over}
+use Rattle.octets.proofs.Conversions.{library_bytes}
+use Prim.Native.Nat.{ℕ}
 use Rattle.octets.proofs.put_u32.Goals as goal
 
 pub returns : goal.returns
-returns c =
-    let a = c.args in
-    put_halves 2 a.out.now a.i a.x c.put_u16.new.out c.put_u16-2.new.out
-    c.requires
-    c.put_u16.ensures
-    c.put_u16-2.ensures
+returns c = c.copy_at.ensures ∙ ap (λ (l : List ℕ). over c.args.out.now c.args.i l) (c.to_le_bytes.ensures ∙ library_bytes 4 c.args.x)

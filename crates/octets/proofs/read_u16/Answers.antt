@@ -2,6 +2,7 @@
 use mathlib.Core.Path.{sym}
 use native.Mathlib.Omega.{arith}
 use Rattle.octets.specs.Numbers.{le_at}
+use Rattle.octets.proofs.Conversions.{from_two}
 use Rattle.octets.proofs.Numbers.{le_at_past}
 use Rattle.octets.proofs.read_u16.Goals as goal
 
@@ -11,4 +12,4 @@ returns-then-s-i c =
 
 pub returns : goal.returns
 unfolding le_at
-returns c = omega arith
+returns c = rw (c.from_le_bytes.ensures, from_two c.byte_at.result c.byte_at-2.result, c.byte_at.ensures, c.byte_at-2.ensures) (omega arith)

@@ -13,4 +13,4 @@ returns-then-s-i-ge4 c = c.word_of.ensures.number ∙ le_at_four _ _
 pub returns : goal.returns
 returns c =
     let a = c.args in
-    rw (c.read_u16-low.ensures, c.read_u16-high.ensures) (sym (le_at_add 2 2 a.s.now a.i))
+    rw (c.from.ensures, c.from-2.ensures, c.read_u16-low.ensures, c.read_u16-high.ensures) (sym (le_at_add 2 2 a.s.now a.i))

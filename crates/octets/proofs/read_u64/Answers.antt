@@ -10,4 +10,4 @@ returns-then-s-i c =
 pub returns : goal.returns
 returns c =
     let a = c.args in
-    rw (c.read_u32-low.ensures, c.read_u32-high.ensures) (sym (le_at_add 4 4 a.s.now a.i))
+    rw (c.from.ensures, c.from-2.ensures, c.read_u32-low.ensures, c.read_u32-high.ensures) (sym (le_at_add 4 4 a.s.now a.i))

@@ -1,9 +1,8 @@
--- `types::Eui64::from_be_bytes` meets its contract: each byte is read at its place from the end. Assumes nothing.
-use mathlib.Core.Path.{refl}
-use Rattle.octets.specs.Strings.{tab}
-use Rattle.types.specs.Addresses.{reversed}
+-- `types::Eui64::from_be_bytes` meets its contract: eight bytes the other way round. Assumes nothing.
+use Rattle.std.proofs.Common.{rules}
+use mathlib.Core.Path.{◌∙◌}
+use Rattle.types.proofs.Addresses.{reverse_eight}
 use Rattle.types.proofs.Eui64.from_be_bytes.Goals as goal
 
 pub returns : goal.returns
-unfolding reversed tab
-returns c = refl
+returns c = c.reverse.ensures.after ∙ reverse_eight c.args.bytes (search rules)

@@ -1,13 +1,16 @@
--- `types::PanId::deserialize` meets its contract: below two bytes nothing, else the number at the front. Assumes nothing.
+-- `types::PanId::deserialize` meets its contract: below two bytes nothing, else what the front gives. Assumes nothing.
 use mathlib.Core.Path.{refl}
 use borrow.Author.Tests.{lt-ltb, le-ltb}
+use Rattle.octets.proofs.Conversions.{from_front}
 use Rattle.types.specs.Addresses.{read_pan_id}
 use Rattle.types.proofs.PanId.deserialize.Goals as goal
 
-pub returns-then-bytes-lt2 : goal.returns-then-bytes-lt2
+pub returns-in_err-first : goal.returns-in_err-first
 unfolding read_pan_id
-returns-then-bytes-lt2 c = rw (lt-ltb _ _ c.if-bytes-lt2.true) refl
+returns-in_err-first c = rw (lt-ltb _ _ c.in_err-first.ensures.cases) c.from_residual.ensures
 
 pub returns : goal.returns
 unfolding read_pan_id
-returns c = rw (le-ltb _ _ c.if-bytes-lt2.false, c.read_u16.ensures) refl
+returns c =
+    let h = c.in_ok-first.ensures.cases in
+    rw (le-ltb _ _ h.enough, c.from_le_bytes.ensures, h.same, from_front _ h.enough) refl

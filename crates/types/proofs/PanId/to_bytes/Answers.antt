@@ -1,13 +1,7 @@
--- `types::PanId::to_bytes` meets its contract: the lower byte and the upper. Assumes nothing.
-use native.Mathlib.Nat.{mod-eq_of_lt}
-use Prim.Native.Nat.{◌/◌, ◌<◌}
-use native.Mathlib.Omega.{arith}
-use Rattle.octets.specs.Numbers.{le}
+-- `types::PanId::to_bytes` meets its contract: the library's bytes are the definition's. Assumes nothing.
+use mathlib.Core.Path.{◌∙◌}
+use Rattle.octets.proofs.Conversions.{library_bytes}
 use Rattle.types.proofs.PanId.to_bytes.Goals as goal
 
 pub returns : goal.returns
-unfolding le
-returns c =
-    let x = c.args.self.0 in
-    let small : x / 256 < 256 = omega arith in
-    rw (mod-eq_of_lt small)
+returns c = c.to_le_bytes.ensures ∙ library_bytes 2 c.args.self.0
