@@ -1,9 +1,19 @@
 -- The fields of a line: words of hexadecimal digits, "-" for nothing.
 -- Assumes nothing.
-use Rattle.std.specs.Prelude.{Bool, true, cond, List, [], ◌∷◌, ℕ, ◌/◌, min, length}
-use Rattle.casefile.specs.declared.fields.FieldRead.{FieldRead}
+use Rattle.std.specs.Prelude.{true, cond, List, [], ◌∷◌, ℕ, ◌/◌, min, length, Bool, false, Result, Ok, Err}
+use Rattle.casefile.specs.declared.fields.Malformed.{Malformed}
 use Rattle.casefile.specs.Hex.{hex_bytes, is_hex}
 use Rattle.casefile.specs.Texts.{same_text}
+
+-- what reading a word gives: whether it is a field, and how many bytes it is read as
+pub record FieldRead : Type 0 where
+  pub good : Bool
+  pub n : ℕ
+
+-- the same, of the code's answer
+abbrev pub told_field : Result ℕ Malformed → FieldRead
+told_field (Ok n) = record { good = true; n = n }
+told_field (Err e) = record { good = false; n = e.touched }
 
 -- whether a word is "-" (0x2d)
 abbrev pub is_dash : List ℕ → Bool

@@ -53,7 +53,7 @@ pub fn within(n: usize, s: &[u8]) -> usize
     ensures prefix_len { IsPrefixLen result s.now }
     ensures value { result ≡ min n (length s.now) }
 {
-    if n < s.len() { n } else { s.len() }
+    n.min(s.len())
 }
 
 // Where the byte `mark` stands next from `at` on, or the end of the text.
@@ -62,12 +62,10 @@ pub fn next(text: &[u8], at: usize, mark: u8) -> usize
     ensures bounds { (at ≤ result) × (result ≤ length text.now) }
     ensures value { result ≡ at + before mark (drop at text.now) }
 {
-    let mut end = at;
-    while end < text.len() {
+    for end in at..text.len() {
         if text[end] == mark {
             return end;
         }
-        end += 1;
     }
-    end
+    text.len()
 }

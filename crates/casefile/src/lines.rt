@@ -39,24 +39,14 @@ pub struct Run {
 fn agreed_by(line: Line) -> u64
     ensures { (result ≡ agreed_by line) × (result ≤ 1) }
 {
-    match line {
-        Line::Comment => 0,
-        Line::Agrees => 1,
-        Line::Differs => 0,
-        Line::Damaged => 0,
-    }
+    u64::from(matches!(line, Line::Agrees))
 }
 
 // How many cases a line adds to those that were tried.
 fn tried_by(line: Line) -> u64
     ensures { (result ≡ tried_by line) × (result ≤ 1) }
 {
-    match line {
-        Line::Comment => 0,
-        Line::Agrees => 1,
-        Line::Differs => 1,
-        Line::Damaged => 1,
-    }
+    u64::from(!matches!(line, Line::Comment))
 }
 
 // Names a line that differs or is damaged.
@@ -109,10 +99,7 @@ impl Run {
         let line = self.line(text, shown);
         let passed = self.passed + 1;
         named(rt, line, name, passed);
-        let mut at = self.end;
-        if at < text.len() {
-            at += 1;
-        }
+        let at = (self.end + 1).min(text.len());
         Run {
             at,
             end: file::next(text, at, b'\n'),

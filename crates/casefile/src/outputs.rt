@@ -11,12 +11,10 @@ pub const FILLER: u8 = 0xA5;
 pub fn untouched(s: &[u8]) -> bool
     ensures { result ≡ all_filler s.now }
 {
-    let mut i = 0;
-    while i < s.len() {
-        if s[i] != FILLER {
+    for &byte in s {
+        if byte != FILLER {
             return false;
         }
-        i += 1;
     }
     true
 }
@@ -26,8 +24,5 @@ pub fn holds(out: &[u8], text: &[u8]) -> bool
     ensures { result ≡ text_then_filler text.now out.now }
 {
     let n = file::within(text.len(), out);
-    if !check::same(&out[..n], text) {
-        return false;
-    }
-    untouched(&out[n..])
+    check::same(&out[..n], text) && untouched(&out[n..])
 }

@@ -1,5 +1,5 @@
 // The words of a line, one space between two: bytes, a letter, a decimal number.
-ghost use Rattle.std.specs.Prelude.{◌≡◌, ◌≤◌, length};
+ghost use Rattle.std.specs.Prelude.{◌≡◌, ◌≤◌, ◌<◌, length, unwrap_or, IfSome, IfNone};
 ghost use Rattle.casefile.specs.Texts.{same_text};
 ghost use Rattle.casefile.specs.Words.{word_start, word_of, is_last, letter_of, decimal_value, decimal_of};
 
@@ -10,18 +10,16 @@ fn word_start(line: &[u8], k: usize) -> usize
     ensures upper_bound { result ≤ length line.now }
     ensures value { result ≡ word_start line.now k }
 {
-    let mut i = 0;
     let mut left = k;
-    while i < line.len() {
+    for i in 0..line.len() {
         if left == 0 {
             return i;
         }
         if line[i] == b' ' {
             left -= 1;
         }
-        i += 1;
     }
-    i
+    line.len()
 }
 
 // Word k of a line, counted from 0: empty where there is none.
@@ -53,31 +51,36 @@ pub fn is(line: &[u8], k: usize, text: &[u8]) -> bool
 pub fn letter(line: &[u8]) -> u8
     ensures { result ≡ letter_of (word_of line.now 0) }
 {
-    let w = word(line, 0);
-    if w.len() == 1 { w[0] } else { 0 }
+    match word(line, 0) {
+        &[letter] => letter,
+        _ => 0,
+    }
 }
 
-// The value of a decimal digit, and 1000 for any other byte.
-fn decimal(b: u8) -> usize
-    ensures { (result ≡ decimal_value b) × (result ≤ 1000) }
+// The value of a decimal digit; any other byte has none.
+#[tactic(auto, unfolding(crate::specs::Words::decimal_value))]
+fn decimal(b: u8) -> Option<usize>
+    ensures value { unwrap_or result 1000 ≡ decimal_value b }
+    ensures below { IfSome result (λ value. value < 10) }
 {
-    let d = hex::digit(b);
-    if d < 10 { d as usize } else { 1000 }
+    let digit = hex::digit(b)?;
+    if digit < 10 {
+        Some(usize::from(digit))
+    } else {
+        None
+    }
 }
 
-// The number that word k of a line stands for, one to three digits, and 1000 or more for any other word.
-pub fn number(line: &[u8], k: usize) -> usize
-    ensures { result ≡ decimal_of (word_of line.now k) }
+// The number that word k of a line stands for, if it is one to three digits.
+#[tactic(auto, unfolding(crate::specs::Words::decimal_of))]
+pub fn number(line: &[u8], k: usize) -> Option<usize>
+    ensures none { IfNone result (1000 ≤ decimal_of (word_of line.now k)) }
+    ensures some { IfSome result (λ n. (n ≡ decimal_of (word_of line.now k)) × (n < 1000)) }
 {
-    let w = word(line, k);
-    if w.len() == 1 {
-        return decimal(w[0]);
+    match word(line, k) {
+        &[a] => decimal(a),
+        &[a, b] => Some(10 * decimal(a)? + decimal(b)?),
+        &[a, b, c] => Some(100 * decimal(a)? + 10 * decimal(b)? + decimal(c)?),
+        _ => None,
     }
-    if w.len() == 2 {
-        return 10 * decimal(w[0]) + decimal(w[1]);
-    }
-    if w.len() == 3 {
-        return 100 * decimal(w[0]) + 10 * decimal(w[1]) + decimal(w[2]);
-    }
-    1000
 }

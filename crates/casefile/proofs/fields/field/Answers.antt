@@ -23,31 +23,38 @@ pub returns-then-same-clause-out_after : goal.returns-then-same-clause-out_after
 returns-then-same-clause-out_after c =
     let same = c.same in
     let dash = rw c.word-w.ensures at (sym (same_text_lem same.result _ _ same.ensures.0 same.ensures.1) ∙ c.if-same.true) in
-    λ t. sym (bytes_dash _ _ dash)
+    sym (bytes_dash _ _ dash)
 
-pub returns-clause-value : goal.returns-clause-value
-returns-clause-value c =
+pub returns-then-decode-clause-value : goal.returns-then-decode-clause-value
+returns-then-decode-clause-value c =
     let w = c.word-w.ensures in
     let entry = c.args in
-    let same = c.same in
     let n = c.within-n in
-    let d = c.decode-good in
     let word : List ℕ = word_of entry.line.now entry.k in
     let no-dash : is_dash word ≡ false =
-    rw (← w) (sym (same_text_lem same.result _ _ same.ensures.0 same.ensures.1) ∙ c.if-same.false) in
+    rw (← w) (sym (same_text_lem c.same.result _ _ c.same.ensures.0 c.same.ensures.1) ∙ c.if-same.false) in
     let count : n.result ≡ min (length word / 2) (length entry.out.now) = rw (← w) n.ensures.value in
-    let good : d.result ≡ is_hex word (length (take n.result entry.out.now)) = rw (← w) d.ensures.value in
+    let good : true ≡ is_hex word (length (take n.result entry.out.now)) = rw (← w) (sym c.if-decode.true ∙ c.decode.ensures.value) in
     sym (field_digits word _ _ _ _ no-dash count (length-take-le _ _ n.ensures.prefix_len.0) good)
 
-pub returns-clause-out_after : goal.returns-clause-out_after
-returns-clause-out_after c =
+pub returns-then-decode-clause-out_after : goal.returns-then-decode-clause-out_after
+returns-then-decode-clause-out_after c =
     let w = c.word-w.ensures in
     let entry = c.args in
-    let same = c.same in
-    let n = c.within-n in
-    let d = c.decode-good in
     let word : List ℕ = word_of entry.line.now entry.k in
     let no-dash : is_dash word ≡ false =
-    rw (← w) (sym (same_text_lem same.result _ _ same.ensures.0 same.ensures.1) ∙ c.if-same.false) in
-    let bytes : d.result ≡ true → d.new.out ≡ hex_bytes word = rw (← w) d.ensures.out_after in
-    λ t. ap (λ (l : List ℕ). l ++ drop n.result entry.out.now) (bytes t ∙ sym (bytes_digits word no-dash))
+    rw (← w) (sym (same_text_lem c.same.result _ _ c.same.ensures.0 c.same.ensures.1) ∙ c.if-same.false) in
+    let bytes : c.decode.new.out ≡ hex_bytes word = rw (← w) (c.decode.ensures.out_after c.if-decode.true) in
+    ap (λ (l : List ℕ). l ++ drop c.within-n.result entry.out.now) (bytes ∙ sym (bytes_digits word no-dash))
+
+pub returns-else-decode-clause-value : goal.returns-else-decode-clause-value
+returns-else-decode-clause-value c =
+    let w = c.word-w.ensures in
+    let entry = c.args in
+    let n = c.within-n in
+    let word : List ℕ = word_of entry.line.now entry.k in
+    let no-dash : is_dash word ≡ false =
+    rw (← w) (sym (same_text_lem c.same.result _ _ c.same.ensures.0 c.same.ensures.1) ∙ c.if-same.false) in
+    let count : n.result ≡ min (length word / 2) (length entry.out.now) = rw (← w) n.ensures.value in
+    let good : false ≡ is_hex word (length (take n.result entry.out.now)) = rw (← w) (sym c.if-decode.false ∙ c.decode.ensures.value) in
+    sym (field_digits word _ _ _ _ no-dash count (length-take-le _ _ n.ensures.prefix_len.0) good)

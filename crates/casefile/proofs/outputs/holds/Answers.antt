@@ -5,14 +5,14 @@ use mathlib.Core.Path.{sym, ◌∙◌}
 use Rattle.casefile.proofs.Texts.{holds_not, holds_rest}
 use Rattle.casefile.proofs.outputs.holds.Goals as goal
 
-pub returns-then-not-same : goal.returns-then-not-same
-returns-then-not-same c =
+pub returns-else-same : goal.returns-else-same
+returns-else-same c =
     let w = c.within-n in
     let s = c.same in
-    sym (holds_not w.result _ _ w.ensures.value (λ e. false≢true (sym c.if-not-same.true ∙ s.ensures.1 e)))
+    c.if-same.false ∙ sym (holds_not w.result _ _ w.ensures.value (λ e. false≢true (sym c.if-same.false ∙ s.ensures.1 e)))
 
-pub returns : goal.returns
-returns c =
+pub returns-then-same : goal.returns-then-same
+returns-then-same c =
     let w = c.within-n in
     let s = c.same in
-    c.untouched.ensures ∙ sym (holds_rest w.result _ _ w.ensures.value (s.ensures.0 c.if-not-same.false))
+    c.untouched.ensures ∙ sym (holds_rest w.result _ _ w.ensures.value (s.ensures.0 c.if-same.true))
