@@ -8,7 +8,7 @@ use store_reader::Refusal;
 use support::command::{root, run};
 use support::header_comments::refusals;
 
-/// The constants of the code, with the documents' words above each.
+/// The enum of the code, with the documents' words above each variant.
 const CODE: &str = "crates/octets/src/refusals.rt";
 
 /// Name, number and text of each refusal.
@@ -18,25 +18,33 @@ fn in_rust() -> Listed {
     Refusal::all().map(|r| (r.name().to_string(), r.number(), r.condition().to_string())).collect()
 }
 
-/// The constants of the code: a comment line `// 14: ..` above `pub const NO_AUXILIARY: u8 = 14;`. A comment may run on.
+/// The variants of the code: a comment line `// a frame ..` above `TooLong = 1,`. A comment may run on.
 fn in_code(text: &str) -> Listed {
     let mut listed = Listed::new();
     let mut comment: Vec<&str> = Vec::new();
     for line in text.lines().map(str::trim) {
         if let Some(words) = line.strip_prefix("//") {
             comment.push(words.trim());
-        } else if let Some((name, number)) = line.strip_prefix("pub const ").and_then(|rest| rest.split_once(": u8 = "))
-        {
-            let number: u8 = number.trim_end_matches(';').parse().expect("a number");
-            let words = comment.join(" ");
-            let words = words.strip_prefix(&format!("{number}: ")).unwrap_or_else(|| panic!("{name}: {words}"));
-            listed.push((name.to_string(), number, words.to_string()));
+        } else if let Some((name, number)) = line.strip_suffix(',').and_then(|variant| variant.split_once(" = ")) {
+            listed.push((in_capitals(name), number.parse().expect("a number"), comment.join(" ")));
             comment.clear();
         } else {
             comment.clear();
         }
     }
     listed
+}
+
+/// `TooLong` as `TOO_LONG`.
+fn in_capitals(variant: &str) -> String {
+    let mut name = String::new();
+    for letter in variant.chars() {
+        if letter.is_uppercase() && !name.is_empty() {
+            name.push('_');
+        }
+        name.push(letter.to_ascii_uppercase());
+    }
+    name
 }
 
 #[test]
@@ -51,8 +59,8 @@ fn the_code_has_the_same_list() {
 }
 
 #[test]
-fn constants_are_read_with_the_words_above_them() {
-    let text = "// The refusals.\n\n// 1: too\n// long\npub const TOO_LONG: u8 = 1;\n\n// 2: short\npub const SHORT: u8 = 2;\n";
+fn variants_are_read_with_the_words_above_them() {
+    let text = "// The refusals.\npub enum Refusal {\n    // too\n    // long\n    TooLong = 1,\n    // short\n    Short = 2,\n}\n";
     let listed = [("TOO_LONG", 1, "too long"), ("SHORT", 2, "short")];
     assert_eq!(in_code(text), listed.map(|(name, number, words)| (name.to_string(), number, words.to_string())));
 }
