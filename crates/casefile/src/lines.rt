@@ -118,3 +118,17 @@ impl Run {
         report::total(rt, name, self.agreed, self.tried, things);
     }
 }
+
+// Runs every line of a text: `check` says what a line shows, which it is given without its newline.
+pub fn run_text<F: Fn(&[u8]) -> Line>(rt: &impl Print, name: &[u8], text: &[u8], check: F) -> Run
+    requires { F.IsAlwaysCallable check }
+    ensures stands { Stands text.now result }
+    ensures whole { result.at ≡ length text.now }
+{
+    let mut run = Run::over(text);
+    while run.at < text.len() {
+        let shown = check(&text[run.at..run.end]);
+        run = run.counted(rt, text, name, shown);
+    }
+    run
+}
