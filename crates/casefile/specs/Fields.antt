@@ -10,6 +10,9 @@ pub record FieldRead : Type 0 where
   pub good : Bool
   pub n : ℕ
 
+abbrev pub field_read : Bool → ℕ → FieldRead
+field_read good n = record { good = good; n = n }
+
 -- the same, of the code's answer
 abbrev pub told_field : Result ℕ Malformed → FieldRead
 told_field (Ok n) = record { good = true; n = n }

@@ -1,9 +1,15 @@
 -- A run over the lines of a text: what a line counts as, and what is counted.
 -- Assumes nothing.
-use Rattle.std.specs.Prelude.{cond, List, ℕ, ◌+◌, ◌≤◌, min, eqb, length, get_or, drop}
+use Rattle.std.specs.Prelude.{Bool, true, false, Option, Some, None, cond, List, ℕ, ◌+◌, ◌≤◌, min, eqb, length, get_or, drop}
 use Rattle.casefile.specs.Texts.{before}
 use Rattle.casefile.specs.declared.{lines.Run.Run, lines.Line.Line}
 use Rattle.casefile.specs.declared.lines.Line.TheVariants.{Comment, Agrees, Differs, Damaged}
+
+-- what a case shows: whether it agrees, or nothing where its words are not well formed
+abbrev pub shown : Option Bool → Line
+shown (Some true) = Agrees
+shown (Some false) = Differs
+shown None = Damaged
 
 -- what a line counts as: damaged where no newline ends it, a comment where it starts with '#' (0x23), and else what was shown
 unfoldable pub line_of : List ℕ → Run → Line → Line

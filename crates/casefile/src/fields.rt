@@ -1,8 +1,8 @@
 // The fields of a line: words of hexadecimal digits, "-" for nothing.
-ghost use Rattle.std.specs.Prelude.{◌≡◌, ◌&&◌, ◌++◌, eqb, length, drop, IfOk};
+ghost use Rattle.std.specs.Prelude.{◌≡◌, ◌++◌, true, length, drop, IfOk, IfSome, IfNone};
 ghost use Rattle.casefile.specs.Texts.{IsPrefixLen};
 ghost use Rattle.casefile.specs.Words.{word_of};
-ghost use Rattle.casefile.specs.Fields.{field_of, field_bytes, told_field};
+ghost use Rattle.casefile.specs.Fields.{field_read, field_of, field_bytes, told_field};
 
 use crate::{file, hex, words};
 
@@ -31,9 +31,14 @@ pub fn field(line: &[u8], k: usize, out: &mut [u8]) -> Result<usize, Malformed>
     }
 }
 
-// Whether a field is well formed and has n bytes.
-pub fn whole(f: Result<usize, Malformed>, n: usize) -> bool
-    ensures { result ≡ ((told_field f).good && eqb (told_field f).n n) }
+// The bytes of word k, if it is a field of just as many.
+pub fn exact<const N: usize>(line: &[u8], k: usize) -> Option<[u8; N]>
+    ensures some { IfSome result (λ bytes. (field_of (word_of line.now k) N ≡ field_read true N) × (bytes ≡ field_bytes (word_of line.now k))) }
+    ensures none { IfNone result (field_of (word_of line.now k) N ≡ field_read true N → ⊥) }
 {
-    matches!(f, Ok(m) if m == n)
+    let mut bytes = [0u8; N];
+    match field(line, k, &mut bytes) {
+        Ok(n) if n == N => Some(bytes),
+        _ => None,
+    }
 }

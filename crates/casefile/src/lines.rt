@@ -1,7 +1,6 @@
 // The one way through a file of cases, line by line: what each line shows, and the tally.
-ghost use Rattle.std.specs.Prelude.{◌≡◌, cond, ◌≤◌, ◌<◌, length};
-ghost use Rattle.casefile.specs.declared.lines.Line.{Line};
-ghost use Rattle.casefile.specs.Lines.{Stands, line_of, agreed_by, tried_by, run_over, counted_run};
+ghost use Rattle.std.specs.Prelude.{◌≡◌, ◌≤◌, ◌<◌, length};
+ghost use Rattle.casefile.specs.Lines.{Stands, shown, line_of, agreed_by, tried_by, run_over, counted_run};
 
 use crate::{file, report};
 
@@ -14,14 +13,17 @@ pub enum Line {
     Damaged,
 }
 
-// What a case shows: damaged unless its words are well formed.
-pub fn shown(good: bool, agrees: bool) -> Line
-    ensures { result ≡ cond good (cond agrees Line.Agrees Line.Differs) Line.Damaged }
-{
-    if !good {
-        return Line::Damaged;
+// What a case shows: whether it agrees, or nothing where its words are not well formed.
+impl From<Option<bool>> for Line {
+    ghost from_gives = { λ agrees line. line ≡ shown agrees };
+
+    fn from(agrees: Option<bool>) -> Line {
+        match agrees {
+            Some(true) => Line::Agrees,
+            Some(false) => Line::Differs,
+            None => Line::Damaged,
+        }
     }
-    if agrees { Line::Agrees } else { Line::Differs }
 }
 
 // A run over the lines of a text: where the line to run next starts and ends, how many lines are behind it, and of the cases
