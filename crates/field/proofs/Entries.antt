@@ -1,10 +1,11 @@
 -- The table of the rounds by its entries: at each byte the four bytes of the entry are the multiples of what the byte is substituted by. The
 -- two copies of an entry are one number of eight bytes, and four of them in a row are the multiples turned.
 -- Assumes nothing.
-use mathlib.Core.Path.{◌≡◌, sym, ap, ◌∙◌}
+use mathlib.Core.Path.{◌≡◌, refl, sym, ap, ◌∙◌}
 use mathlib.Core.List.{List, ◌++◌}
-use Prim.Native.Nat.{ℕ, zero, suc, ◌+◌, ◌*◌, ◌/◌, ◌%◌, ◌^◌, ◌<◌}
-use native.Mathlib.Nat.{le_of_suc-le-suc, not-suc-le-zero, add-zero, zero-add, add-suc, suc-add}
+use Prim.Native.Nat.{ℕ, zero, suc, ◌+◌, ◌*◌, ◌/◌, ◌%◌, ◌^◌, ◌-◌, ◌<◌, ◌≤◌}
+use native.Mathlib.Nat.{le_of_suc-le-suc, not-suc-le-zero, add-zero, zero-add, add-suc, suc-add, pow-suc}
+use Rattle.std.proofs.Common.{pow-add}
 use native.Mathlib.Omega.{arith}
 use lib.ListN.{get_or, take, drop}
 use lib.Seq.{take_at, drop_at}
@@ -42,15 +43,20 @@ pub entry_bytes : (x w : ℕ) → w ≡ round_entry x → le 4 w ≡ multiples (
 unfolding round_entry
 entry_bytes x w e = ap (le 4) e ∙ multiples_back (sbox x) (sbox_byte x)
 
+-- an entry is four bytes
+entry_below : (x : ℕ) → round_entry x < 2 ^ 32
+unfolding le_at multiples round_entry
+entry_below x = omega (arith, sbox_byte x, double_byte (sbox x) (sbox_byte x), triple_byte (sbox x) (sbox_byte x))
+
 -- two numbers of four bytes as one of eight
-pub joined : (a b : ℕ) → a < 2 ^ 32 → le 8 (a + b * 4294967296) ≡ le 4 a ++ le 4 b
+joined : (a b : ℕ) → a < 2 ^ 32 → le 8 (a + b * 4294967296) ≡ le 4 a ++ le 4 b
 joined a b h =
     let low : (a + b * 4294967296) % 4294967296 ≡ a = omega arith in
     let high : (a + b * 4294967296) / 4294967296 ≡ b = omega arith in
     le_add 4 4 (a + b * 4294967296) ∙ (λ i. (sym (le_mod 4 (a + b * 4294967296)) ∙ ap (le 4) low) i ++ ap (le 4) high i)
 
 -- four bytes from place k on of a number that has so many
-pub four_from : (k n w : ℕ) (s : List ℕ) → le (k + (4 + n)) w ≡ s → le 4 (w / 256 ^ k % 256 ^ 4) ≡ take 4 (drop k s)
+four_from : (k n w : ℕ) (s : List ℕ) → le (k + (4 + n)) w ≡ s → le 4 (w / 256 ^ k % 256 ^ 4) ≡ take 4 (drop k s)
 four_from k n w s e =
     let v : ℕ = w / 256 ^ k in
     le_mod 4 v
@@ -58,24 +64,20 @@ four_from k n w s e =
     ∙ ap (take 4) (sym (le_add 4 n v) ∙ sym (drop_at (le k w) (le (4 + n) v) k (length_le k w)))
     ∙ ap (λ (l : List ℕ). take 4 (drop k l)) (sym (le_add k (4 + n) w) ∙ e)
 
--- the substitute by its place in the entry and in those turned from it
-module _ (w y : ℕ) (h : w < 2 ^ 32) where
-  pub first_byte : le 4 w ≡ turned 1 y → w % 256 ≡ y
-  unfolding le turned multiples
-  first_byte e = ap (λ (l : List ℕ). get_or l 0 0) e
+byte_power : (n : ℕ) → 2 ^ (8 * n) ≡ 256 ^ n
+byte_power zero = refl
+byte_power (suc n) =
+    let e : 8 * suc n ≡ 8 * n + 8 = omega arith in
+    rw (e, pow-add, byte_power n) (sym (pow-suc 256 n))
 
-  pub second_byte : le 4 w ≡ multiples y → w / 256 % 256 ≡ y
-  unfolding le multiples
-  second_byte e = ap (λ (l : List ℕ). get_or l 1 0) e
-
-  pub third_byte : le 4 w ≡ multiples y → w / 65536 % 256 ≡ y
-  unfolding le multiples
-  third_byte e =
-      let split : w / 65536 ≡ w / 256 / 256 = omega arith in
-      ap (λ (n : ℕ). n % 256) split ∙ ap (λ (l : List ℕ). get_or l 2 0) e
-
-  pub fourth_byte : le 4 w ≡ turned 3 y → w / 16777216 ≡ y
-  unfolding le turned multiples
-  fourth_byte e =
-      let split : w / 16777216 ≡ w / 256 / 256 / 256 % 256 = omega arith in
-      split ∙ ap (λ (l : List ℕ). get_or l 3 0) e
+-- four bytes of an entry's two copies in a row, from place n on
+pub turned_entry : (n x a b : ℕ) → n ≤ 4 → a ≡ round_entry x → b ≡ round_entry x
+    → le 4 ((a + b * 4294967296 % 18446744073709551616) / 2 ^ (8 * n) % 4294967296) ≡ turned n (sbox x)
+unfolding turned
+turned_entry n x a b h ea eb =
+    let small : a < 2 ^ 32 = rw ea (entry_below x) in
+    let other : b < 2 ^ 32 = rw eb (entry_below x) in
+    let whole : a + b * 4294967296 % 18446744073709551616 ≡ a + b * 4294967296 = omega arith in
+    let eight : 8 ≡ n + (4 + (4 - n)) = omega arith in
+    let copies : le 8 (a + b * 4294967296) ≡ multiples (sbox x) ++ multiples (sbox x) = joined a b small ∙ (λ i. entry_bytes x a ea i ++ entry_bytes x b eb i) in
+    rw (whole, byte_power n) (four_from n (4 - n) (a + b * 4294967296) _ (ap (λ (k : ℕ). le k (a + b * 4294967296)) (sym eight) ∙ copies))

@@ -7,4 +7,4 @@ use Rattle.field.proofs.substitute.Goals as goal
 
 pub returns : goal.returns
 unfolding s_box_table
-returns c = rw c.requires (get_or_values sbox 256 _ (search rules))
+returns c = rw (c.s_box.ensures, c.from.ensures) (get_or_values sbox 256 _ (search rules))
