@@ -3,4 +3,3 @@ pub mod Words
 pub mod Rounds
 pub mod KeyExpansion
 pub mod Cipher
-pub mod Table
