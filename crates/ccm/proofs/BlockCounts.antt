@@ -1,17 +1,18 @@
 -- The number of block encryptions of a run: it goes by the lengths alone, and is 2 + ⌈(2 + a) / 16⌉ + 2 · ⌈p / 16⌉ for a bytes of
 -- associated data, a above 0, and p of payload. By induction along the chain and the key stream.
 -- Assumes nothing.
-use mathlib.Core.Path.{◌≡◌, refl, sym, ap, ◌∙◌}
-use mathlib.Core.List.{List, [], ◌∷◌}
+use mathlib.Core.Path.{◌≡◌, refl, sym, ◌∙◌}
+use mathlib.Core.List.{List}
 use Prim.Native.Nat.{ℕ, zero, suc, ◌+◌, ◌*◌, ◌/◌, ◌<◌}
 use native.Mathlib.Omega.{arith}
+use Rattle.std.proofs.lemmas.Bool.Decides.{nat_tests}
 use lib.ListN.{length}
 use Rattle.ccm.specs.Formatting.{encoded_data, blocks_of, last_block, formatted}
 use Rattle.ccm.specs.Counters.{key_stream, stream_for, counter_mode}
 use Rattle.ccm.specs.Mac.{chain, mac_chain}
 use Rattle.ccm.specs.Generation.{blocks_of_run, generation_encryption}
 use Rattle.ccm.specs.Verification.{decryption_verification}
-use Rattle.ccm.proofs.Blocks.{length_data_none, length_data}
+use Rattle.ccm.proofs.Blocks.{length_data}
 use Rattle.ccm.proofs.Opening.{length_counter_mode}
 
 pub chain_blocks : (ciph : List ℕ → List ℕ) (b : ℕ → List ℕ) (i : ℕ) → (chain ciph b i).blocks ≡ i + 1
@@ -26,9 +27,7 @@ stream_blocks ciph nonce (suc m) = rw (stream_blocks ciph nonce m) (omega arith)
 
 -- the blocks of the data behind its length
 data_blocks : (a : List ℕ) → 0 < length a → length (encoded_data a) ≡ 2 + length a
-data_blocks a h =
-    let n : length a ≡ 0 → ⊥ = λ e. omega arith in
-    sym (length_data a n) ∙ omega arith
+data_blocks a h = grind (arith, nat_tests, length_data)
 
 module _ (t : ℕ) (ciph : List ℕ → List ℕ) (nonce : List ℕ) where
   pub run_blocks : (a p : List ℕ) → blocks_of_run t ciph nonce a p ≡ last_block a p + 2 + blocks_of (length p)
@@ -44,7 +43,7 @@ module _ (t : ℕ) (ciph : List ℕ → List ℕ) (nonce : List ℕ) where
   -- with none
   pub run_blocks_none : (a p : List ℕ) → length a ≡ 0 → blocks_of_run t ciph nonce a p ≡ 2 + 2 * ((length p + 15) / 16)
   unfolding last_block blocks_of
-  run_blocks_none a p h = run_blocks a p ∙ rw (← length_data_none a h) (omega arith)
+  run_blocks_none a p h = run_blocks a p ∙ rw (length_data a, h) (omega arith)
 
   pub generation_blocks : (a p : List ℕ) → (generation_encryption t ciph nonce a p).blocks ≡ blocks_of_run t ciph nonce a p
   unfolding generation_encryption
@@ -52,11 +51,7 @@ module _ (t : ℕ) (ciph : List ℕ → List ℕ) (nonce : List ℕ) where
 
 -- the number goes by the lengths alone, whatever the tag's length, the cipher function, the nonce and the bytes
 same_data : (a b : List ℕ) → length a ≡ length b → length (encoded_data a) ≡ length (encoded_data b)
-unfolding encoded_data
-same_data [] [] e = refl
-same_data [] (y ∷ b) e = absurd (omega arith)
-same_data (x ∷ a) [] e = absurd (omega arith)
-same_data (x ∷ a) (y ∷ b) e = sym (length_data (x ∷ a) (λ z. omega arith)) ∙ ap (λ (n : ℕ). n + 2) e ∙ length_data (y ∷ b) (λ z. omega arith)
+same_data a b e = rw (length_data, e) (sym (length_data b))
 
 pub blocks_by_lengths : (t t' : ℕ) (ciph ciph' : List ℕ → List ℕ) (nonce nonce' a a' p p' : List ℕ) → length a ≡ length a' → length p ≡ length p'
     → blocks_of_run t ciph nonce a p ≡ blocks_of_run t' ciph' nonce' a' p'

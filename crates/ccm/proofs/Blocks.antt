@@ -1,11 +1,13 @@
 -- The formatted input by its bytes and blocks, as the code makes them: each by the cases of the definition.
 -- Assumes nothing.
 use mathlib.Core.Path.{◌≡◌, refl, ap, ◌∙◌}
+use mathlib.Core.Bool.{cond}
+use lib.Dec.{eqb}
 use mathlib.Core.List.{List, [], ◌∷◌, ◌++◌}
-use Prim.Native.Nat.{ℕ, suc, ◌+◌, ◌/◌, ◌%◌, ◌≤◌}
+use Prim.Native.Nat.{ℕ, suc, ◌+◌, ◌≤◌}
 use native.Mathlib.Omega.{arith}
+use borrow.Author.Tests.{ne_eqb}
 use native.Mathlib.Nat.{add_assoc}
-use native.Mathlib.Numerals.{add-two}
 use lib.ListN.{length, get_or, length-append}
 use lib.Seq.{take_all}
 use Rattle.octets.specs.Strings.{tab, Below}
@@ -34,25 +36,15 @@ block_words s p w x y z b ew ex ey ez =
 -- ---- the associated data behind its length
 
 -- none, or the two bytes and the data
-pub data_none : (a : List ℕ) → length a ≡ 0 → encoded_data a ≡ []
+pub data_is : (a : List ℕ) → encoded_data a ≡ cond (eqb (length a) 0) [] (two_bytes (length a) ++ a)
 unfolding encoded_data
-data_none [] e = refl
-data_none (x ∷ a) e = absurd (omega arith)
+data_is [] = refl
+data_is (x ∷ a) = rw (ne_eqb (length (x ∷ a)) 0 (λ e. omega arith)) refl
 
-pub data_some : (a : List ℕ) → (length a ≡ 0 → ⊥) → (length a / 256 % 256 ∷ length a % 256 ∷ []) ++ a ≡ encoded_data a
+pub length_data : (a : List ℕ) → length (encoded_data a) ≡ cond (eqb (length a) 0) 0 (length a + 2)
 unfolding encoded_data two_bytes
-data_some [] n = absurd (n refl)
-data_some (x ∷ a) n = refl
-
-pub length_data_none : (a : List ℕ) → length a ≡ 0 → 0 ≡ length (encoded_data a)
-unfolding encoded_data
-length_data_none [] e = refl
-length_data_none (x ∷ a) e = absurd (omega arith)
-
-pub length_data : (a : List ℕ) → (length a ≡ 0 → ⊥) → length a + 2 ≡ length (encoded_data a)
-unfolding encoded_data two_bytes
-length_data [] n = absurd (n refl)
-length_data (x ∷ a) n = add-two (length (x ∷ a))
+length_data [] = refl
+length_data (x ∷ a) = rw (ne_eqb (length (x ∷ a)) 0 (λ e. omega arith)) (omega arith)
 
 -- at most 127 bytes with their length are at most 129
 pub data_short : (a : List ℕ) → length a ≤ 127 → length (encoded_data a) ≤ 129

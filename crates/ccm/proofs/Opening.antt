@@ -55,6 +55,22 @@ unmasked_at : (n : ℕ) (u s : List ℕ) (i : ℕ) → i < n → get_or (xored n
 unmasked_at n u s i l =
     masked_at n (xored n u s) s i l ∙ ap (λ (x : ℕ). bit_xor x (get_or s i 0)) (masked_at n u s i l) ∙ xor_twice (get_or u i 0) (get_or s i 0)
 
+-- a mask on one side of the comparison may stand on the other
+mask_over : (n : ℕ) (y u s : List ℕ) → same_bytes n (xored n y s) u ≡ true → same_bytes n (xored n u s) y ≡ true
+mask_over n y u s h =
+    same_from n _ y
+    (λ i l.
+    masked_at n u s i l ∙ ap (λ (x : ℕ). bit_xor x (get_or s i 0)) (sym (same_means n (xored n y s) u h i l))
+    ∙ sym (masked_at n (xored n y s) s i l) ∙ unmasked_at n y s i l)
+
+pub same_masked : (n : ℕ) (y u s : List ℕ) → same_bytes n (xored n y s) u ≡ same_bytes n (xored n u s) y
+same_masked n y u s = bool_ext _ _ (mask_over n y u s) (mask_over n u y s)
+  where
+    bool_ext : (a b : Bool) → (a ≡ true → b ≡ true) → (b ≡ true → a ≡ true) → a ≡ b
+    bool_ext true b f g = sym (f refl)
+    bool_ext false true f g = g refl
+    bool_ext false false f g = refl
+
 module _ (ciph : List ℕ → List ℕ) (nonce : List ℕ) where
   pub length_counter_mode : (d : List ℕ) → length (counter_mode ciph nonce d) ≡ length d
   unfolding counter_mode

@@ -16,8 +16,7 @@ use Rattle.types.specs.Levels.{tag_length}
 use Rattle.types.proofs.Levels.{tag_known}
 use Rattle.aes.specs.Cipher.{aes128}
 use Rattle.ccm.specs.Generation.{generation_encryption}
-use Rattle.ccm.specs.declared.Split.{Split}
-use Rattle.ccm.specs.Operations.{in_places, opened_at, opened_under, expanded, seal_refusal, SealRun, seal_refused, seal_passed, encrypt_ccm, open_refusal, given_if, decrypt_ccm, split_refusal, split_refused, split_given, split_mic}
+use Rattle.ccm.specs.Operations.{in_places, opened_at, opened_under, expanded, seal_refusal, SealRun, seal_refused, seal_passed, encrypt_ccm, open_refusal, given_if, decrypt_ccm, split_refusal, Split, split_refused, split_given, split_mic}
 use Rattle.ccm.proofs.Opening.{length_ciphertext, length_payload}
 use Rattle.ccm.proofs.RoundKeys.{opened_under_lem}
 

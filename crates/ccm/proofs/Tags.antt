@@ -1,7 +1,7 @@
 -- The tag by its bytes: the first t bytes of a block, masked, in the 16 places of a MIC; and only as many are compared.
 -- Assumes nothing.
 use mathlib.Core.Path.{◌≡◌, refl, sym, ap, ◌∙◌}
-use mathlib.Core.Bool.{cond, false}
+use mathlib.Core.Bool.{Bool, true, false, cond, ◌&&◌}
 use mathlib.Core.List.{List}
 use Prim.Native.Nat.{ℕ, zero, suc, ◌+◌}
 use native.Mathlib.Omega.{arith}
@@ -14,9 +14,15 @@ use Rattle.octets.proofs.Strings.{take_over}
 use Rattle.ccm.specs.Verification.{same_bytes}
 use Rattle.ccm.specs.Operations.{blank_mic, in_places}
 
-pub same_next : (i : ℕ) (u v : List ℕ) → cond (eqb (get_or u i 0) (get_or v i 0)) (same_bytes i u v) false ≡ same_bytes (i + 1) u v
+and_cond : (s t : Bool) → (s && t) ≡ cond t s false
+and_cond true true = refl
+and_cond true false = refl
+and_cond false true = refl
+and_cond false false = refl
+
+pub same_next : (i : ℕ) (u v : List ℕ) → (same_bytes i u v && eqb (get_or u i 0) (get_or v i 0)) ≡ same_bytes (i + 1) u v
 unfolding same_bytes
-same_next i u v = rw add-one refl
+same_next i u v = and_cond (same_bytes i u v) (eqb (get_or u i 0) (get_or v i 0)) ∙ rw add-one refl
 
 -- only the first n bytes count
 pub same_front : (n : ℕ) (u v u' v' : List ℕ) → take n u ≡ take n u' → take n v ≡ take n v' → same_bytes n u v ≡ same_bytes n u' v'

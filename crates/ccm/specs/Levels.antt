@@ -7,8 +7,7 @@ use Rattle.octets.specs.Refusals.{unless, on, by, first_of}
 use Rattle.octets.specs.Writing.{Run, written, wrote_nothing}
 use Rattle.types.specs.declared.level.Level.{Level}
 use Rattle.types.specs.Levels.{is_other, tag_length}
-use Rattle.ccm.specs.declared.Split.{Split}
-use Rattle.ccm.specs.Operations.{sealed_by, opened_by, SealRun, seal_refused, seal_passed, encrypt_ccm, decrypt_ccm, split_refused, split_given, split_mic}
+use Rattle.ccm.specs.Operations.{sealed_by, opened_by, Split, SealRun, seal_refused, seal_passed, encrypt_ccm, decrypt_ccm, split_refused, split_given, split_mic}
 
 -- ---- "a tag .. given by these alone has 16 places; those past its length are given as 0"
 

@@ -2,18 +2,17 @@
 -- after, refusals included. The MIC is the tag of the network's level l, in 16 places. A refusal is its number, with length 0, zeros for
 -- a MIC and the output as it was.
 -- Assumes nothing.
-use Rattle.std.specs.Prelude.{Bool, cond, not, List, [], ◌∷◌, ℕ, ◌-◌, ltb, length, take, drop, replicate}
+use Rattle.std.specs.Prelude.{Bool, cond, not, List, [], ◌∷◌, ℕ, ◌-◌, ltb, length, take, drop, replicate, Result, Ok, Err}
+use Rattle.octets.specs.declared.refusals.Refusal.{Refusal}
 use Rattle.octets.specs.Strings.{over}
-use Rattle.octets.specs.Refusals.{unless, on, by, first_of}
+use Rattle.octets.specs.Refusals.{unless, on, by, first_of, number_of}
 use Rattle.octets.specs.Writing.{Run, written}
 use Rattle.types.specs.declared.level.Level.{Level}
 use Rattle.types.specs.Levels.{is_other, tag_length}
 use Rattle.aes.specs.KeyExpansion.{key_expansion}
 use Rattle.aes.specs.Cipher.{cipher, aes128}
-use Rattle.aes.specs.Table.{cipher_table}
 use Rattle.ccm.specs.Generation.{Generated, generation_encryption}
 use Rattle.ccm.specs.Verification.{Verified, decryption_verification}
-use Rattle.ccm.specs.declared.{Sealed.Sealed, Split.Split}
 
 -- the 16 places of a MIC, and a tag at their front: those past its length are 0
 abbrev pub blank_mic : List ℕ
@@ -44,15 +43,22 @@ opened_under t w nonce a c mic = decryption_verification t (ciph_under w) nonce 
 unfoldable pub expanded : List ℕ → List (List (List ℕ))
 expanded key = key_expansion key
 
--- the table that the cipher looks up in, which such a caller lends
-abbrev pub lookups : List ℕ
-lookups = cipher_table
-
 -- ---- encrypt_ccm
 
 -- 29 for another level; 1 for the authenticated data, a bytes, and for the payload, p bytes; 18 for the output's room
 unfoldable pub seal_refusal : Level → ℕ → ℕ → ℕ → ℕ
 seal_refusal l a p room = first_of (on 29 (is_other l) ∷ on 1 (ltb 127 a) ∷ on 1 (ltb 127 p) ∷ on 18 (ltb room p) ∷ [])
+
+-- what sealing gives: the refusal's number or 0, how many bytes of the output are the ciphertext, and the MIC beside it
+pub record Sealed : Type 0 where
+  pub refusal : ℕ
+  pub length : ℕ
+  pub mic : List ℕ
+
+-- the same, of the code's answer
+abbrev pub told_sealed : Result (ℕ × List ℕ) Refusal → Sealed
+told_sealed (Ok a) = record { refusal = 0; length = a.0; mic = a.1 }
+told_sealed (Err r) = record { refusal = number_of r; length = 0; mic = blank_mic }
 
 -- a whole run of encrypt_ccm
 pub record SealRun : Type 0 where
@@ -98,6 +104,17 @@ decrypt_ccm l key nonce a c mic out =
 -- 29 for another level; 16 for fewer bytes than the tag
 unfoldable pub split_refusal : Level → ℕ → ℕ
 split_refusal l n = first_of (on 29 (is_other l) ∷ on 16 (ltb n (tag_length l)) ∷ [])
+
+-- what splitting gives: the refusal's number or 0, the length of the ciphertext in front, and the MIC behind it
+pub record Split : Type 0 where
+  pub refusal : ℕ
+  pub length : ℕ
+  pub mic : List ℕ
+
+-- the same, of the code's answer
+abbrev pub told_split : Result (ℕ × List ℕ) Refusal → Split
+told_split (Ok a) = record { refusal = 0; length = a.0; mic = a.1 }
+told_split (Err r) = record { refusal = number_of r; length = 0; mic = blank_mic }
 
 abbrev pub split_refused : ℕ → Split
 split_refused n = record { refusal = n; length = 0; mic = blank_mic }

@@ -1,13 +1,14 @@
 // SP 800-38C, A.3 and 6.1, steps 5 to 8: counter blocks, key stream and counter mode.
+#![tactic(auto, unfolding(crate::specs::Counters::counter_block, crate::specs::Counters::key_block))]
 
 ghost use Rattle.std.specs.Prelude.{◌≡◌, ◌*◌, ◌≤◌, length, take};
 ghost use Rattle.octets.specs.Strings.{over, xored};
 ghost use Rattle.octets.specs.Numbers.{bytes_of};
 ghost use Rattle.aes.specs.Cipher.{cipher};
-ghost use Rattle.aes.specs.Table.{cipher_table};
 ghost use Rattle.ccm.specs.Counters.{counter_block, key_block, key_stream, counter_mode};
 
 use crate::formatting;
+use aes::RoundKeys;
 
 // A.3: Ctr_i.
 fn counter_block(nonce: [u8; 13], i: usize) -> [u32; 4]
@@ -17,30 +18,21 @@ fn counter_block(nonce: [u8; 13], i: usize) -> [u32; 4]
 }
 
 // S_i, the cipher of Ctr_i.
-pub fn key_block(
-    table: &[u32; 512],
-    keys: &[[[u8; 4]; 4]; 11],
-    nonce: [u8; 13],
-    i: usize,
-) -> [u32; 4]
-    requires { table.now ≡ cipher_table }
-    ensures { bytes_of result ≡ key_block (cipher keys.now) nonce i }
+pub fn key_block(keys: &RoundKeys, nonce: [u8; 13], i: usize) -> [u8; 16]
+    ensures { result ≡ key_block (cipher keys.now) nonce i }
 {
-    let b = counter_block(nonce, i);
-    aes::cipher(table, keys, b[0], b[1], b[2], b[3])
+    octets::block_bytes(aes::cipher(keys, counter_block(nonce, i)))
 }
 
 // S_1 to S_m, one behind the other.
-fn key_stream(table: &[u32; 512], keys: &[[[u8; 4]; 4]; 11], nonce: [u8; 13], m: usize) -> [u8; 128]
-    requires { (table.now ≡ cipher_table) × (m ≤ 8) }
+fn key_stream(keys: &RoundKeys, nonce: [u8; 13], m: usize) -> [u8; 128]
+    requires { m ≤ 8 }
     ensures { take (m * 16) result ≡ (key_stream (cipher keys.now) nonce m).bytes }
 {
     let mut stream = [0u8; 128];
-    let mut i = 0;
-    while i < m {
-        let block = octets::block_bytes(key_block(table, keys, nonce, i + 1));
+    for i in 0..m {
+        let block = key_block(keys, nonce, i + 1);
         octets::copy_at(&mut stream, i * 16, &block);
-        i += 1;
     }
     stream
 }
@@ -50,24 +42,16 @@ pub fn mask(d: &[u8], s: &[u8], out: &mut [u8])
     requires { (length d.now ≤ length s.now) × (length d.now ≤ length out.old) }
     ensures { out.new ≡ over out.old 0 (xored (length d.now) d.now s.now) }
 {
-    let mut i = 0;
-    while i < d.len() {
+    for i in 0..d.len() {
         out[i] = d[i] ^ s[i];
-        i += 1;
     }
 }
 
 // The bytes d, exclusive or as many of the key stream, at the front of the output.
-pub fn counter_mode(
-    table: &[u32; 512],
-    keys: &[[[u8; 4]; 4]; 11],
-    nonce: [u8; 13],
-    d: &[u8],
-    out: &mut [u8],
-)
-    requires { (table.now ≡ cipher_table) × (length d.now ≤ 127) × (length d.now ≤ length out.old) }
+pub fn counter_mode(keys: &RoundKeys, nonce: [u8; 13], d: &[u8], out: &mut [u8])
+    requires { (length d.now ≤ 127) × (length d.now ≤ length out.old) }
     ensures { out.new ≡ over out.old 0 (counter_mode (cipher keys.now) nonce d.now) }
 {
-    let stream = key_stream(table, keys, nonce, formatting::blocks_of(d.len()));
+    let stream = key_stream(keys, nonce, formatting::blocks_of(d.len()));
     mask(d, &stream, out);
 }

@@ -1,40 +1,102 @@
 // SP 800-38C, A.2: the formatted input, and its blocks.
+#![tactic(auto, unfolding(crate::specs::Formatting::two_bytes, crate::specs::Formatting::flags, crate::specs::Formatting::first_block, crate::specs::Formatting::blocks_of, crate::specs::Formatting::last_block))]
 
 ghost use Rattle.std.specs.Prelude.{◌≡◌, ◌+◌, ◌*◌, ◌≤◌, ◌<◌, length};
 ghost use Rattle.octets.specs.Strings.{over};
 ghost use Rattle.octets.specs.Numbers.{le_at, bytes_of};
-ghost use Rattle.ccm.specs.Formatting.{headed, flags, first_block, encoded_data, blocks_of, block_at, last_block, Formats};
+ghost use Rattle.ccm.specs.Formatting.{two_bytes, headed, flags, first_block, encoded_data, blocks_of, block_at, last_block, Formats};
 
-// A.2.1: the flags of B_0, for a tag of t bytes and a bytes of associated data.
-fn flags(t: usize, a: usize) -> u8
-    requires { (2 ≤ t) × (t ≤ 16) }
-    ensures { result ≡ flags t a }
-{
-    let tag = 8 * ((t - 2) / 2);
-    if a > 0 {
-        return (64 + tag + 1) as u8;
+// What a tag of t bytes is made for: the nonce, the associated data and the payload.
+#[derive(Drop)]
+pub struct InputData<'a> {
+    pub t: usize,
+    pub nonce: [u8; 13],
+    pub auth: &'a [u8],
+    pub payload: &'a [u8],
+    ghost tag_length: { (2 ≤ t) × (t ≤ 16) },
+    ghost lengths: { (length auth.now ≤ 127) × (length payload.now ≤ 127) },
+}
+
+impl InputData<'_> {
+    // A.2.1: the flags of B_0.
+    fn flags(&self) -> u8
+        ensures { result ≡ flags self.now.t (length self.now.auth.now) }
+    {
+        let data = if self.auth.is_empty() { 0 } else { 64 };
+        (data + 8 * ((self.t - 2) / 2) + 1) as u8
     }
-    (tag + 1) as u8
+
+    // A.2.1: B_0.
+    fn first_block(&self) -> [u32; 4]
+        ensures { bytes_of result ≡ first_block self.now.t self.now.nonce (length self.now.auth.now) (length self.now.payload.now) }
+    {
+        with_nonce(self.flags(), self.nonce, self.payload.len())
+    }
+
+    // How many blocks the associated data fills behind its length.
+    #[tactic(auto, using(crate::proofs::Blocks::length_data), unfolding(crate::specs::Formatting::blocks_of))]
+    fn data_blocks(&self) -> usize
+        ensures { (result ≡ blocks_of (length (encoded_data self.now.auth.now))) × (result ≤ 9) }
+    {
+        if self.auth.is_empty() {
+            0
+        } else {
+            blocks_of(self.auth.len() + 2)
+        }
+    }
+
+    // r, the number of the last block.
+    pub fn last_block(&self) -> usize
+        ensures { (result ≡ last_block self.now.auth.now self.now.payload.now) × (result ≤ 17) }
+    {
+        self.data_blocks() + blocks_of(self.payload.len())
+    }
+
+    // A.2.2: write the associated data behind its length from the second block on, or nothing if there is none.
+    fn put_data(&self, out: &mut [u8])
+        requires { 160 ≤ length out.old }
+        ensures { out.new ≡ over out.old 16 (encoded_data self.now.auth.now) }
+    {
+        if self.auth.is_empty() {
+            return;
+        }
+        octets::copy_at(out, 16, &two_bytes(self.auth.len()));
+        octets::copy_at(out, 18, self.auth);
+    }
+
+    // A.2: the formatted input, B_0 to B_r one behind the other. The places that nothing is written to are the zero fill; all 288 are for
+    // 127 bytes of data behind their length and 127 of payload.
+    pub fn formatted_input(&self) -> [u8; 288]
+        ensures { Formats self.now.t self.now.nonce self.now.auth.now self.now.payload.now result }
+    {
+        let first = octets::block_bytes(self.first_block());
+        let payload_at = (self.data_blocks() + 1) * 16;
+        let mut input = [0u8; 288];
+        octets::copy_at(&mut input, 0, &first);
+        self.put_data(&mut input);
+        octets::copy_at(&mut input, payload_at, self.payload);
+        input
+    }
 }
 
-// A.2.1: B_0, for a bytes of associated data and p bytes of payload.
-fn first_block(t: usize, nonce: [u8; 13], a: usize, p: usize) -> [u32; 4]
-    requires { (2 ≤ t) × (t ≤ 16) }
-    ensures { bytes_of result ≡ first_block t nonce a p }
+// A number in two bytes, most significant first.
+fn two_bytes(x: usize) -> [u8; 2]
+    ensures { result ≡ two_bytes x }
 {
-    with_nonce(flags(t, a), nonce, p)
+    [(x / 256 % 256) as u8, (x % 256) as u8]
 }
 
-// A block of a first byte, the nonce and a two-byte number, most significant first.
+// A block of a first byte, the nonce and a two-byte number.
 pub fn with_nonce(first: u8, nonce: [u8; 13], x: usize) -> [u32; 4]
     ensures { bytes_of result ≡ headed first nonce x }
 {
     let n = nonce;
+    let [high, low] = two_bytes(x);
     [
         octets::word_of(first, n[0], n[1], n[2]),
         octets::word_of(n[3], n[4], n[5], n[6]),
         octets::word_of(n[7], n[8], n[9], n[10]),
-        octets::word_of(n[11], n[12], (x / 256 % 256) as u8, (x % 256) as u8),
+        octets::word_of(n[11], n[12], high, low),
     ]
 }
 
@@ -43,27 +105,7 @@ pub fn blocks_of(n: usize) -> usize
     requires { n ≤ 144 }
     ensures { (result ≡ blocks_of n) × (result * 16 < n + 16) }
 {
-    (n + 15) / 16
-}
-
-// How many blocks the associated data fills behind its length.
-fn data_blocks(auth: &[u8]) -> usize
-    requires { length auth.now ≤ 127 }
-    ensures { (result ≡ blocks_of (length (encoded_data auth.now))) × (result ≤ 9) }
-{
-    let n = auth.len();
-    if n == 0 {
-        return blocks_of(0);
-    }
-    blocks_of(n + 2)
-}
-
-// r, the number of the last block.
-pub fn last_block(auth: &[u8], payload: &[u8]) -> usize
-    requires { (length auth.now ≤ 127) × (length payload.now ≤ 127) }
-    ensures { (result ≡ last_block auth.now payload.now) × (result ≤ 17) }
-{
-    data_blocks(auth) + blocks_of(payload.len())
+    n.div_ceil(16)
 }
 
 // The number of four bytes from place p on.
@@ -86,33 +128,4 @@ pub fn block_at(s: &[u8], i: usize) -> [u32; 4]
         word_at(s, p + 8),
         word_at(s, p + 12),
     ]
-}
-
-// A.2.2: write the associated data behind its length from the second block on, or nothing if there is none.
-fn put_data(out: &mut [u8], auth: &[u8])
-    requires { (length auth.now ≤ 127) × (160 ≤ length out.old) }
-    ensures { out.new ≡ over out.old 16 (encoded_data auth.now) }
-{
-    let n = auth.len();
-    if n == 0 {
-        return;
-    }
-    let count = [(n / 256 % 256) as u8, (n % 256) as u8];
-    octets::copy_at(out, 16, &count);
-    octets::copy_at(out, 18, auth);
-}
-
-// A.2: the formatted input, B_0 to B_r one behind the other. The places that nothing is written to are the zero fill; all 288 are for
-// 127 bytes of data behind their length and 127 of payload.
-pub fn formatted_input(t: usize, nonce: [u8; 13], auth: &[u8], payload: &[u8]) -> [u8; 288]
-    requires { (2 ≤ t) × (t ≤ 16) × (length auth.now ≤ 127) × (length payload.now ≤ 127) }
-    ensures { Formats t nonce auth.now payload.now result }
-{
-    let first = octets::block_bytes(first_block(t, nonce, auth.len(), payload.len()));
-    let payload_at = (data_blocks(auth) + 1) * 16;
-    let mut input = [0u8; 288];
-    octets::copy_at(&mut input, 0, &first);
-    put_data(&mut input, auth);
-    octets::copy_at(&mut input, payload_at, payload);
-    input
 }

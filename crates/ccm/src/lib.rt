@@ -1,61 +1,50 @@
 // CCM (SP 800-38C) with AES-128, a 13-byte nonce and the tag of the network's level: sealing, opening, and the splitting of a MIC
-// from its ciphertext. The port of crypto.rs, refusing by number.
+// from its ciphertext. The port of crypto.rs.
 #![tactic(auto)]
 
 ghost use Rattle.std.specs.Prelude.{◌≡◌, ◌≤◌, length, take, drop};
 ghost use Rattle.octets.specs.Strings.{over};
+ghost use Rattle.octets.specs.Refusals.{refused};
+ghost use Rattle.octets.specs.Writing.{told};
 ghost use Rattle.types.specs.Levels.{tag_length};
-ghost use Rattle.ccm.specs.Operations.{in_places, sealed_by, opened_under, expanded, lookups, seal_refusal, encrypt_ccm, given_if, decrypt_ccm, split_refusal, split_mic};
+ghost use Rattle.ccm.specs.Operations.{in_places, sealed_by, opened_under, expanded, seal_refusal, told_sealed, encrypt_ccm, given_if, decrypt_ccm, split_refusal, told_split, split_mic};
 
-use octets::{Written, refusals};
+use formatting::InputData;
+use octets::refusals::Refusal;
 use types::level::Level;
 
 mod counter;
 mod formatting;
 mod mac;
 
+pub use aes::RoundKeys;
+
 // The most bytes of authenticated data, and of payload, that a call takes.
 pub const MAX_LENGTH: usize = 127;
 
-// What sealing gives: the refusal number or 0, how many bytes of the output are the ciphertext, and the MIC beside it, at the front of 16
-// places of which the rest are 0.
-#[derive(Clone, Copy)]
-pub struct Sealed {
-    pub refusal: u8,
-    pub length: usize,
-    pub mic: [u8; 16],
-}
-
-// What splitting gives: the refusal number or 0, the length of the ciphertext in front, and the MIC behind it, in 16 places likewise.
-#[derive(Clone, Copy)]
-pub struct Split {
-    pub refusal: u8,
-    pub length: usize,
-    pub mic: [u8; 16],
-}
-
-// The first refusal of a call with a bytes of authenticated data and n of payload or ciphertext, or 0.
-fn refusal(level: Level, a: usize, n: usize, room: usize) -> u8
-    ensures { result ≡ seal_refusal level a n room }
+// The refusals of a call with a bytes of authenticated data and n of payload or ciphertext.
+#[tactic(auto, unfolding(crate::specs::Operations::seal_refusal, octets::specs::Refusals::first_of))]
+fn check(level: Level, a: usize, n: usize, room: usize) -> Result<(), Refusal>
+    ensures { refused result ≡ seal_refusal level a n room }
 {
-    let r = octets::refuse(0, refusals::LEVEL, level.is_other());
-    let r = octets::refuse(r, refusals::TOO_LONG, MAX_LENGTH < a);
-    let r = octets::refuse(r, refusals::TOO_LONG, MAX_LENGTH < n);
-    octets::refuse(r, refusals::NO_ROOM, room < n)
+    if level.is_other() {
+        return Err(Refusal::Level);
+    }
+    if MAX_LENGTH < a || MAX_LENGTH < n {
+        return Err(Refusal::TooLong);
+    }
+    if room < n {
+        return Err(Refusal::NoRoom);
+    }
+    Ok(())
 }
 
 // The round keys of a key, for a caller that opens more than once under it.
-pub fn expand(key: [u8; 16]) -> [[[u8; 4]; 4]; 11]
+#[tactic(auto, unfolding(crate::specs::Operations::expanded))]
+pub fn expand(key: [u8; 16]) -> RoundKeys
     ensures { result ≡ expanded key }
 {
     aes::key_expansion(key)
-}
-
-// The table that the cipher looks up in, for a caller that opens more than once.
-pub fn cipher_table() -> [u32; 512]
-    ensures { result ≡ lookups }
-{
-    aes::cipher_table()
 }
 
 // Generation-encryption (SP 800-38C, 6.1), for a caller that has checked level and lengths: the ciphertext goes to the front of
@@ -72,41 +61,51 @@ pub fn seal(
     ensures mic { result ≡ in_places (sealed_by (tag_length level) key nonce auth.now payload.now).tag }
     ensures buffer { out.new ≡ over out.old 0 (sealed_by (tag_length level) key nonce auth.now payload.now).ciphertext }
 {
-    let t = level.tag_length();
     let keys = expand(key);
-    let table = cipher_table();
-    counter::counter_mode(&table, &keys, nonce, payload, out);
-    mac::encrypted_tag(&table, &keys, t, nonce, auth, payload)
+    counter::counter_mode(&keys, nonce, payload, out);
+    let input = InputData {
+        t: level.tag_length(),
+        nonce,
+        auth,
+        payload,
+    };
+    mac::encrypted_tag(&keys, &input)
 }
 
 // Decryption-verification (SP 800-38C, 6.2) under any round keys, for a caller that has checked level and lengths: whether the
 // MIC is the one computed; only then the payload goes to the front of the output.
 pub fn open_under(
     level: Level,
-    table: &[u32; 512],
-    keys: &[[[u8; 4]; 4]; 11],
+    keys: &RoundKeys,
     nonce: [u8; 13],
     auth: &[u8],
     ciphertext: &[u8],
     mic: [u8; 16],
     out: &mut [u8],
 ) -> bool
-    requires { (table.now ≡ lookups) × (2 ≤ tag_length level) × (length auth.now ≤ 127) × (length ciphertext.now ≤ 127) × (length ciphertext.now ≤ length out.old) }
+    requires { (2 ≤ tag_length level) × (length auth.now ≤ 127) × (length ciphertext.now ≤ 127) × (length ciphertext.now ≤ length out.old) }
     ensures valid { result ≡ (opened_under (tag_length level) keys.now nonce auth.now ciphertext.now (take (tag_length level) mic)).valid }
     ensures buffer { out.new ≡ given_if result (opened_under (tag_length level) keys.now nonce auth.now ciphertext.now (take (tag_length level) mic)) out.old }
 {
-    let t = level.tag_length();
     let n = ciphertext.len();
     let mut payload = [0u8; MAX_LENGTH];
-    counter::counter_mode(table, keys, nonce, ciphertext, &mut payload);
-    let valid = mac::tag_valid(table, keys, t, nonce, auth, &payload[..n], mic);
+    counter::counter_mode(keys, nonce, ciphertext, &mut payload);
+    let input = InputData {
+        t: level.tag_length(),
+        nonce,
+        auth,
+        payload: &payload[..n],
+    };
+    let valid = mac::tag_valid(keys, &input, mic);
     if valid {
         octets::copy_at(out, 0, &payload[..n]);
     }
     valid
 }
 
-// Seals a payload: refusals 29, 1 and 18, else the ciphertext in the output and the MIC.
+// Seals a payload: refusals 29, 1 and 18, else the ciphertext in the output, given by its length, and the MIC, at the front of 16 places
+// of which the rest are 0.
+#[tactic(auto, unfolding(crate::specs::Operations::encrypt_ccm, octets::specs::Refusals::unless), using(crate::proofs::Answers::within, crate::proofs::Opening::length_ciphertext))]
 pub fn encrypt_ccm(
     level: Level,
     key: [u8; 16],
@@ -114,27 +113,17 @@ pub fn encrypt_ccm(
     auth: &[u8],
     payload: &[u8],
     out: &mut [u8],
-) -> Sealed
-    ensures answer { result ≡ (encrypt_ccm level key nonce auth.now payload.now out.old).answer }
+) -> Result<(usize, [u8; 16]), Refusal>
+    ensures answer { told_sealed result ≡ (encrypt_ccm level key nonce auth.now payload.now out.old).answer }
     ensures buffer { out.new ≡ (encrypt_ccm level key nonce auth.now payload.now out.old).out }
 {
-    let number = refusal(level, auth.len(), payload.len(), out.len());
-    if number != 0 {
-        return Sealed {
-            refusal: number,
-            length: 0,
-            mic: [0u8; 16],
-        };
-    }
+    check(level, auth.len(), payload.len(), out.len())?;
     let mic = seal(level, key, nonce, auth, payload, out);
-    Sealed {
-        refusal: 0,
-        length: payload.len(),
-        mic,
-    }
+    Ok((payload.len(), mic))
 }
 
-// Opens a ciphertext with its MIC: refusals 29, 1, 18 and 19, else the payload in the output.
+// Opens a ciphertext with its MIC: refusals 29, 1, 18 and 19, else the payload in the output, given by its length.
+#[tactic(auto, unfolding(crate::specs::Operations::decrypt_ccm, crate::specs::Operations::open_refusal, crate::specs::Operations::given_if, octets::specs::Writing::written, octets::specs::Refusals::first_of, octets::specs::Refusals::unless), using(crate::proofs::Answers::within, crate::proofs::RoundKeys::opened_under_lem, crate::proofs::Opening::length_payload))]
 pub fn decrypt_ccm(
     level: Level,
     key: [u8; 16],
@@ -143,37 +132,30 @@ pub fn decrypt_ccm(
     ciphertext: &[u8],
     mic: [u8; 16],
     out: &mut [u8],
-) -> Written
-    ensures answer { result ≡ (decrypt_ccm level key nonce auth.now ciphertext.now mic out.old).answer }
+) -> Result<usize, Refusal>
+    ensures answer { told result ≡ (decrypt_ccm level key nonce auth.now ciphertext.now mic out.old).answer }
     ensures buffer { out.new ≡ (decrypt_ccm level key nonce auth.now ciphertext.now mic out.old).out }
 {
-    let number = refusal(level, auth.len(), ciphertext.len(), out.len());
-    if number != 0 {
-        return Written {
-            refusal: number,
-            length: 0,
-        };
-    }
+    check(level, auth.len(), ciphertext.len(), out.len())?;
     let keys = expand(key);
-    let table = cipher_table();
-    if open_under(level, &table, &keys, nonce, auth, ciphertext, mic, out) {
-        return Written {
-            refusal: 0,
-            length: ciphertext.len(),
-        };
+    if !open_under(level, &keys, nonce, auth, ciphertext, mic, out) {
+        return Err(Refusal::WrongMic);
     }
-    Written {
-        refusal: refusals::WRONG_MIC,
-        length: 0,
-    }
+    Ok(ciphertext.len())
 }
 
-// The first refusal of splitting n bytes, or 0.
-fn split_refusal(level: Level, n: usize) -> u8
-    ensures { result ≡ split_refusal level n }
+// The refusals of splitting n bytes.
+#[tactic(auto, unfolding(crate::specs::Operations::split_refusal, octets::specs::Refusals::first_of))]
+fn check_split(level: Level, n: usize) -> Result<(), Refusal>
+    ensures { refused result ≡ split_refusal level n }
 {
-    let other = octets::refuse(0, refusals::LEVEL, level.is_other());
-    octets::refuse(other, refusals::NO_MIC, n < level.tag_length())
+    if level.is_other() {
+        return Err(Refusal::Level);
+    }
+    if n < level.tag_length() {
+        return Err(Refusal::NoMic);
+    }
+    Ok(())
 }
 
 // The bytes from place n on, at the front of 16 places; the rest are 0.
@@ -186,24 +168,13 @@ fn places_from(s: &[u8], n: usize) -> [u8; 16]
     places
 }
 
-// Splits a received ciphertext into the encrypted payload, given by its length, and the MIC that ends it: refusals 29, and 16 where there
-// are fewer bytes than the tag.
-pub fn split_mic(level: Level, s: &[u8]) -> Split
-    ensures { result ≡ split_mic level s.now }
+// Splits a received ciphertext into the encrypted payload, given by its length, and the MIC that ends it, in 16 places likewise: refusals 29,
+// and 16 where there are fewer bytes than the tag.
+#[tactic(auto, unfolding(crate::specs::Operations::split_mic, octets::specs::Refusals::unless), using(crate::proofs::Runs::split_tagged))]
+pub fn split_mic(level: Level, s: &[u8]) -> Result<(usize, [u8; 16]), Refusal>
+    ensures { told_split result ≡ split_mic level s.now }
 {
-    let number = split_refusal(level, s.len());
-    if number != 0 {
-        return Split {
-            refusal: number,
-            length: 0,
-            mic: [0u8; 16],
-        };
-    }
+    check_split(level, s.len())?;
     let n = s.len() - level.tag_length();
-    let mic = places_from(s, n);
-    Split {
-        refusal: 0,
-        length: n,
-        mic,
-    }
+    Ok((n, places_from(s, n)))
 }

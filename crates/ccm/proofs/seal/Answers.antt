@@ -4,7 +4,7 @@ use Rattle.ccm.proofs.seal.Goals as goal
 
 pub returns : goal.returns
 returns c =
-    let size = c.tag_length-t.ensures.0 in
+    let size = c.tag_length.ensures.0 in
     record {
       mic = tag_given _ _ _ _ _ _ c.expand-keys.ensures _ (rw size at c.encrypted_tag.ensures);
       buffer = ciphertext_given _ _ _ _ _ _ c.expand-keys.ensures _ _ c.counter_mode.ensures;

@@ -10,5 +10,5 @@ pub returns : goal.returns
 unfolding bytes_of tab two_bytes
 returns c =
     let a = c.args in
-    rw (c.word_of.ensures.bytes, c.word_of-2.ensures.bytes, c.word_of-3.ensures.bytes, c.word_of-4.ensures.bytes)
+    rw (c.word_of.ensures.bytes, c.word_of-2.ensures.bytes, c.word_of-3.ensures.bytes, c.word_of-4.ensures.bytes, c.two_bytes.ensures)
     (headed_bytes a.first a.nonce a.x (search rules))

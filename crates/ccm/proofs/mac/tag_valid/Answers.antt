@@ -1,19 +1,15 @@
--- `ccm::mac::tag_valid` meets its contract: the unmasked MIC and the first t bytes of Y_r. Assumes nothing.
+-- `ccm::mac::tag_valid` meets its contract: a mask may be taken off the MIC, or put on what it is compared with. Assumes nothing.
 use mathlib.Core.Path.{ap, ◌∙◌}
-use lib.ListN.{take}
-use Rattle.octets.specs.Strings.{xored}
 use Rattle.octets.proofs.Xor.{length_xored}
-use Rattle.ccm.specs.Mac.{mac}
+use Rattle.ccm.specs.Generation.{encrypted_tag}
 use Rattle.ccm.specs.Verification.{same_bytes, tag_valid}
-use Rattle.ccm.specs.Operations.{in_places}
+use Rattle.ccm.proofs.Opening.{same_masked}
 use Rattle.ccm.proofs.Tags.{same_places}
 use Rattle.ccm.proofs.mac.tag_valid.Goals as goal
 
 pub returns : goal.returns
-unfolding tag_valid mac
+unfolding encrypted_tag tag_valid
 returns c =
-    let a = c.args in
-    c.same_bytes.ensures
-    ∙ (λ i. same_bytes a.t ((c.masked-received.ensures ∙ ap (λ s. in_places (xored a.t (take a.t a.mic) s)) c.key_block.ensures) i)
-    ((c.block_bytes-y.ensures ∙ c.cbc_mac.ensures) i))
-    ∙ same_places a.t _ _ (length_xored a.t _ _)
+    let t = c.args.input.now.t in
+    c.same_bytes.ensures ∙ ap (λ s. same_bytes t s c.args.mic) c.encrypted_tag-tag.ensures ∙ same_places t _ c.args.mic (length_xored t _ _)
+    ∙ same_masked t _ _ _
