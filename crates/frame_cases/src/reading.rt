@@ -6,116 +6,106 @@
 //   aux-fields BYTES RECORD          read an auxiliary header, likewise
 //   frame BYTES REFUSAL LENGTH       read a frame; LENGTH is that of its headers
 // A record is that of include/nwk.h, the zeros at its end left out.
+use crate::answers::is_answer;
 use casefile::fields::field;
-use casefile::lines::{Line, shown};
 use casefile::outputs::FILLER;
 use casefile::{outputs, words};
 use header::auxiliary::NwkAuxHeader;
 use header::nwk::NwkHeader;
+use octets::refusals::Refusal;
 use records::auxiliary_record::put_aux;
 use records::header_record::put_header;
 
-// Whether reading gives the number and the length, and what was read is written as expected.
-fn reads_header(bytes: &[u8], refusal: usize, written: &[u8]) -> bool {
-    let read = NwkHeader::deserialize(bytes);
-    if read.refusal as usize != refusal {
-        return false;
-    }
-    if read.length != written.len() {
-        return false;
-    }
-    if refusal != 0 {
-        return true;
-    }
-    let h = read.header;
-    let mut out = [FILLER; 128];
-    let w = h.serialize(&mut out);
-    w.refusal == 0 && w.length == written.len() && outputs::holds(&out, written)
-}
-
-// The same for an auxiliary header.
-fn reads_aux(bytes: &[u8], refusal: usize, written: &[u8]) -> bool {
-    let read = NwkAuxHeader::deserialize(bytes);
-    if read.refusal as usize != refusal {
-        return false;
-    }
-    if read.length != written.len() {
-        return false;
-    }
-    if refusal != 0 {
-        return true;
-    }
-    let a = read.aux;
-    let mut out = [FILLER; 128];
-    let w = a.serialize(&mut out);
-    w.refusal == 0 && w.length == written.len() && outputs::holds(&out, written)
-}
-
-// A case of reading a header, or an auxiliary header.
-fn check_front(line: &[u8], is_header: bool) -> Line {
+// A case of a reader and the writer of what it read: whether reading gives the number and the length, and what was read is
+// written as expected.
+fn read_case<T: Copy, R: Fn(&[u8]) -> Result<(T, usize), Refusal>, W: Fn(T, &mut [u8]) -> Result<usize, Refusal>>(
+    line: &[u8],
+    read: R,
+    write: W,
+) -> Option<bool>
+    requires { R.IsAlwaysCallable read × W.IsAlwaysCallable write }
+{
     let mut bytes = [0u8; 160];
     let mut written = [0u8; 128];
-    let b = field(line, 1, &mut bytes);
-    let refusal = words::number(line, 2);
-    let w = field(line, 3, &mut written);
-    let n = b.n;
-    let m = w.n;
-    let good = words::is_last(line, 3) && b.good && refusal < 1000 && w.good;
-    if is_header {
-        return shown(good, reads_header(&bytes[..n], refusal, &written[..m]));
+    let n = field(line, 1, &mut bytes).ok()?;
+    let refusal = words::number(line, 2)?;
+    let m = field(line, 3, &mut written).ok()?;
+    if !words::is_last(line, 3) {
+        return None;
     }
-    shown(good, reads_aux(&bytes[..n], refusal, &written[..m]))
+    let answer = read(&bytes[..n]);
+    let Ok((value, length)) = answer else {
+        return Some(is_answer(answer.map(|_| 0), refusal, m));
+    };
+    let mut out = [FILLER; 128];
+    Some(
+        is_answer(Ok(length), refusal, m)
+            && write(value, &mut out) == Ok(m)
+            && outputs::holds(&out, &written[..m]),
+    )
 }
 
 // A case of reading a header.
-pub fn check_header(line: &[u8]) -> Line {
-    check_front(line, true)
+pub fn header_case(line: &[u8]) -> Option<bool> {
+    read_case(
+        line,
+        |bytes: &[u8]| NwkHeader::deserialize(bytes),
+        |header: NwkHeader, out: &mut [u8]| header.serialize(out),
+    )
 }
 
 // A case of reading an auxiliary header.
-pub fn check_aux(line: &[u8]) -> Line {
-    check_front(line, false)
+pub fn aux_case(line: &[u8]) -> Option<bool> {
+    read_case(
+        line,
+        |bytes: &[u8]| NwkAuxHeader::deserialize(bytes),
+        |aux: NwkAuxHeader, out: &mut [u8]| aux.serialize(out),
+    )
 }
 
 // A case of the fields of a header.
-pub fn check_fields(line: &[u8]) -> Line {
+pub fn fields_case(line: &[u8]) -> Option<bool> {
     let mut bytes = [0u8; 128];
     let mut record = [0u8; 147];
-    let b = field(line, 1, &mut bytes);
-    let r = field(line, 2, &mut record);
-    let n = b.n;
-    let read = NwkHeader::deserialize(&bytes[..n]);
+    let n = field(line, 1, &mut bytes).ok()?;
+    field(line, 2, &mut record).ok()?;
+    if !words::is_last(line, 2) {
+        return None;
+    }
+    let Ok((header, _)) = NwkHeader::deserialize(&bytes[..n]) else {
+        return Some(false);
+    };
     let mut made = [FILLER; 147];
-    put_header(&mut made, read.header);
-    let good = words::is_last(line, 2) && b.good && r.good;
-    shown(good, read.refusal == 0 && check::same(&made, &record))
+    put_header(&mut made, header);
+    Some(check::same(&made, &record))
 }
 
 // A case of the fields of an auxiliary header.
-pub fn check_aux_fields(line: &[u8]) -> Line {
+pub fn aux_fields_case(line: &[u8]) -> Option<bool> {
     let mut bytes = [0u8; 128];
     let mut record = [0u8; 19];
-    let b = field(line, 1, &mut bytes);
-    let r = field(line, 2, &mut record);
-    let n = b.n;
-    let read = NwkAuxHeader::deserialize(&bytes[..n]);
+    let n = field(line, 1, &mut bytes).ok()?;
+    field(line, 2, &mut record).ok()?;
+    if !words::is_last(line, 2) {
+        return None;
+    }
+    let Ok((aux, _)) = NwkAuxHeader::deserialize(&bytes[..n]) else {
+        return Some(false);
+    };
     let mut made = [FILLER; 19];
-    put_aux(&mut made, true, read.aux);
-    let good = words::is_last(line, 2) && b.good && r.good;
-    shown(good, read.refusal == 0 && check::same(&made, &record))
+    put_aux(&mut made, true, aux);
+    Some(check::same(&made, &record))
 }
 
 // A case of reading a frame.
-pub fn check_frame(line: &[u8]) -> Line {
+pub fn frame_case(line: &[u8]) -> Option<bool> {
     let mut bytes = [0u8; 160];
-    let b = field(line, 1, &mut bytes);
-    let refusal = words::number(line, 2);
-    let length = words::number(line, 3);
-    let n = b.n;
-    let read = frame::read_frame(&bytes[..n]);
-    let good = words::is_last(line, 3) && b.good && refusal < 1000 && length < 1000;
-    shown(
-        good,
-        read.refusal as usize == refusal && read.length == length,
-    )
+    let n = field(line, 1, &mut bytes).ok()?;
+    let refusal = words::number(line, 2)?;
+    let length = words::number(line, 3)?;
+    if !words::is_last(line, 3) {
+        return None;
+    }
+    let answer = frame::read_frame(&bytes[..n]).map(|frame| frame.length);
+    Some(is_answer(answer, refusal, length))
 }
