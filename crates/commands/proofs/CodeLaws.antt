@@ -1,6 +1,7 @@
 -- Laws of the codes: a value's number means that value, and fits its field; a timeout code is known up to 14, and then
 -- its seconds are those of its number. Value by value, the timeouts by one computed test.
 -- Assumes nothing.
+use Rattle.std.specs.Prelude.{Some, Option, None}
 use mathlib.Core.Path.{◌≡◌, refl, ap, ◌∙◌}
 use mathlib.Core.Bool.{Bool, true, false, ◌&&◌}
 use Prim.Native.Nat.{ℕ, zero, suc, ◌≤◌, ◌<◌}
@@ -11,13 +12,13 @@ use lib.Dec.{eqb, lit<}
 use lib.ListN.{get_or}
 use Rattle.octets.specs.Fields.{bit}
 use Rattle.commands.specs.Codes.{command_id_code, command_id_of, command_ids, many_to_one_code, many_to_one_of, many_to_ones, status_code, status_of, statuses, association_status_code, association_status_of, association_statuses, report_identifier_code, report_identifier_of, update_identifier_code, update_identifier_of, timeout_code, timeout_of, timeouts, timeout_status_code, timeout_status_of, timeout_statuses, power_type_code, power_type_of, power_types, commissioning_type_code, commissioning_type_of, commissioning_types, is_set, device_type_bit, device_type_of, power_source_bit, power_source_of}
-use Rattle.commands.specs.Writing.{seconds, timeout_seconds}
+use Rattle.commands.specs.Writing.{EndDeviceTimeoutSeconds, seconds, timeout_seconds}
 use Rattle.commands.proofs.Format.{first, second}
-use Rattle.commands.specs.declared.{NwkCommandId.NwkCommandId, NwkCommandIdCode.NwkCommandIdCode, NwkRouteRequestManyToOne.NwkRouteRequestManyToOne, NwkRouteRequestManyToOneCode.NwkRouteRequestManyToOneCode, NwkNetworkStatus.NwkNetworkStatus, NwkNetworkStatusCode.NwkNetworkStatusCode, Nwk802154AssociationStatus.Nwk802154AssociationStatus, Nwk802154AssociationStatusCode.Nwk802154AssociationStatusCode, NwkReportCommandIdentifier.NwkReportCommandIdentifier, NwkReportCommandIdentifierCode.NwkReportCommandIdentifierCode, NwkUpdateCommandIdentifier.NwkUpdateCommandIdentifier, NwkUpdateCommandIdentifierCode.NwkUpdateCommandIdentifierCode, EndDeviceTimeout.EndDeviceTimeout, EndDeviceTimeoutCode.EndDeviceTimeoutCode, NwkEndDeviceTimeoutResponseStatus.NwkEndDeviceTimeoutResponseStatus, NwkEndDeviceTimeoutResponseStatusCode.NwkEndDeviceTimeoutResponseStatusCode, NwkLinkPowerDeltaType.NwkLinkPowerDeltaType, NwkLinkPowerDeltaTypeCode.NwkLinkPowerDeltaTypeCode, NwkCommissioningType.NwkCommissioningType, NwkCommissioningTypeCode.NwkCommissioningTypeCode, NwkRejoinCapabilityInformationDeviceType.NwkRejoinCapabilityInformationDeviceType, NwkRejoinCapabilityInformationPowerSource.NwkRejoinCapabilityInformationPowerSource, EndDeviceTimeoutSeconds.EndDeviceTimeoutSeconds}
+use Rattle.commands.specs.declared.{NwkCommandId.NwkCommandId, NwkRouteRequestManyToOne.NwkRouteRequestManyToOne, NwkNetworkStatus.NwkNetworkStatus, Nwk802154AssociationStatus.Nwk802154AssociationStatus, NwkReportCommandIdentifier.NwkReportCommandIdentifier, NwkUpdateCommandIdentifier.NwkUpdateCommandIdentifier, EndDeviceTimeout.EndDeviceTimeout, NwkEndDeviceTimeoutResponseStatus.NwkEndDeviceTimeoutResponseStatus, NwkLinkPowerDeltaType.NwkLinkPowerDeltaType, NwkCommissioningType.NwkCommissioningType, NwkRejoinCapabilityInformationDeviceType.NwkRejoinCapabilityInformationDeviceType, NwkRejoinCapabilityInformationPowerSource.NwkRejoinCapabilityInformationPowerSource}
 
 -- ---- NwkCommandId
 
-pub command_id_back : (k : NwkCommandId) → command_id_of (command_id_code k) ≡ NwkCommandIdCode.Known k
+pub command_id_back : (k : NwkCommandId) → command_id_of (command_id_code k) ≡ Some k
 unfolding command_id_of command_ids
 command_id_back NwkCommandId.RouteRequest = refl
 command_id_back NwkCommandId.RouteReply = refl
@@ -37,7 +38,7 @@ command_id_back NwkCommandId.NetworkCommissioningResponse = refl
 
 -- ---- NwkRouteRequestManyToOne
 
-pub many_to_one_back : (k : NwkRouteRequestManyToOne) → many_to_one_of (many_to_one_code k) ≡ NwkRouteRequestManyToOneCode.Known k
+pub many_to_one_back : (k : NwkRouteRequestManyToOne) → many_to_one_of (many_to_one_code k) ≡ Some k
 unfolding many_to_one_of many_to_ones
 many_to_one_back NwkRouteRequestManyToOne.NotManyToOne = refl
 many_to_one_back NwkRouteRequestManyToOne.ManyToOneSenderSupportsRouteRecordTable = refl
@@ -52,7 +53,7 @@ many_to_one_lt NwkRouteRequestManyToOne.Reserved = lit< tt
 
 -- ---- NwkNetworkStatus
 
-pub status_back : (k : NwkNetworkStatus) → status_of (status_code k) ≡ NwkNetworkStatusCode.Known k
+pub status_back : (k : NwkNetworkStatus) → status_of (status_code k) ≡ Some k
 unfolding status_of statuses
 status_back NwkNetworkStatus.LegacyNoRouteAvailable = refl
 status_back NwkNetworkStatus.LegacyLinkFailure = refl
@@ -101,7 +102,7 @@ status_lt NwkNetworkStatus.PanIdConflictReport = lit< tt
 
 -- ---- Nwk802154AssociationStatus
 
-pub association_status_back : (k : Nwk802154AssociationStatus) → association_status_of (association_status_code k) ≡ Nwk802154AssociationStatusCode.Known k
+pub association_status_back : (k : Nwk802154AssociationStatus) → association_status_of (association_status_code k) ≡ Some k
 unfolding association_status_of association_statuses
 association_status_back Nwk802154AssociationStatus.AssociationSuccessful = refl
 association_status_back Nwk802154AssociationStatus.PanAtCapacity = refl
@@ -120,7 +121,7 @@ association_status_lt Nwk802154AssociationStatus.ZigbeeAddressConflict = lit< tt
 
 -- ---- NwkReportCommandIdentifier
 
-pub report_identifier_back : (k : NwkReportCommandIdentifier) → report_identifier_of (report_identifier_code k) ≡ NwkReportCommandIdentifierCode.Known k
+pub report_identifier_back : (k : NwkReportCommandIdentifier) → report_identifier_of (report_identifier_code k) ≡ Some k
 unfolding report_identifier_of
 report_identifier_back NwkReportCommandIdentifier.PanIdentifierConflict = refl
 
@@ -129,7 +130,7 @@ report_identifier_lt NwkReportCommandIdentifier.PanIdentifierConflict = lit< tt
 
 -- ---- NwkUpdateCommandIdentifier
 
-pub update_identifier_back : (k : NwkUpdateCommandIdentifier) → update_identifier_of (update_identifier_code k) ≡ NwkUpdateCommandIdentifierCode.Known k
+pub update_identifier_back : (k : NwkUpdateCommandIdentifier) → update_identifier_of (update_identifier_code k) ≡ Some k
 unfolding update_identifier_of
 update_identifier_back NwkUpdateCommandIdentifier.PanIdentifierUpdate = refl
 
@@ -138,7 +139,7 @@ update_identifier_lt NwkUpdateCommandIdentifier.PanIdentifierUpdate = lit< tt
 
 -- ---- EndDeviceTimeout
 
-pub timeout_back : (k : EndDeviceTimeout) → timeout_of (timeout_code k) ≡ EndDeviceTimeoutCode.Known k
+pub timeout_back : (k : EndDeviceTimeout) → timeout_of (timeout_code k) ≡ Some k
 unfolding timeout_of timeouts
 timeout_back EndDeviceTimeout.Seconds10 = refl
 timeout_back EndDeviceTimeout.Minutes2 = refl
@@ -175,7 +176,7 @@ timeout_lt EndDeviceTimeout.Minutes16384 = lit< tt
 
 -- ---- NwkEndDeviceTimeoutResponseStatus
 
-pub timeout_status_back : (k : NwkEndDeviceTimeoutResponseStatus) → timeout_status_of (timeout_status_code k) ≡ NwkEndDeviceTimeoutResponseStatusCode.Known k
+pub timeout_status_back : (k : NwkEndDeviceTimeoutResponseStatus) → timeout_status_of (timeout_status_code k) ≡ Some k
 unfolding timeout_status_of timeout_statuses
 timeout_status_back NwkEndDeviceTimeoutResponseStatus.Success = refl
 timeout_status_back NwkEndDeviceTimeoutResponseStatus.IncorrectValue = refl
@@ -188,7 +189,7 @@ timeout_status_lt NwkEndDeviceTimeoutResponseStatus.UnsupportedFeature = lit< tt
 
 -- ---- NwkLinkPowerDeltaType
 
-pub power_type_back : (k : NwkLinkPowerDeltaType) → power_type_of (power_type_code k) ≡ NwkLinkPowerDeltaTypeCode.Known k
+pub power_type_back : (k : NwkLinkPowerDeltaType) → power_type_of (power_type_code k) ≡ Some k
 unfolding power_type_of power_types
 power_type_back NwkLinkPowerDeltaType.Notification = refl
 power_type_back NwkLinkPowerDeltaType.Request = refl
@@ -201,7 +202,7 @@ power_type_lt NwkLinkPowerDeltaType.Response = lit< tt
 
 -- ---- NwkCommissioningType
 
-pub commissioning_type_back : (k : NwkCommissioningType) → commissioning_type_of (commissioning_type_code k) ≡ NwkCommissioningTypeCode.Known k
+pub commissioning_type_back : (k : NwkCommissioningType) → commissioning_type_of (commissioning_type_code k) ≡ Some k
 unfolding commissioning_type_of commissioning_types
 commissioning_type_back NwkCommissioningType.InitialJoin = refl
 commissioning_type_back NwkCommissioningType.Rejoin = refl
@@ -248,9 +249,9 @@ unfolding timeouts
 timeout_code_lem n h = eqb-true _ _ (one_below (λ (k : ℕ). eqb (timeout_code (get_or timeouts k EndDeviceTimeout.Seconds10)) k) 15 n refl h)
 
 -- the answer by a code's value
-abbrev pub seconds_by : EndDeviceTimeoutCode → EndDeviceTimeoutSeconds
-seconds_by (EndDeviceTimeoutCode.Known t) = record { refusal = 0; seconds = seconds (timeout_code t) }
-seconds_by EndDeviceTimeoutCode.Unknown = record { refusal = 13; seconds = 0 }
+abbrev pub seconds_by : Option EndDeviceTimeout → EndDeviceTimeoutSeconds
+seconds_by (Some t) = record { refusal = 0; seconds = seconds (timeout_code t) }
+seconds_by None = record { refusal = 13; seconds = 0 }
 
 declared : (n : ℕ) → n < 15 → seconds_by (timeout_of n) ≡ timeout_seconds n
 unfolding timeout_of timeout_seconds

@@ -20,7 +20,7 @@ use Rattle.commands.proofs.Format.{Fit, Shaped}
 use Rattle.commands.proofs.Layouts.{formats, meanings, codings, contents, shapes}
 use Rattle.commands.proofs.CodeLaws.{many_to_one_back, status_back, association_status_back, report_identifier_back, update_identifier_back, timeout_back, timeout_status_back, power_type_back, commissioning_type_back, is_set_bit, device_type_back, power_source_back}
 use Rattle.types.specs.declared.{Nwk.Nwk, PanId.PanId}
-use Rattle.commands.specs.declared.{NwkCommandId.NwkCommandId, NwkCommand.NwkCommand, NwkCommandWithLists.NwkCommandWithLists, NwkCommandList.NwkCommandList, TypedBody.TypedBody, NwkRejoinCapabilityInformation.NwkRejoinCapabilityInformation, NwkRouteRequestCommand.NwkRouteRequestCommand, NwkRouteReplyCommand.NwkRouteReplyCommand, NwkLeaveCommand.NwkLeaveCommand, NwkLinkStatusCommand.NwkLinkStatusCommand, NwkNetworkReportCommand.NwkNetworkReportCommand, NwkLinkPowerDeltaCommand.NwkLinkPowerDeltaCommand, NwkLinkStatus.NwkLinkStatus, NwkPowerListEntry.NwkPowerListEntry, NwkNetworkStatusCommand.NwkNetworkStatusCommand, NwkRejoinRequestCommand.NwkRejoinRequestCommand, NwkRejoinResponseCommand.NwkRejoinResponseCommand, NwkNetworkUpdateCommand.NwkNetworkUpdateCommand, NwkEndDeviceTimeoutRequestCommand.NwkEndDeviceTimeoutRequestCommand, NwkNetworkCommissioningRequestCommand.NwkNetworkCommissioningRequestCommand, NwkNetworkCommissioningResponseCommand.NwkNetworkCommissioningResponseCommand, NwkEndDeviceTimeoutResponseCommand.NwkEndDeviceTimeoutResponseCommand}
+use Rattle.commands.specs.declared.{NwkCommandId.NwkCommandId, NwkCommand.NwkCommand, NwkCommandWithLists.NwkCommandWithLists, NwkCommandList.NwkCommandList, NwkRejoinCapabilityInformation.NwkRejoinCapabilityInformation, NwkRouteRequestCommand.NwkRouteRequestCommand, NwkRouteReplyCommand.NwkRouteReplyCommand, NwkLeaveCommand.NwkLeaveCommand, NwkLinkStatusCommand.NwkLinkStatusCommand, NwkNetworkReportCommand.NwkNetworkReportCommand, NwkLinkPowerDeltaCommand.NwkLinkPowerDeltaCommand, NwkLinkStatus.NwkLinkStatus, NwkPowerListEntry.NwkPowerListEntry, NwkNetworkStatusCommand.NwkNetworkStatusCommand, NwkRejoinRequestCommand.NwkRejoinRequestCommand, NwkRejoinResponseCommand.NwkRejoinResponseCommand, NwkNetworkUpdateCommand.NwkNetworkUpdateCommand, NwkEndDeviceTimeoutRequestCommand.NwkEndDeviceTimeoutRequestCommand, NwkNetworkCommissioningRequestCommand.NwkNetworkCommissioningRequestCommand, NwkNetworkCommissioningResponseCommand.NwkNetworkCommissioningResponseCommand, NwkEndDeviceTimeoutResponseCommand.NwkEndDeviceTimeoutResponseCommand}
 
 -- ---- lists
 
@@ -113,7 +113,7 @@ capability_back c =
 -- what is written of a command means that command, with its list
 pub record Back (c : NwkCommand) (f : NwkCommandWithLists) (id : NwkCommandId) (v : Values) : Type 0 where
   pub fit : Fit (format_of id) v
-  pub command : command_of id v ≡ TypedBody.Typed c
+  pub command : command_of id v ≡ Some c
   pub list : (s : List ℕ) → values (format_of id) s ≡ v → listed (list_of c) c s ≡ cleared_by (list_of c) c f
 
 abbrev pub WireBack : NwkCommand → NwkCommandWithLists → Wire → Type 0
@@ -122,7 +122,7 @@ WireBack c f (raw bs) = c ≡ NwkCommand.Unparsed
 
 -- a command without entries: its values are as many as its format has, and mean it
 plain_back : {c : NwkCommand} {id : NwkCommandId} (f : NwkCommandWithLists) (hs : List ℕ) → list_of c ≡ NwkCommandList.NoList → (format_of id).counts ≡ []
-    → length hs ≡ widths (format_of id).head → command_of id (only hs) ≡ TypedBody.Typed c → Back c f id (only hs)
+    → length hs ≡ widths (format_of id).head → command_of id (only hs) ≡ Some c → Back c f id (only hs)
 unfolding listed cleared_by summed
 plain_back {c} {id} f hs none uncounted whole means =
     record {
@@ -140,7 +140,7 @@ route_request_back c f =
       fit = record { head = refl; count = address_count a; entries = address_shaped route_request_format.entry a refl };
       command =
           ap (λ k. route_request_by k (route_request_values c)) (many_to_one_back c.many_to_one)
-          ∙ (λ i. TypedBody.Typed (NwkCommand.RouteRequest (record {
+          ∙ (λ i. Some (NwkCommand.RouteRequest (record {
             many_to_one = c.many_to_one;
             route_request_identifier = c.route_request_identifier;
             destination_address = c.destination_address;
@@ -159,7 +159,7 @@ route_reply_back c f =
     record {
       fit = record { head = refl; count = addresses_count a b; entries = addresses_shaped route_reply_format.entry a b refl };
       command =
-          λ i. TypedBody.Typed (NwkCommand.RouteReply (record {
+          λ i. Some (NwkCommand.RouteReply (record {
             route_request_identifier = c.route_request_identifier;
             originator_nwk = c.originator_nwk;
             responder_nwk = c.responder_nwk;
@@ -181,7 +181,7 @@ leave_back : (c : NwkLeaveCommand) (f : NwkCommandWithLists) → Back (NwkComman
 unfolding formats meanings codings contents shapes
 leave_back c f =
     plain_back f _ refl refl refl
-    (λ i. TypedBody.Typed (NwkCommand.Leave (record {
+    (λ i. Some (NwkCommand.Leave (record {
       rejoin = is_set_bit c.rejoin i;
       request = is_set_bit c.request i;
       remove_children = is_set_bit c.remove_children i;
@@ -204,7 +204,7 @@ rejoin_request_back : (c : NwkRejoinRequestCommand) (f : NwkCommandWithLists)
 unfolding formats meanings codings contents shapes capability_values
 rejoin_request_back c f =
     plain_back f _ refl refl refl
-    (λ i. TypedBody.Typed (NwkCommand.RejoinRequest (record { capability_information = capability_back c.capability_information i })))
+    (λ i. Some (NwkCommand.RejoinRequest (record { capability_information = capability_back c.capability_information i })))
 
 rejoin_response_back : (c : NwkRejoinResponseCommand) (f : NwkCommandWithLists)
     → Back (NwkCommand.RejoinResponse c) f NwkCommandId.RejoinResponse (rejoin_response_values c)
@@ -222,7 +222,7 @@ link_status_back c f =
     record {
       fit = record { head = refl; count = entries_count link_entry no_link xs n; entries = entries_shaped link_entry no_link xs n link_status_format.entry (λ x. refl) };
       command =
-          λ i. TypedBody.Typed (NwkCommand.LinkStatus (record {
+          λ i. Some (NwkCommand.LinkStatus (record {
             is_first_frame = is_set_bit c.is_first_frame i;
             is_last_frame = is_set_bit c.is_last_frame i;
           }));
@@ -261,7 +261,7 @@ unfolding formats meanings codings contents shapes
 timeout_response_back c f =
     plain_back f _ refl refl refl
     (ap (λ k. timeout_response_by k (timeout_response_values c)) (timeout_status_back c.status)
-    ∙ (λ i. TypedBody.Typed (NwkCommand.EndDeviceTimeoutResponse (record {
+    ∙ (λ i. Some (NwkCommand.EndDeviceTimeoutResponse (record {
       status = c.status;
       mac_data_poll_keepalive_supported = is_set_bit c.mac_data_poll_keepalive_supported i;
       end_device_timeout_request_keepalive_supported = is_set_bit c.end_device_timeout_request_keepalive_supported i;
@@ -286,7 +286,7 @@ unfolding formats meanings codings contents shapes capability_values
 commissioning_request_back c f =
     plain_back f _ refl refl refl
     (ap (λ k. commissioning_request_by k (commissioning_request_values c)) (commissioning_type_back c.commissioning_type)
-    ∙ (λ i. TypedBody.Typed (NwkCommand.NetworkCommissioningRequest (record {
+    ∙ (λ i. Some (NwkCommand.NetworkCommissioningRequest (record {
       commissioning_type = c.commissioning_type;
       capability_information = capability_back c.capability_information i;
     }))))

@@ -16,7 +16,8 @@ use Rattle.commands.specs.Reading.{list_of}
 use Rattle.commands.specs.Writing.{wire, misfits}
 use Rattle.commands.proofs.Ranges.{InAddress, InPower, Ranged, RangedList, too_big, misfits_is}
 use Rattle.types.specs.contracts.Nwk as nwk
-use Rattle.types.specs.contracts.OptionEui64 as option-eui64
+use denote.Builtin.{u64}
+use Rattle.std.specs.contracts.option.Option as option
 use Rattle.types.specs.contracts.PanId as pan-id
 use Rattle.commands.specs.contracts.NwkCommand as nwk-command
 use Rattle.commands.specs.contracts.NwkCommandWithLists as nwk-command-with-lists
@@ -24,7 +25,7 @@ use Rattle.commands.specs.contracts.NwkPowerListEntry as nwk-power-list-entry
 use Rattle.types.specs.declared.{Nwk.Nwk, PanId.PanId}
 use Rattle.commands.specs.declared.{NwkCommand.NwkCommand, NwkCommandWithLists.NwkCommandWithLists, NwkCommandList.NwkCommandList, NwkPowerListEntry.NwkPowerListEntry}
 
-address_in : (a : Option ℕ) (vs : List Val) → shadow ((option-eui64.the_row).own_val a vs) → InAddress a
+address_in : (a : Option ℕ) (vs : List Val) → shadow ((option.the_row u64).own_val a vs) → InAddress a
 address_in None vs s = tt
 address_in (Some x) vs s = omega arith
 

@@ -1,7 +1,7 @@
 -- What reading gives can be written: the numbers of a command that was read are within their types, its list within its
 -- places, and the places past its count are 0 already. Each number is a byte or a number of n bytes of the input.
 -- Assumes nothing.
-use Rattle.std.specs.Prelude.{Some, None}
+use Rattle.std.specs.Prelude.{Some, None, Option}
 use mathlib.Core.Path.{◌≡◌, refl, ap, ◌∙◌}
 use mathlib.Core.Bool.{Bool, true, false, not, ◌||◌}
 use mathlib.Core.List.{List, [], map}
@@ -26,7 +26,7 @@ use Rattle.commands.proofs.Commands.{map_tab}
 use Rattle.commands.proofs.Ranges.{InAddress, InPower, Ranged, RangedList, too_big}
 use Rattle.commands.proofs.Lengths.{Typed}
 use Rattle.types.specs.declared.{Nwk.Nwk, PanId.PanId}
-use Rattle.commands.specs.declared.{NwkCommandId.NwkCommandId, NwkCommand.NwkCommand, NwkCommandList.NwkCommandList, TypedBody.TypedBody, NwkLinkStatus.NwkLinkStatus, NwkPowerListEntry.NwkPowerListEntry, NwkRouteRequestManyToOneCode.NwkRouteRequestManyToOneCode, NwkNetworkStatusCode.NwkNetworkStatusCode, Nwk802154AssociationStatusCode.Nwk802154AssociationStatusCode, NwkReportCommandIdentifierCode.NwkReportCommandIdentifierCode, NwkUpdateCommandIdentifierCode.NwkUpdateCommandIdentifierCode, EndDeviceTimeoutCode.EndDeviceTimeoutCode, NwkEndDeviceTimeoutResponseStatusCode.NwkEndDeviceTimeoutResponseStatusCode, NwkLinkPowerDeltaTypeCode.NwkLinkPowerDeltaTypeCode, NwkCommissioningTypeCode.NwkCommissioningTypeCode}
+use Rattle.commands.specs.declared.{NwkCommandId.NwkCommandId, NwkCommand.NwkCommand, NwkCommandList.NwkCommandList, NwkLinkStatus.NwkLinkStatus, NwkPowerListEntry.NwkPowerListEntry, NwkRouteRequestManyToOne.NwkRouteRequestManyToOne, NwkNetworkStatus.NwkNetworkStatus, Nwk802154AssociationStatus.Nwk802154AssociationStatus, NwkReportCommandIdentifier.NwkReportCommandIdentifier, NwkUpdateCommandIdentifier.NwkUpdateCommandIdentifier, EndDeviceTimeout.EndDeviceTimeout, NwkEndDeviceTimeoutResponseStatus.NwkEndDeviceTimeoutResponseStatus, NwkLinkPowerDeltaType.NwkLinkPowerDeltaType, NwkCommissioningType.NwkCommissioningType}
 
 -- ---- the places of an array
 
@@ -185,14 +185,14 @@ address_read : (f : Format) (s : List ℕ) (k : ℕ) → Below 256 s → f.entry
 address_read f s k b e = elim (dec_lt k (announced f s)) [ yes l ↦ there f s k b e l | no l ↦ past f s k (omega arith) ]
 
 -- what reading a command owes writing it
-abbrev pub Writable : List ℕ → TypedBody → Type 0
-Writable s (TypedBody.Typed c) = Typed (list_of c) × Ranged c × Good (list_of c) c s
-Writable s TypedBody.NotTyped = Unit {0}
+abbrev pub Writable : List ℕ → Option NwkCommand → Type 0
+Writable s (Some c) = Typed (list_of c) × Ranged c × Good (list_of c) c s
+Writable s None = Unit {0}
 
-route_request_writable : (k : NwkRouteRequestManyToOneCode) (s : List ℕ) → Below 256 s → Writable s (route_request_by k (values route_request_format s))
+route_request_writable : (k : Option NwkRouteRequestManyToOne) (s : List ℕ) → Below 256 s → Writable s (route_request_by k (values route_request_format s))
 unfolding meanings codings readings too_big
-route_request_writable (NwkRouteRequestManyToOneCode.Known k) s b = (tt, (b 2, le_at_lt 2 s 3 b, b 5, address_of_in _ _ (address_read route_request_format s 0 b refl)), (tt, refl))
-route_request_writable NwkRouteRequestManyToOneCode.Unknown s b = tt
+route_request_writable (Some k) s b = (tt, (b 2, le_at_lt 2 s 3 b, b 5, address_of_in _ _ (address_read route_request_format s 0 b refl)), (tt, refl))
+route_request_writable None s b = tt
 
 route_reply_writable : (s : List ℕ) → Below 256 s → Writable s (route_reply_of (values route_reply_format s))
 unfolding meanings codings readings too_big
@@ -200,10 +200,10 @@ route_reply_writable s b =
     let first = address_of_in _ _ (address_read route_reply_format s 0 b refl) in
     (tt, (b 2, le_at_lt 2 s 3 b, le_at_lt 2 s 5 b, b 7, first, address_of_in _ _ (address_read route_reply_format s _ b refl)), (tt, refl))
 
-network_status_writable : (k : NwkNetworkStatusCode) (s : List ℕ) → Below 256 s → Writable s (network_status_by k (values network_status_format s))
+network_status_writable : (k : Option NwkNetworkStatus) (s : List ℕ) → Below 256 s → Writable s (network_status_by k (values network_status_format s))
 unfolding meanings codings readings too_big
-network_status_writable (NwkNetworkStatusCode.Known k) s b = (tt, le_at_lt 2 s 2 b, (tt, refl))
-network_status_writable NwkNetworkStatusCode.Unknown s b = tt
+network_status_writable (Some k) s b = (tt, le_at_lt 2 s 2 b, (tt, refl))
+network_status_writable None s b = tt
 
 leave_writable : (s : List ℕ) → Below 256 s → Writable s (leave_of (values leave_format s))
 unfolding meanings codings readings too_big
@@ -217,51 +217,51 @@ rejoin_request_writable : (s : List ℕ) → Below 256 s → Writable s (rejoin_
 unfolding meanings codings readings too_big
 rejoin_request_writable s b = (tt, tt, (tt, refl))
 
-rejoin_response_writable : (k : Nwk802154AssociationStatusCode) (s : List ℕ) → Below 256 s → Writable s (rejoin_response_by k (values rejoin_response_format s))
+rejoin_response_writable : (k : Option Nwk802154AssociationStatus) (s : List ℕ) → Below 256 s → Writable s (rejoin_response_by k (values rejoin_response_format s))
 unfolding meanings codings readings too_big
-rejoin_response_writable (Nwk802154AssociationStatusCode.Known k) s b = (tt, le_at_lt 2 s 1 b, (tt, refl))
-rejoin_response_writable Nwk802154AssociationStatusCode.Unknown s b = tt
+rejoin_response_writable (Some k) s b = (tt, le_at_lt 2 s 1 b, (tt, refl))
+rejoin_response_writable None s b = tt
 
 link_status_writable : (s : List ℕ) → Below 256 s → Writable s (link_status_of (values link_status_format s))
 unfolding meanings codings readings
 link_status_writable s b = (tt, tt, links_read _ s b)
 
-network_report_writable : (k : NwkReportCommandIdentifierCode) (s : List ℕ) → Below 256 s → Writable s (network_report_by k (values network_report_format s))
+network_report_writable : (k : Option NwkReportCommandIdentifier) (s : List ℕ) → Below 256 s → Writable s (network_report_by k (values network_report_format s))
 unfolding meanings codings readings
-network_report_writable (NwkReportCommandIdentifierCode.Known k) s b = (tt, le_at_lt 8 s 2 b, pan_ids_read _ s b)
-network_report_writable NwkReportCommandIdentifierCode.Unknown s b = tt
+network_report_writable (Some k) s b = (tt, le_at_lt 8 s 2 b, pan_ids_read _ s b)
+network_report_writable None s b = tt
 
-network_update_writable : (k : NwkUpdateCommandIdentifierCode) (s : List ℕ) → Below 256 s → Writable s (network_update_by k (values network_update_format s))
+network_update_writable : (k : Option NwkUpdateCommandIdentifier) (s : List ℕ) → Below 256 s → Writable s (network_update_by k (values network_update_format s))
 unfolding meanings codings readings too_big
-network_update_writable (NwkUpdateCommandIdentifierCode.Known k) s b =
+network_update_writable (Some k) s b =
     (tt, (le_at_lt 8 s 2 b, b 10, le_at_lt 2 s 11 b), (tt, le-ltb 31 (get_or s 1 0 % 32) (small (mod-lt (get_or s 1 0) (omega arith)))))
-network_update_writable NwkUpdateCommandIdentifierCode.Unknown s b = tt
+network_update_writable None s b = tt
 
-timeout_request_writable : (k : EndDeviceTimeoutCode) (s : List ℕ) → Below 256 s → Writable s (timeout_request_by k (values timeout_request_format s))
+timeout_request_writable : (k : Option EndDeviceTimeout) (s : List ℕ) → Below 256 s → Writable s (timeout_request_by k (values timeout_request_format s))
 unfolding meanings codings readings too_big
-timeout_request_writable (EndDeviceTimeoutCode.Known k) s b = (tt, b 2, (tt, refl))
-timeout_request_writable EndDeviceTimeoutCode.Unknown s b = tt
+timeout_request_writable (Some k) s b = (tt, b 2, (tt, refl))
+timeout_request_writable None s b = tt
 
-timeout_response_writable : (k : NwkEndDeviceTimeoutResponseStatusCode) (s : List ℕ) → Below 256 s → Writable s (timeout_response_by k (values timeout_response_format s))
+timeout_response_writable : (k : Option NwkEndDeviceTimeoutResponseStatus) (s : List ℕ) → Below 256 s → Writable s (timeout_response_by k (values timeout_response_format s))
 unfolding meanings codings readings too_big
-timeout_response_writable (NwkEndDeviceTimeoutResponseStatusCode.Known k) s b = (tt, tt, (tt, refl))
-timeout_response_writable NwkEndDeviceTimeoutResponseStatusCode.Unknown s b = tt
+timeout_response_writable (Some k) s b = (tt, tt, (tt, refl))
+timeout_response_writable None s b = tt
 
-link_power_delta_writable : (k : NwkLinkPowerDeltaTypeCode) (s : List ℕ) → Below 256 s → length s ≤ 108
+link_power_delta_writable : (k : Option NwkLinkPowerDeltaType) (s : List ℕ) → Below 256 s → length s ≤ 108
     → body_end link_power_delta_format s ≤ length s → Writable s (link_power_delta_by k (values link_power_delta_format s))
 unfolding meanings codings readings
-link_power_delta_writable (NwkLinkPowerDeltaTypeCode.Known k) s b short whole = (tt, tt, powers_read _ s b short whole)
-link_power_delta_writable NwkLinkPowerDeltaTypeCode.Unknown s b short whole = tt
+link_power_delta_writable (Some k) s b short whole = (tt, tt, powers_read _ s b short whole)
+link_power_delta_writable None s b short whole = tt
 
-commissioning_request_writable : (k : NwkCommissioningTypeCode) (s : List ℕ) → Below 256 s → Writable s (commissioning_request_by k (values commissioning_request_format s))
+commissioning_request_writable : (k : Option NwkCommissioningType) (s : List ℕ) → Below 256 s → Writable s (commissioning_request_by k (values commissioning_request_format s))
 unfolding meanings codings readings too_big
-commissioning_request_writable (NwkCommissioningTypeCode.Known k) s b = (tt, tt, (tt, refl))
-commissioning_request_writable NwkCommissioningTypeCode.Unknown s b = tt
+commissioning_request_writable (Some k) s b = (tt, tt, (tt, refl))
+commissioning_request_writable None s b = tt
 
-commissioning_response_writable : (k : Nwk802154AssociationStatusCode) (s : List ℕ) → Below 256 s → Writable s (commissioning_response_by k (values commissioning_response_format s))
+commissioning_response_writable : (k : Option Nwk802154AssociationStatus) (s : List ℕ) → Below 256 s → Writable s (commissioning_response_by k (values commissioning_response_format s))
 unfolding meanings codings readings too_big
-commissioning_response_writable (Nwk802154AssociationStatusCode.Known k) s b = (tt, le_at_lt 2 s 1 b, (tt, refl))
-commissioning_response_writable Nwk802154AssociationStatusCode.Unknown s b = tt
+commissioning_response_writable (Some k) s b = (tt, le_at_lt 2 s 1 b, (tt, refl))
+commissioning_response_writable None s b = tt
 
 pub writable : (id : NwkCommandId) (s : List ℕ) → Below 256 s → length s ≤ 108 → body_end (format_of id) s ≤ length s
     → Writable s (command_of id (values (format_of id) s))

@@ -3,6 +3,7 @@
 -- is written as exactly the bytes that were read. The first is the formats' inverse law at the command's own format,
 -- and the second is the first at what was read.
 -- Assumes nothing.
+use Rattle.std.specs.Prelude.{Option, Some, None}
 use mathlib.Core.Path.{◌≡◌, refl, sym, ap, subst, ◌∙◌}
 use mathlib.Core.Bool.{Bool, true, false, cond, not}
 use mathlib.Core.List.{List, [], ◌∷◌, ◌++◌, append-nil}
@@ -17,7 +18,7 @@ use Rattle.octets.proofs.Writing.{write_accepted}
 use Rattle.octets.proofs.Strings.{take_over}
 use Rattle.commands.specs.Codes.{command_id_code, command_id_of}
 use Rattle.commands.specs.Format.{Values, body_end, values, body_bytes, held_values}
-use Rattle.commands.specs.Reading.{format_of, command_of, with_lists, list_of, listed, cleared_by, cleared, body_of, typed_by, typed, unparsed, parsed, read_as, read_nothing, read_refusal, read_command}
+use Rattle.commands.specs.Reading.{NwkCommandRead, format_of, command_of, with_lists, list_of, listed, cleared_by, cleared, body_of, typed_by, typed, unparsed, parsed, read_as, read_nothing, read_refusal, read_command}
 use Rattle.commands.specs.Writing.{Wire, wire_of, wire, wire_bytes, command_bytes, over_places, misfits, field_refusal, write_refusal, write_command}
 use Rattle.commands.specs.Writing.Wire.{body, raw}
 use Rattle.commands.proofs.Format.{Fit, values_back, end_back}
@@ -26,7 +27,7 @@ use Rattle.commands.proofs.Commands.{WireBack, back}
 use Rattle.commands.proofs.Ranges.{misfits_is}
 use Rattle.commands.proofs.Lengths.{Typed, typed_short}
 use Rattle.commands.proofs.Reread.{firsts_places, cleared_read, Writable, writable}
-use Rattle.commands.specs.declared.{NwkCommandId.NwkCommandId, NwkCommandIdCode.NwkCommandIdCode, NwkCommand.NwkCommand, NwkCommandWithLists.NwkCommandWithLists, NwkCommandList.NwkCommandList, NwkCommandRead.NwkCommandRead, TypedBody.TypedBody}
+use Rattle.commands.specs.declared.{NwkCommandId.NwkCommandId, NwkCommand.NwkCommand, NwkCommandWithLists.NwkCommandWithLists, NwkCommandList.NwkCommandList}
 
 -- ---- a typed command reads back
 
@@ -36,8 +37,8 @@ typed_back : (id : NwkCommandId) (v : Values) (rest : List ℕ) → Fit (format_
 unfolding typed typed_by body_of
 typed_back id v rest fit ok =
     let s : List ℕ = command_id_code id ∷ (body_bytes (format_of id) v ++ rest) in
-    ap (λ (k : NwkCommandIdCode). typed_by k s) (command_id_back id)
-    ∙ ap (λ (t : Bool). cond t (command_of id (values (format_of id) s)) TypedBody.NotTyped) (le-leb _ _ (end_back (format_of id) v (command_id_code id) rest fit ok))
+    ap (λ (k : Option NwkCommandId). typed_by k s) (command_id_back id)
+    ∙ ap (λ (t : Bool). cond t (command_of id (values (format_of id) s)) None) (le-leb _ _ (end_back (format_of id) v (command_id_code id) rest fit ok))
     ∙ ap (command_of id) (values_back (format_of id) v (command_id_code id) rest fit ok)
 
 -- no field misfits: every value fits its field
@@ -51,7 +52,7 @@ unfolding wire_bytes parsed
 wire_back c f (body id v) rest w t e =
     let ok : held_values (format_of id) v ≡ true = fits (list_of c) id v e in
     let s : List ℕ = command_id_code id ∷ (body_bytes (format_of id) v ++ rest) in
-    ap (λ (b : TypedBody). parsed b s) (typed_back id v rest w.fit ok ∙ w.command)
+    ap (λ (b : Option NwkCommand). parsed b s) (typed_back id v rest w.fit ok ∙ w.command)
     ∙ w.list s (values_back (format_of id) v (command_id_code id) rest w.fit ok)
 wire_back c f (raw bs) rest w t e = absurd (subst (λ (d : NwkCommand). Typed (list_of d)) w t)
 
@@ -104,24 +105,24 @@ unfolding command_bytes wire wire_of wire_bytes unparsed with_lists
 unparsed_bytes s = firsts_places 0 108 s
 
 -- whatever was read and not typed is written as exactly the bytes that were read
-pub read_unparsed : (s : List ℕ) → typed s ≡ TypedBody.NotTyped → length s ≤ 108 → command_bytes (read_command s).command ≡ s
+pub read_unparsed : (s : List ℕ) → typed s ≡ None → length s ≤ 108 → command_bytes (read_command s).command ≡ s
 unfolding parsed
 read_unparsed s e h =
     ap (λ (r : NwkCommandRead). command_bytes r.command) (read_accepts s h)
-    ∙ ap (λ (b : TypedBody). command_bytes (parsed b s)) e ∙ unparsed_bytes s
+    ∙ ap (λ (b : Option NwkCommand). command_bytes (parsed b s)) e ∙ unparsed_bytes s
 
 -- ---- what was read is read again
 
 -- a command that was read can be written
 body_writable : (id : NwkCommandId) (s : List ℕ) (t : Bool) → leb (body_end (format_of id) s) (length s) ≡ t → Below 256 s → length s ≤ 108
-    → Writable s (cond t (command_of id (values (format_of id) s)) TypedBody.NotTyped)
+    → Writable s (cond t (command_of id (values (format_of id) s)) None)
 body_writable id s true e b short = writable id s b short (leb-true _ _ e)
 body_writable id s false e b short = tt
 
-id_writable : (k : NwkCommandIdCode) (s : List ℕ) → Below 256 s → length s ≤ 108 → Writable s (typed_by k s)
+id_writable : (k : Option NwkCommandId) (s : List ℕ) → Below 256 s → length s ≤ 108 → Writable s (typed_by k s)
 unfolding typed_by body_of
-id_writable (NwkCommandIdCode.Known id) s b short = body_writable id s (leb (body_end (format_of id) s) (length s)) refl b short
-id_writable NwkCommandIdCode.Unknown s b short = tt
+id_writable (Some id) s b short = body_writable id s (leb (body_end (format_of id) s) (length s)) refl b short
+id_writable None s b short = tt
 
 pub typed_writable : (s : List ℕ) → Below 256 s → length s ≤ 108 → Writable s (typed s)
 unfolding typed
@@ -137,11 +138,11 @@ listed_command NwkCommandList.PowerList c s = refl
 listed_command NwkCommandList.Bytes c s = refl
 
 -- no field of a command that was read misfits
-read_fits : (c : NwkCommand) (s : List ℕ) → Writable s (TypedBody.Typed c) → misfits (list_of c) (wire_of c (listed (list_of c) c s)) ≡ false
+read_fits : (c : NwkCommand) (s : List ℕ) → Writable s (Some c) → misfits (list_of c) (wire_of c (listed (list_of c) c s)) ≡ false
 read_fits c s w = misfits_is c (listed (list_of c) c s) w.1 w.2.0 ∙ w.2.1
 
 -- its bytes read as itself
-listed_again : (c : NwkCommand) (s : List ℕ) → Writable s (TypedBody.Typed c)
+listed_again : (c : NwkCommand) (s : List ℕ) → Writable s (Some c)
     → read_command (wire_bytes (wire_of c (listed (list_of c) c s))) ≡ read_as (listed (list_of c) c s)
 listed_again c s w =
     let f : NwkCommandWithLists = listed (list_of c) c s in
@@ -153,13 +154,13 @@ listed_again c s w =
     (ap (λ (l : List ℕ). parsed (typed l) l) (sym n) ∙ wire_back c f (wire_of c f) [] (back c f) w.0 e ∙ cleared_read (list_of c) c s)
 
 -- by what the bytes hold
-again : (s : List ℕ) (t : TypedBody) → Writable s t → length s ≤ 108 → typed s ≡ t
+again : (s : List ℕ) (t : Option NwkCommand) → Writable s t → length s ≤ 108 → typed s ≡ t
     → read_command (command_bytes (parsed t s)) ≡ read_as (parsed t s)
 unfolding parsed command_bytes wire
-again s (TypedBody.Typed c) w h e =
+again s (Some c) w h e =
     ap (λ (d : NwkCommand). read_command (wire_bytes (wire_of d (listed (list_of c) c s)))) (listed_command (list_of c) c s) ∙ listed_again c s w
-again s TypedBody.NotTyped w h e =
-    ap read_command (unparsed_bytes s) ∙ read_accepts s h ∙ ap (λ (t : TypedBody). read_as (parsed t s)) e
+again s None w h e =
+    ap read_command (unparsed_bytes s) ∙ read_accepts s h ∙ ap (λ (t : Option NwkCommand). read_as (parsed t s)) e
 
 -- whatever bytes were read, writing the command and reading again gives the same command
 pub read_write_read : (s : List ℕ) → Below 256 s → length s ≤ 108 → read_command (command_bytes (read_command s).command) ≡ read_command s
@@ -179,16 +180,16 @@ writes : (f : NwkCommandWithLists) (room : ℕ) → misfits (list_of f.command) 
 unfolding field_refusal write_refusal
 writes f room e h = skip_by _ _ (none_refuse _ (e, tt)) ∙ skip 17 _ _ (le-ltb 108 _ h)
 
-parsed_writes : (s : List ℕ) (t : TypedBody) (room : ℕ) → Writable s t → length s ≤ 108 → write_refusal (parsed t s) room ≡ no_room (parsed t s) room
+parsed_writes : (s : List ℕ) (t : Option NwkCommand) (room : ℕ) → Writable s t → length s ≤ 108 → write_refusal (parsed t s) room ≡ no_room (parsed t s) room
 unfolding parsed unparsed with_lists misfits wire wire_of command_bytes
-parsed_writes s (TypedBody.Typed c) room w h =
+parsed_writes s (Some c) room w h =
     let f : NwkCommandWithLists = listed (list_of c) c s in
     let same : f.command ≡ c = listed_command (list_of c) c s in
     let e : misfits (list_of c) (wire_of c f) ≡ false = read_fits c s w in
     writes f room
     (subst (λ (d : NwkCommand). misfits (list_of d) (wire_of d f) ≡ false) (sym same) e)
     (subst (λ (d : NwkCommand). length (wire_bytes (wire_of d f)) ≤ 108) (sym same) (typed_short c f w.0 e))
-parsed_writes s TypedBody.NotTyped room w h = writes (unparsed s) room refl (subst (λ (l : List ℕ). length l ≤ 108) (sym (unparsed_bytes s)) h)
+parsed_writes s None room w h = writes (unparsed s) room refl (subst (λ (l : List ℕ). length l ≤ 108) (sym (unparsed_bytes s)) h)
 
 -- of what was read only the room can be missing
 pub read_writes : (s : List ℕ) (room : ℕ) → Below 256 s → length s ≤ 108

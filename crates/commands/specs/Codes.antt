@@ -1,8 +1,14 @@
 -- The codes of the commands' enums: the number of each value, and the value of each declared number (document 01,
 -- "Codes"). A dense code is a list in the order of its numbers.
 -- Assumes nothing.
-use Rattle.std.specs.Prelude.{ℕ, ◌-◌, Bool, true, false, cond, List, [], ◌∷◌, get_or, ltb, leb, eqb}
-use Rattle.commands.specs.declared.{NwkCommandId.NwkCommandId, NwkRouteRequestManyToOne.NwkRouteRequestManyToOne, NwkNetworkStatus.NwkNetworkStatus, NwkRejoinCapabilityInformationDeviceType.NwkRejoinCapabilityInformationDeviceType, NwkRejoinCapabilityInformationPowerSource.NwkRejoinCapabilityInformationPowerSource, Nwk802154AssociationStatus.Nwk802154AssociationStatus, NwkReportCommandIdentifier.NwkReportCommandIdentifier, NwkUpdateCommandIdentifier.NwkUpdateCommandIdentifier, EndDeviceTimeout.EndDeviceTimeout, NwkEndDeviceTimeoutResponseStatus.NwkEndDeviceTimeoutResponseStatus, NwkLinkPowerDeltaType.NwkLinkPowerDeltaType, NwkCommissioningType.NwkCommissioningType, NwkCommandIdCode.NwkCommandIdCode, NwkRouteRequestManyToOneCode.NwkRouteRequestManyToOneCode, NwkNetworkStatusCode.NwkNetworkStatusCode, Nwk802154AssociationStatusCode.Nwk802154AssociationStatusCode, NwkReportCommandIdentifierCode.NwkReportCommandIdentifierCode, NwkUpdateCommandIdentifierCode.NwkUpdateCommandIdentifierCode, EndDeviceTimeoutCode.EndDeviceTimeoutCode, NwkEndDeviceTimeoutResponseStatusCode.NwkEndDeviceTimeoutResponseStatusCode, NwkLinkPowerDeltaTypeCode.NwkLinkPowerDeltaTypeCode, NwkCommissioningTypeCode.NwkCommissioningTypeCode}
+use Rattle.std.specs.Prelude.{◌≡◌, ℕ, ◌-◌, Bool, true, false, cond, List, [], ◌∷◌, get_or, ltb, leb, eqb, Option, Some, None, Result, IfErr}
+use Rattle.std.specs.Result.{result_ok}
+use Rattle.octets.specs.declared.refusals.Refusal.{Refusal}
+use Rattle.commands.specs.declared.{NwkCommandId.NwkCommandId, NwkRouteRequestManyToOne.NwkRouteRequestManyToOne, NwkNetworkStatus.NwkNetworkStatus, NwkRejoinCapabilityInformationDeviceType.NwkRejoinCapabilityInformationDeviceType, NwkRejoinCapabilityInformationPowerSource.NwkRejoinCapabilityInformationPowerSource, Nwk802154AssociationStatus.Nwk802154AssociationStatus, NwkReportCommandIdentifier.NwkReportCommandIdentifier, NwkUpdateCommandIdentifier.NwkUpdateCommandIdentifier, EndDeviceTimeout.EndDeviceTimeout, NwkEndDeviceTimeoutResponseStatus.NwkEndDeviceTimeoutResponseStatus, NwkLinkPowerDeltaType.NwkLinkPowerDeltaType, NwkCommissioningType.NwkCommissioningType}
+
+-- what a number gives: the value of a declared one, else refusal 13
+abbrev pub Decodes : {A : Type 0} → (ℕ → Option A) → ℕ → Result A Refusal → Type 0
+Decodes value_of n r = (result_ok r ≡ value_of n) × IfErr r (λ e. e ≡ Refusal.Field)
 
 -- 3.4: the command identifier
 abbrev pub command_id_code : NwkCommandId → ℕ
@@ -30,8 +36,8 @@ command_ids =
     ∷ NwkCommandId.EndDeviceTimeoutResponse ∷ NwkCommandId.LinkPowerDelta ∷ NwkCommandId.NetworkCommissioningRequest
     ∷ NwkCommandId.NetworkCommissioningResponse ∷ []
 
-unfoldable pub command_id_of : ℕ → NwkCommandIdCode
-command_id_of n = cond (eqb n 0) NwkCommandIdCode.Unknown (cond (leb n 15) (NwkCommandIdCode.Known (get_or command_ids (n - 1) NwkCommandId.RouteRequest)) NwkCommandIdCode.Unknown)
+unfoldable pub command_id_of : ℕ → Option NwkCommandId
+command_id_of n = cond (eqb n 0) None (cond (leb n 15) (Some (get_or command_ids (n - 1) NwkCommandId.RouteRequest)) None)
 
 -- 3.4.1.3.1.1: many-to-one; value 3 is typed
 abbrev pub many_to_one_code : NwkRouteRequestManyToOne → ℕ
@@ -45,8 +51,8 @@ many_to_ones =
     NwkRouteRequestManyToOne.NotManyToOne ∷ NwkRouteRequestManyToOne.ManyToOneSenderSupportsRouteRecordTable
     ∷ NwkRouteRequestManyToOne.ManyToOneSenderDoesntSupportRouteRecordTable ∷ NwkRouteRequestManyToOne.Reserved ∷ []
 
-unfoldable pub many_to_one_of : ℕ → NwkRouteRequestManyToOneCode
-many_to_one_of n = cond (ltb n 4) (NwkRouteRequestManyToOneCode.Known (get_or many_to_ones n NwkRouteRequestManyToOne.NotManyToOne)) NwkRouteRequestManyToOneCode.Unknown
+unfoldable pub many_to_one_of : ℕ → Option NwkRouteRequestManyToOne
+many_to_one_of n = cond (ltb n 4) (Some (get_or many_to_ones n NwkRouteRequestManyToOne.NotManyToOne)) None
 
 -- 3.4.3: network status
 abbrev pub status_code : NwkNetworkStatus → ℕ
@@ -83,8 +89,8 @@ statuses =
     ∷ NwkNetworkStatus.BadFrameCounter ∷ NwkNetworkStatus.BadKeySequenceNumber ∷ NwkNetworkStatus.UnknownCommand
     ∷ NwkNetworkStatus.PanIdConflictReport ∷ []
 
-unfoldable pub status_of : ℕ → NwkNetworkStatusCode
-status_of n = cond (ltb n 21) (NwkNetworkStatusCode.Known (get_or statuses n NwkNetworkStatus.LegacyNoRouteAvailable)) NwkNetworkStatusCode.Unknown
+unfoldable pub status_of : ℕ → Option NwkNetworkStatus
+status_of n = cond (ltb n 21) (Some (get_or statuses n NwkNetworkStatus.LegacyNoRouteAvailable)) None
 
 -- 3.4.7: association status; 4 to 0x7F, 0x81 to 0xEF and above 0xF0 are undeclared
 abbrev pub association_status_code : Nwk802154AssociationStatus → ℕ
@@ -100,26 +106,26 @@ association_statuses =
     Nwk802154AssociationStatus.AssociationSuccessful ∷ Nwk802154AssociationStatus.PanAtCapacity
     ∷ Nwk802154AssociationStatus.PanAccessDenied ∷ Nwk802154AssociationStatus.HoppingSequenceOffsetDuplication ∷ []
 
-unfoldable pub association_status_of : ℕ → Nwk802154AssociationStatusCode
+unfoldable pub association_status_of : ℕ → Option Nwk802154AssociationStatus
 association_status_of n =
-    cond (ltb n 4) (Nwk802154AssociationStatusCode.Known (get_or association_statuses n Nwk802154AssociationStatus.AssociationSuccessful))
-    (cond (eqb n 0x80) (Nwk802154AssociationStatusCode.Known Nwk802154AssociationStatus.FastAssociationSuccessful)
-    (cond (eqb n 0xF0) (Nwk802154AssociationStatusCode.Known Nwk802154AssociationStatus.ZigbeeAddressConflict)
-    Nwk802154AssociationStatusCode.Unknown))
+    cond (ltb n 4) (Some (get_or association_statuses n Nwk802154AssociationStatus.AssociationSuccessful))
+    (cond (eqb n 0x80) (Some Nwk802154AssociationStatus.FastAssociationSuccessful)
+    (cond (eqb n 0xF0) (Some Nwk802154AssociationStatus.ZigbeeAddressConflict)
+    None))
 
 -- 3.4.9: report command identifier
 abbrev pub report_identifier_code : NwkReportCommandIdentifier → ℕ
 report_identifier_code NwkReportCommandIdentifier.PanIdentifierConflict = 0
 
-unfoldable pub report_identifier_of : ℕ → NwkReportCommandIdentifierCode
-report_identifier_of n = cond (eqb n 0) (NwkReportCommandIdentifierCode.Known NwkReportCommandIdentifier.PanIdentifierConflict) NwkReportCommandIdentifierCode.Unknown
+unfoldable pub report_identifier_of : ℕ → Option NwkReportCommandIdentifier
+report_identifier_of n = cond (eqb n 0) (Some NwkReportCommandIdentifier.PanIdentifierConflict) None
 
 -- 3.4.10: update command identifier
 abbrev pub update_identifier_code : NwkUpdateCommandIdentifier → ℕ
 update_identifier_code NwkUpdateCommandIdentifier.PanIdentifierUpdate = 0
 
-unfoldable pub update_identifier_of : ℕ → NwkUpdateCommandIdentifierCode
-update_identifier_of n = cond (eqb n 0) (NwkUpdateCommandIdentifierCode.Known NwkUpdateCommandIdentifier.PanIdentifierUpdate) NwkUpdateCommandIdentifierCode.Unknown
+unfoldable pub update_identifier_of : ℕ → Option NwkUpdateCommandIdentifier
+update_identifier_of n = cond (eqb n 0) (Some NwkUpdateCommandIdentifier.PanIdentifierUpdate) None
 
 -- 3.4.11: timeout
 abbrev pub timeout_code : EndDeviceTimeout → ℕ
@@ -146,8 +152,8 @@ timeouts =
     ∷ EndDeviceTimeout.Minutes256 ∷ EndDeviceTimeout.Minutes512 ∷ EndDeviceTimeout.Minutes1024 ∷ EndDeviceTimeout.Minutes2048
     ∷ EndDeviceTimeout.Minutes4096 ∷ EndDeviceTimeout.Minutes8192 ∷ EndDeviceTimeout.Minutes16384 ∷ []
 
-unfoldable pub timeout_of : ℕ → EndDeviceTimeoutCode
-timeout_of n = cond (ltb n 15) (EndDeviceTimeoutCode.Known (get_or timeouts n EndDeviceTimeout.Seconds10)) EndDeviceTimeoutCode.Unknown
+unfoldable pub timeout_of : ℕ → Option EndDeviceTimeout
+timeout_of n = cond (ltb n 15) (Some (get_or timeouts n EndDeviceTimeout.Seconds10)) None
 
 -- 3.4.12: timeout response status
 abbrev pub timeout_status_code : NwkEndDeviceTimeoutResponseStatus → ℕ
@@ -160,8 +166,8 @@ timeout_statuses =
     NwkEndDeviceTimeoutResponseStatus.Success ∷ NwkEndDeviceTimeoutResponseStatus.IncorrectValue
     ∷ NwkEndDeviceTimeoutResponseStatus.UnsupportedFeature ∷ []
 
-unfoldable pub timeout_status_of : ℕ → NwkEndDeviceTimeoutResponseStatusCode
-timeout_status_of n = cond (ltb n 3) (NwkEndDeviceTimeoutResponseStatusCode.Known (get_or timeout_statuses n NwkEndDeviceTimeoutResponseStatus.Success)) NwkEndDeviceTimeoutResponseStatusCode.Unknown
+unfoldable pub timeout_status_of : ℕ → Option NwkEndDeviceTimeoutResponseStatus
+timeout_status_of n = cond (ltb n 3) (Some (get_or timeout_statuses n NwkEndDeviceTimeoutResponseStatus.Success)) None
 
 -- 3.4.13: power type
 abbrev pub power_type_code : NwkLinkPowerDeltaType → ℕ
@@ -173,8 +179,8 @@ unfoldable pub power_types : List NwkLinkPowerDeltaType
 power_types =
     NwkLinkPowerDeltaType.Notification ∷ NwkLinkPowerDeltaType.Request ∷ NwkLinkPowerDeltaType.Response ∷ []
 
-unfoldable pub power_type_of : ℕ → NwkLinkPowerDeltaTypeCode
-power_type_of n = cond (ltb n 3) (NwkLinkPowerDeltaTypeCode.Known (get_or power_types n NwkLinkPowerDeltaType.Notification)) NwkLinkPowerDeltaTypeCode.Unknown
+unfoldable pub power_type_of : ℕ → Option NwkLinkPowerDeltaType
+power_type_of n = cond (ltb n 3) (Some (get_or power_types n NwkLinkPowerDeltaType.Notification)) None
 
 -- 3.4.14: commissioning type
 abbrev pub commissioning_type_code : NwkCommissioningType → ℕ
@@ -185,8 +191,8 @@ unfoldable pub commissioning_types : List NwkCommissioningType
 commissioning_types =
     NwkCommissioningType.InitialJoin ∷ NwkCommissioningType.Rejoin ∷ []
 
-unfoldable pub commissioning_type_of : ℕ → NwkCommissioningTypeCode
-commissioning_type_of n = cond (ltb n 2) (NwkCommissioningTypeCode.Known (get_or commissioning_types n NwkCommissioningType.InitialJoin)) NwkCommissioningTypeCode.Unknown
+unfoldable pub commissioning_type_of : ℕ → Option NwkCommissioningType
+commissioning_type_of n = cond (ltb n 2) (Some (get_or commissioning_types n NwkCommissioningType.InitialJoin)) None
 
 -- a bit as a truth value
 abbrev pub is_set : ℕ → Bool

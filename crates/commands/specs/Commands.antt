@@ -12,7 +12,7 @@ use Rattle.commands.specs.Format.Part.{keep, skip}
 use Rattle.commands.specs.Format.Field.{byte, number, bits}
 use Rattle.types.specs.Addresses.{nwk, pan_id, no_nwk}
 use Rattle.types.specs.declared.{Nwk.Nwk, PanId.PanId}
-use Rattle.commands.specs.declared.{NwkRouteRequestCommand.NwkRouteRequestCommand, NwkRouteReplyCommand.NwkRouteReplyCommand, NwkNetworkStatusCommand.NwkNetworkStatusCommand, NwkLeaveCommand.NwkLeaveCommand, NwkRejoinCapabilityInformation.NwkRejoinCapabilityInformation, NwkRejoinRequestCommand.NwkRejoinRequestCommand, NwkRejoinResponseCommand.NwkRejoinResponseCommand, NwkLinkStatusCommand.NwkLinkStatusCommand, NwkLinkStatus.NwkLinkStatus, NwkNetworkReportCommand.NwkNetworkReportCommand, NwkNetworkUpdateCommand.NwkNetworkUpdateCommand, NwkEndDeviceTimeoutRequestCommand.NwkEndDeviceTimeoutRequestCommand, NwkEndDeviceTimeoutResponseCommand.NwkEndDeviceTimeoutResponseCommand, NwkLinkPowerDeltaCommand.NwkLinkPowerDeltaCommand, NwkPowerListEntry.NwkPowerListEntry, NwkNetworkCommissioningRequestCommand.NwkNetworkCommissioningRequestCommand, NwkNetworkCommissioningResponseCommand.NwkNetworkCommissioningResponseCommand, NwkRouteRequestManyToOneCode.NwkRouteRequestManyToOneCode, NwkNetworkStatusCode.NwkNetworkStatusCode, Nwk802154AssociationStatusCode.Nwk802154AssociationStatusCode, NwkReportCommandIdentifierCode.NwkReportCommandIdentifierCode, NwkUpdateCommandIdentifierCode.NwkUpdateCommandIdentifierCode, EndDeviceTimeoutCode.EndDeviceTimeoutCode, NwkEndDeviceTimeoutResponseStatusCode.NwkEndDeviceTimeoutResponseStatusCode, NwkLinkPowerDeltaTypeCode.NwkLinkPowerDeltaTypeCode, NwkCommissioningTypeCode.NwkCommissioningTypeCode, NwkCommand.NwkCommand, TypedBody.TypedBody}
+use Rattle.commands.specs.declared.{NwkRouteRequestCommand.NwkRouteRequestCommand, NwkRouteReplyCommand.NwkRouteReplyCommand, NwkNetworkStatusCommand.NwkNetworkStatusCommand, NwkLeaveCommand.NwkLeaveCommand, NwkRejoinCapabilityInformation.NwkRejoinCapabilityInformation, NwkRejoinRequestCommand.NwkRejoinRequestCommand, NwkRejoinResponseCommand.NwkRejoinResponseCommand, NwkLinkStatusCommand.NwkLinkStatusCommand, NwkLinkStatus.NwkLinkStatus, NwkNetworkReportCommand.NwkNetworkReportCommand, NwkNetworkUpdateCommand.NwkNetworkUpdateCommand, NwkEndDeviceTimeoutRequestCommand.NwkEndDeviceTimeoutRequestCommand, NwkEndDeviceTimeoutResponseCommand.NwkEndDeviceTimeoutResponseCommand, NwkLinkPowerDeltaCommand.NwkLinkPowerDeltaCommand, NwkPowerListEntry.NwkPowerListEntry, NwkNetworkCommissioningRequestCommand.NwkNetworkCommissioningRequestCommand, NwkNetworkCommissioningResponseCommand.NwkNetworkCommissioningResponseCommand, NwkCommand.NwkCommand, NwkRouteRequestManyToOne.NwkRouteRequestManyToOne, NwkNetworkStatus.NwkNetworkStatus, Nwk802154AssociationStatus.Nwk802154AssociationStatus, NwkReportCommandIdentifier.NwkReportCommandIdentifier, NwkUpdateCommandIdentifier.NwkUpdateCommandIdentifier, EndDeviceTimeout.EndDeviceTimeout, NwkEndDeviceTimeoutResponseStatus.NwkEndDeviceTimeoutResponseStatus, NwkLinkPowerDeltaType.NwkLinkPowerDeltaType, NwkCommissioningType.NwkCommissioningType}
 
 -- a body without entries
 abbrev plain : List Field → Format
@@ -60,18 +60,18 @@ route_request_format =
     }
 
 -- the values: many-to-one, has destination IEEE, route request identifier, destination address, path cost
-unfoldable pub route_request_by : NwkRouteRequestManyToOneCode → Values → TypedBody
-route_request_by (NwkRouteRequestManyToOneCode.Known code) v =
-    TypedBody.Typed (NwkCommand.RouteRequest (record {
+unfoldable pub route_request_by : Option NwkRouteRequestManyToOne → Values → Option NwkCommand
+route_request_by (Some code) v =
+    Some (NwkCommand.RouteRequest (record {
       many_to_one = code;
       route_request_identifier = at v 2;
       destination_address = nwk (at v 3);
       path_cost = at v 4;
       destination_eui64 = address_of (at v 1) (entry_at v 0);
     }))
-route_request_by NwkRouteRequestManyToOneCode.Unknown v = TypedBody.NotTyped
+route_request_by None v = None
 
-unfoldable pub route_request_of : Values → TypedBody
+unfoldable pub route_request_of : Values → Option NwkCommand
 route_request_of v = route_request_by (many_to_one_of (at v 0)) v
 
 unfoldable pub route_request_values : NwkRouteRequestCommand → Values
@@ -94,9 +94,9 @@ route_reply_format =
     }
 
 -- the values: has originator IEEE, has responder IEEE, route request identifier, originator, responder, path cost
-unfoldable pub route_reply_of : Values → TypedBody
+unfoldable pub route_reply_of : Values → Option NwkCommand
 route_reply_of v =
-    TypedBody.Typed (NwkCommand.RouteReply (record {
+    Some (NwkCommand.RouteReply (record {
       route_request_identifier = at v 2;
       originator_nwk = nwk (at v 3);
       responder_nwk = nwk (at v 4);
@@ -120,12 +120,12 @@ unfoldable pub network_status_format : Format
 network_status_format = plain (byte ∷ number 2 ∷ [])
 
 -- the values: status code, network address
-unfoldable pub network_status_by : NwkNetworkStatusCode → Values → TypedBody
-network_status_by (NwkNetworkStatusCode.Known code) v =
-    TypedBody.Typed (NwkCommand.NetworkStatus (record { status_code = code; network_address = nwk (at v 1) }))
-network_status_by NwkNetworkStatusCode.Unknown v = TypedBody.NotTyped
+unfoldable pub network_status_by : Option NwkNetworkStatus → Values → Option NwkCommand
+network_status_by (Some code) v =
+    Some (NwkCommand.NetworkStatus (record { status_code = code; network_address = nwk (at v 1) }))
+network_status_by None v = None
 
-unfoldable pub network_status_of : Values → TypedBody
+unfoldable pub network_status_of : Values → Option NwkCommand
 network_status_of v = network_status_by (status_of (at v 0)) v
 
 unfoldable pub network_status_values : NwkNetworkStatusCommand → Values
@@ -137,9 +137,9 @@ unfoldable pub leave_format : Format
 leave_format = plain (bits (skip 5 ∷ keep 1 ∷ keep 1 ∷ keep 1 ∷ []) ∷ [])
 
 -- the values: rejoin, request, remove children
-unfoldable pub leave_of : Values → TypedBody
+unfoldable pub leave_of : Values → Option NwkCommand
 leave_of v =
-    TypedBody.Typed (NwkCommand.Leave (record { rejoin = is_set (at v 0); request = is_set (at v 1); remove_children = is_set (at v 2) }))
+    Some (NwkCommand.Leave (record { rejoin = is_set (at v 0); request = is_set (at v 1); remove_children = is_set (at v 2) }))
 
 unfoldable pub leave_values : NwkLeaveCommand → Values
 leave_values c = only (bit c.rejoin ∷ bit c.request ∷ bit c.remove_children ∷ [])
@@ -150,8 +150,8 @@ unfoldable pub route_record_format : Format
 route_record_format = record { head = byte ∷ []; counts = 0 ∷ []; entry = number 2 ∷ [] }
 
 -- the values: relay count; an entry is a relay
-unfoldable pub route_record_of : Values → TypedBody
-route_record_of v = TypedBody.Typed NwkCommand.RouteRecord
+unfoldable pub route_record_of : Values → Option NwkCommand
+route_record_of v = Some NwkCommand.RouteRecord
 
 unfoldable pub relay_of : List ℕ → Nwk
 relay_of e = nwk (get_or e 0 0)
@@ -197,8 +197,8 @@ unfoldable pub rejoin_request_format : Format
 rejoin_request_format = plain (capability_field ∷ [])
 
 -- the values: the capability information
-unfoldable pub rejoin_request_of : Values → TypedBody
-rejoin_request_of v = TypedBody.Typed (NwkCommand.RejoinRequest (record { capability_information = capability_of v.head }))
+unfoldable pub rejoin_request_of : Values → Option NwkCommand
+rejoin_request_of v = Some (NwkCommand.RejoinRequest (record { capability_information = capability_of v.head }))
 
 unfoldable pub rejoin_request_values : NwkRejoinRequestCommand → Values
 rejoin_request_values c = only (capability_values c.capability_information)
@@ -209,12 +209,12 @@ unfoldable pub rejoin_response_format : Format
 rejoin_response_format = plain (number 2 ∷ byte ∷ [])
 
 -- the values: network address, rejoin status
-unfoldable pub rejoin_response_by : Nwk802154AssociationStatusCode → Values → TypedBody
-rejoin_response_by (Nwk802154AssociationStatusCode.Known code) v =
-    TypedBody.Typed (NwkCommand.RejoinResponse (record { network_address = nwk (at v 0); rejoin_status = code }))
-rejoin_response_by Nwk802154AssociationStatusCode.Unknown v = TypedBody.NotTyped
+unfoldable pub rejoin_response_by : Option Nwk802154AssociationStatus → Values → Option NwkCommand
+rejoin_response_by (Some code) v =
+    Some (NwkCommand.RejoinResponse (record { network_address = nwk (at v 0); rejoin_status = code }))
+rejoin_response_by None v = None
 
-unfoldable pub rejoin_response_of : Values → TypedBody
+unfoldable pub rejoin_response_of : Values → Option NwkCommand
 rejoin_response_of v = rejoin_response_by (association_status_of (at v 1)) v
 
 unfoldable pub rejoin_response_values : NwkRejoinResponseCommand → Values
@@ -231,9 +231,9 @@ link_status_format =
     }
 
 -- the values: entry count, is first frame, is last frame; an entry is an address, an incoming and an outgoing cost
-unfoldable pub link_status_of : Values → TypedBody
+unfoldable pub link_status_of : Values → Option NwkCommand
 link_status_of v =
-    TypedBody.Typed (NwkCommand.LinkStatus (record { is_first_frame = is_set (at v 1); is_last_frame = is_set (at v 2) }))
+    Some (NwkCommand.LinkStatus (record { is_first_frame = is_set (at v 1); is_last_frame = is_set (at v 2) }))
 
 unfoldable pub link_of : List ℕ → NwkLinkStatus
 link_of e = record { address = nwk (get_or e 0 0); incoming_cost = get_or e 1 0; outgoing_cost = get_or e 2 0 }
@@ -265,12 +265,12 @@ network_report_format =
     record { head = bits (keep 5 ∷ keep 3 ∷ []) ∷ number 8 ∷ []; counts = 0 ∷ []; entry = number 2 ∷ [] }
 
 -- the values: PAN id count, report command identifier, extended PAN id; an entry is a PAN id
-unfoldable pub network_report_by : NwkReportCommandIdentifierCode → Values → TypedBody
-network_report_by (NwkReportCommandIdentifierCode.Known code) v =
-    TypedBody.Typed (NwkCommand.NetworkReport (record { report_command_identifier = code; epid = at v 2 }))
-network_report_by NwkReportCommandIdentifierCode.Unknown v = TypedBody.NotTyped
+unfoldable pub network_report_by : Option NwkReportCommandIdentifier → Values → Option NwkCommand
+network_report_by (Some code) v =
+    Some (NwkCommand.NetworkReport (record { report_command_identifier = code; epid = at v 2 }))
+network_report_by None v = None
 
-unfoldable pub network_report_of : Values → TypedBody
+unfoldable pub network_report_of : Values → Option NwkCommand
 network_report_of v = network_report_by (report_identifier_of (at v 1)) v
 
 unfoldable pub pan_id_of : List ℕ → PanId
@@ -302,18 +302,18 @@ unfoldable pub network_update_format : Format
 network_update_format = plain (bits (keep 5 ∷ keep 3 ∷ []) ∷ number 8 ∷ byte ∷ number 2 ∷ [])
 
 -- the values: the stored count, update command identifier, extended PAN id, update id, new PAN id
-unfoldable pub network_update_by : NwkUpdateCommandIdentifierCode → Values → TypedBody
-network_update_by (NwkUpdateCommandIdentifierCode.Known code) v =
-    TypedBody.Typed (NwkCommand.NetworkUpdate (record {
+unfoldable pub network_update_by : Option NwkUpdateCommandIdentifier → Values → Option NwkCommand
+network_update_by (Some code) v =
+    Some (NwkCommand.NetworkUpdate (record {
       update_information_count = at v 0;
       update_command_identifier = code;
       epid = at v 2;
       update_id = at v 3;
       new_pan_id = pan_id (at v 4);
     }))
-network_update_by NwkUpdateCommandIdentifierCode.Unknown v = TypedBody.NotTyped
+network_update_by None v = None
 
-unfoldable pub network_update_of : Values → TypedBody
+unfoldable pub network_update_of : Values → Option NwkCommand
 network_update_of v = network_update_by (update_identifier_of (at v 1)) v
 
 unfoldable pub network_update_values : NwkNetworkUpdateCommand → Values
@@ -328,12 +328,12 @@ unfoldable pub timeout_request_format : Format
 timeout_request_format = plain (byte ∷ byte ∷ [])
 
 -- the values: timeout code, end device configuration
-unfoldable pub timeout_request_by : EndDeviceTimeoutCode → Values → TypedBody
-timeout_request_by (EndDeviceTimeoutCode.Known code) v =
-    TypedBody.Typed (NwkCommand.EndDeviceTimeoutRequest (record { request_timeout_enum = code; end_device_configuration = at v 1 }))
-timeout_request_by EndDeviceTimeoutCode.Unknown v = TypedBody.NotTyped
+unfoldable pub timeout_request_by : Option EndDeviceTimeout → Values → Option NwkCommand
+timeout_request_by (Some code) v =
+    Some (NwkCommand.EndDeviceTimeoutRequest (record { request_timeout_enum = code; end_device_configuration = at v 1 }))
+timeout_request_by None v = None
 
-unfoldable pub timeout_request_of : Values → TypedBody
+unfoldable pub timeout_request_of : Values → Option NwkCommand
 timeout_request_of v = timeout_request_by (timeout_of (at v 0)) v
 
 unfoldable pub timeout_request_values : NwkEndDeviceTimeoutRequestCommand → Values
@@ -345,17 +345,17 @@ unfoldable pub timeout_response_format : Format
 timeout_response_format = plain (byte ∷ bits (keep 1 ∷ keep 1 ∷ keep 1 ∷ skip 5 ∷ []) ∷ [])
 
 -- the values: status, MAC data poll keepalive, timeout request keepalive, power negotiation
-unfoldable pub timeout_response_by : NwkEndDeviceTimeoutResponseStatusCode → Values → TypedBody
-timeout_response_by (NwkEndDeviceTimeoutResponseStatusCode.Known code) v =
-    TypedBody.Typed (NwkCommand.EndDeviceTimeoutResponse (record {
+unfoldable pub timeout_response_by : Option NwkEndDeviceTimeoutResponseStatus → Values → Option NwkCommand
+timeout_response_by (Some code) v =
+    Some (NwkCommand.EndDeviceTimeoutResponse (record {
       status = code;
       mac_data_poll_keepalive_supported = is_set (at v 1);
       end_device_timeout_request_keepalive_supported = is_set (at v 2);
       power_negotation_support = is_set (at v 3);
     }))
-timeout_response_by NwkEndDeviceTimeoutResponseStatusCode.Unknown v = TypedBody.NotTyped
+timeout_response_by None v = None
 
-unfoldable pub timeout_response_of : Values → TypedBody
+unfoldable pub timeout_response_of : Values → Option NwkCommand
 timeout_response_of v = timeout_response_by (timeout_status_of (at v 0)) v
 
 unfoldable pub timeout_response_values : NwkEndDeviceTimeoutResponseCommand → Values
@@ -371,12 +371,12 @@ link_power_delta_format =
     record { head = bits (keep 2 ∷ skip 6 ∷ []) ∷ byte ∷ []; counts = 1 ∷ []; entry = number 2 ∷ byte ∷ [] }
 
 -- the values: power type, entry count; an entry is a device address and a power delta
-unfoldable pub link_power_delta_by : NwkLinkPowerDeltaTypeCode → Values → TypedBody
-link_power_delta_by (NwkLinkPowerDeltaTypeCode.Known code) v =
-    TypedBody.Typed (NwkCommand.LinkPowerDelta (record { command_type = code }))
-link_power_delta_by NwkLinkPowerDeltaTypeCode.Unknown v = TypedBody.NotTyped
+unfoldable pub link_power_delta_by : Option NwkLinkPowerDeltaType → Values → Option NwkCommand
+link_power_delta_by (Some code) v =
+    Some (NwkCommand.LinkPowerDelta (record { command_type = code }))
+link_power_delta_by None v = None
 
-unfoldable pub link_power_delta_of : Values → TypedBody
+unfoldable pub link_power_delta_of : Values → Option NwkCommand
 link_power_delta_of v = link_power_delta_by (power_type_of (at v 0)) v
 
 unfoldable pub power_of : List ℕ → NwkPowerListEntry
@@ -408,12 +408,12 @@ unfoldable pub commissioning_request_format : Format
 commissioning_request_format = plain (byte ∷ capability_field ∷ [])
 
 -- the values: commissioning type, then the capability information
-unfoldable pub commissioning_request_by : NwkCommissioningTypeCode → Values → TypedBody
-commissioning_request_by (NwkCommissioningTypeCode.Known code) v =
-    TypedBody.Typed (NwkCommand.NetworkCommissioningRequest (record { commissioning_type = code; capability_information = capability_of (drop 1 v.head) }))
-commissioning_request_by NwkCommissioningTypeCode.Unknown v = TypedBody.NotTyped
+unfoldable pub commissioning_request_by : Option NwkCommissioningType → Values → Option NwkCommand
+commissioning_request_by (Some code) v =
+    Some (NwkCommand.NetworkCommissioningRequest (record { commissioning_type = code; capability_information = capability_of (drop 1 v.head) }))
+commissioning_request_by None v = None
 
-unfoldable pub commissioning_request_of : Values → TypedBody
+unfoldable pub commissioning_request_of : Values → Option NwkCommand
 commissioning_request_of v = commissioning_request_by (commissioning_type_of (at v 0)) v
 
 unfoldable pub commissioning_request_values : NwkNetworkCommissioningRequestCommand → Values
@@ -426,12 +426,12 @@ unfoldable pub commissioning_response_format : Format
 commissioning_response_format = plain (number 2 ∷ byte ∷ [])
 
 -- the values: network address, status
-unfoldable pub commissioning_response_by : Nwk802154AssociationStatusCode → Values → TypedBody
-commissioning_response_by (Nwk802154AssociationStatusCode.Known code) v =
-    TypedBody.Typed (NwkCommand.NetworkCommissioningResponse (record { network_address = nwk (at v 0); status = code }))
-commissioning_response_by Nwk802154AssociationStatusCode.Unknown v = TypedBody.NotTyped
+unfoldable pub commissioning_response_by : Option Nwk802154AssociationStatus → Values → Option NwkCommand
+commissioning_response_by (Some code) v =
+    Some (NwkCommand.NetworkCommissioningResponse (record { network_address = nwk (at v 0); status = code }))
+commissioning_response_by None v = None
 
-unfoldable pub commissioning_response_of : Values → TypedBody
+unfoldable pub commissioning_response_of : Values → Option NwkCommand
 commissioning_response_of v = commissioning_response_by (association_status_of (at v 1)) v
 
 unfoldable pub commissioning_response_values : NwkNetworkCommissioningResponseCommand → Values

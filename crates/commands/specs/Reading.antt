@@ -2,14 +2,15 @@
 -- unknown identifier, a body that ends early or an undeclared code leaves the command unparsed with all its bytes;
 -- bytes after a typed body are dropped. Places past a count are 0.
 -- Assumes nothing.
-use Rattle.std.specs.Prelude.{ℕ, cond, List, [], ◌∷◌, ◌++◌, map, length, get_or, drop, replicate, ltb, leb}
-use Rattle.octets.specs.Refusals.{on, first_of, unless}
+use Rattle.std.specs.Prelude.{ℕ, cond, List, [], ◌∷◌, ◌++◌, map, length, get_or, drop, replicate, ltb, leb, Option, Some, None, Result, Ok, Err}
+use Rattle.octets.specs.Refusals.{on, first_of, unless, number_of}
+use Rattle.octets.specs.declared.refusals.Refusal.{Refusal}
 use Rattle.types.specs.Addresses.{no_nwk}
 use Rattle.commands.specs.Codes.{command_id_of}
 use Rattle.commands.specs.Format.{Format, Values, body_end, values}
 use Rattle.commands.specs.Commands.{route_request_format, route_request_of, route_reply_format, route_reply_of, network_status_format, network_status_of, leave_format, leave_of, route_record_format, route_record_of, rejoin_request_format, rejoin_request_of, rejoin_response_format, rejoin_response_of, link_status_format, link_status_of, network_report_format, network_report_of, network_update_format, network_update_of, timeout_request_format, timeout_request_of, timeout_response_format, timeout_response_of, link_power_delta_format, link_power_delta_of, commissioning_request_format, commissioning_request_of, commissioning_response_format, commissioning_response_of, relay_of, link_of, no_link, pan_id_of, no_pan_id, power_of, no_power, firsts}
 use Rattle.types.specs.declared.{Nwk.Nwk, PanId.PanId}
-use Rattle.commands.specs.declared.{NwkCommandId.NwkCommandId, NwkCommandIdCode.NwkCommandIdCode, NwkCommand.NwkCommand, NwkCommandWithLists.NwkCommandWithLists, NwkCommandList.NwkCommandList, NwkCommandRead.NwkCommandRead, TypedBody.TypedBody, NwkLinkStatus.NwkLinkStatus, NwkPowerListEntry.NwkPowerListEntry}
+use Rattle.commands.specs.declared.{NwkCommandId.NwkCommandId, NwkCommand.NwkCommand, NwkCommandWithLists.NwkCommandWithLists, NwkCommandList.NwkCommandList, NwkLinkStatus.NwkLinkStatus, NwkPowerListEntry.NwkPowerListEntry}
 
 -- the most bytes that a command has
 abbrev pub max_nsdu_size : ℕ
@@ -34,7 +35,7 @@ format_of NwkCommandId.LinkPowerDelta = link_power_delta_format
 format_of NwkCommandId.NetworkCommissioningRequest = commissioning_request_format
 format_of NwkCommandId.NetworkCommissioningResponse = commissioning_response_format
 
-unfoldable pub command_of : NwkCommandId → Values → TypedBody
+unfoldable pub command_of : NwkCommandId → Values → Option NwkCommand
 command_of NwkCommandId.RouteRequest v = route_request_of v
 command_of NwkCommandId.RouteReply v = route_reply_of v
 command_of NwkCommandId.NetworkStatus v = network_status_of v
@@ -117,24 +118,29 @@ cleared f = cleared_by (list_of f.command) f.command f
 -- ---- reading
 
 -- the command that the body of s holds under an identifier, if the body is whole and its codes are declared
-unfoldable pub body_of : NwkCommandId → List ℕ → TypedBody
-body_of id s = cond (leb (body_end (format_of id) s) (length s)) (command_of id (values (format_of id) s)) TypedBody.NotTyped
+unfoldable pub body_of : NwkCommandId → List ℕ → Option NwkCommand
+body_of id s = cond (leb (body_end (format_of id) s) (length s)) (command_of id (values (format_of id) s)) None
 
-unfoldable pub typed_by : NwkCommandIdCode → List ℕ → TypedBody
-typed_by (NwkCommandIdCode.Known id) s = body_of id s
-typed_by NwkCommandIdCode.Unknown s = TypedBody.NotTyped
+unfoldable pub typed_by : Option NwkCommandId → List ℕ → Option NwkCommand
+typed_by (Some id) s = body_of id s
+typed_by None s = None
 
 -- the typed command of s, if it has one; no bytes have the identifier 0, which is unknown
-unfoldable pub typed : List ℕ → TypedBody
+unfoldable pub typed : List ℕ → Option NwkCommand
 typed s = typed_by (command_id_of (get_or s 0 0)) s
 
 -- all the bytes, kept as they are
 unfoldable pub unparsed : List ℕ → NwkCommandWithLists
 unparsed s = with_lists NwkCommand.Unparsed [] [] [] [] s
 
-unfoldable pub parsed : TypedBody → List ℕ → NwkCommandWithLists
-parsed (TypedBody.Typed c) s = listed (list_of c) c s
-parsed TypedBody.NotTyped s = unparsed s
+unfoldable pub parsed : Option NwkCommand → List ℕ → NwkCommandWithLists
+parsed (Some c) s = listed (list_of c) c s
+parsed None s = unparsed s
+
+-- what reading a command gives: the refusal's number, 0 for none, and the command
+pub record NwkCommandRead : Type 0 where
+  pub refusal : ℕ
+  pub command : NwkCommandWithLists
 
 abbrev pub read_as : NwkCommandWithLists → NwkCommandRead
 read_as f = record { refusal = 0; command = f }
@@ -142,6 +148,11 @@ read_as f = record { refusal = 0; command = f }
 -- after a refusal the command is blank: unparsed, with no bytes
 abbrev pub read_nothing : ℕ → NwkCommandRead
 read_nothing n = record { refusal = n; command = unparsed [] }
+
+-- the same, of the code's answer
+abbrev pub told_command : Result NwkCommandWithLists Refusal → NwkCommandRead
+told_command (Ok f) = read_as f
+told_command (Err r) = read_nothing (number_of r)
 
 -- reading a command: document 01, number 12
 unfoldable pub read_refusal : List ℕ → ℕ

@@ -1,13 +1,14 @@
 -- Writing a command (document 01, "Commands"; refusals 13, 17 and 18), its identifier, and a timeout's seconds.
 -- Assumes nothing.
-use Rattle.std.specs.Prelude.{ℕ, ◌*◌, ◌^◌, Bool, false, cond, not, ◌||◌, List, [], ◌∷◌, length, get_or, ltb, eqb}
-use Rattle.octets.specs.Refusals.{on, by, first_of}
+use Rattle.std.specs.Prelude.{ℕ, ◌*◌, ◌^◌, Bool, false, cond, not, ◌||◌, List, [], ◌∷◌, length, get_or, ltb, eqb, Option, Some, None, Result, Ok, Err}
+use Rattle.octets.specs.Refusals.{on, by, first_of, number_of}
+use Rattle.octets.specs.declared.refusals.Refusal.{Refusal}
 use Rattle.octets.specs.Writing.{Run, written}
 use Rattle.commands.specs.Codes.{command_id_code, command_id_of}
 use Rattle.commands.specs.Format.{Values, body_bytes, held_values}
 use Rattle.commands.specs.Commands.{route_request_values, route_reply_values, network_status_values, leave_values, route_record_values, rejoin_request_values, rejoin_response_values, link_status_values, network_report_values, network_update_values, timeout_request_values, timeout_response_values, link_power_delta_values, commissioning_request_values, commissioning_response_values, firsts}
 use Rattle.commands.specs.Reading.{max_nsdu_size, format_of, list_of}
-use Rattle.commands.specs.declared.{NwkCommandId.NwkCommandId, NwkCommandIdCode.NwkCommandIdCode, NwkCommand.NwkCommand, NwkCommandWithLists.NwkCommandWithLists, NwkCommandList.NwkCommandList, EndDeviceTimeoutSeconds.EndDeviceTimeoutSeconds}
+use Rattle.commands.specs.declared.{NwkCommandId.NwkCommandId, NwkCommand.NwkCommand, NwkCommandWithLists.NwkCommandWithLists, NwkCommandList.NwkCommandList}
 
 -- a command as it goes out: an identifier with the values of its body, or bytes
 pub data Wire : Type 0 where
@@ -92,35 +93,45 @@ unfoldable pub write_command : NwkCommandWithLists → List ℕ → Run
 write_command f o = written (write_refusal f (length o)) (command_bytes f) o
 
 -- the identifier of a typed command
-abbrev pub typed_id : NwkCommand → NwkCommandIdCode
-typed_id (NwkCommand.RouteRequest c) = NwkCommandIdCode.Known NwkCommandId.RouteRequest
-typed_id (NwkCommand.RouteReply c) = NwkCommandIdCode.Known NwkCommandId.RouteReply
-typed_id (NwkCommand.NetworkStatus c) = NwkCommandIdCode.Known NwkCommandId.NetworkStatus
-typed_id (NwkCommand.Leave c) = NwkCommandIdCode.Known NwkCommandId.Leave
-typed_id NwkCommand.RouteRecord = NwkCommandIdCode.Known NwkCommandId.RouteRecord
-typed_id (NwkCommand.RejoinRequest c) = NwkCommandIdCode.Known NwkCommandId.RejoinRequest
-typed_id (NwkCommand.RejoinResponse c) = NwkCommandIdCode.Known NwkCommandId.RejoinResponse
-typed_id (NwkCommand.LinkStatus c) = NwkCommandIdCode.Known NwkCommandId.LinkStatus
-typed_id (NwkCommand.NetworkReport c) = NwkCommandIdCode.Known NwkCommandId.NetworkReport
-typed_id (NwkCommand.NetworkUpdate c) = NwkCommandIdCode.Known NwkCommandId.NetworkUpdate
-typed_id (NwkCommand.EndDeviceTimeoutRequest c) = NwkCommandIdCode.Known NwkCommandId.EndDeviceTimeoutRequest
-typed_id (NwkCommand.EndDeviceTimeoutResponse c) = NwkCommandIdCode.Known NwkCommandId.EndDeviceTimeoutResponse
-typed_id (NwkCommand.LinkPowerDelta c) = NwkCommandIdCode.Known NwkCommandId.LinkPowerDelta
-typed_id (NwkCommand.NetworkCommissioningRequest c) = NwkCommandIdCode.Known NwkCommandId.NetworkCommissioningRequest
-typed_id (NwkCommand.NetworkCommissioningResponse c) = NwkCommandIdCode.Known NwkCommandId.NetworkCommissioningResponse
-typed_id NwkCommand.Unparsed = NwkCommandIdCode.Unknown
+abbrev pub typed_id : NwkCommand → Option NwkCommandId
+typed_id (NwkCommand.RouteRequest c) = Some NwkCommandId.RouteRequest
+typed_id (NwkCommand.RouteReply c) = Some NwkCommandId.RouteReply
+typed_id (NwkCommand.NetworkStatus c) = Some NwkCommandId.NetworkStatus
+typed_id (NwkCommand.Leave c) = Some NwkCommandId.Leave
+typed_id NwkCommand.RouteRecord = Some NwkCommandId.RouteRecord
+typed_id (NwkCommand.RejoinRequest c) = Some NwkCommandId.RejoinRequest
+typed_id (NwkCommand.RejoinResponse c) = Some NwkCommandId.RejoinResponse
+typed_id (NwkCommand.LinkStatus c) = Some NwkCommandId.LinkStatus
+typed_id (NwkCommand.NetworkReport c) = Some NwkCommandId.NetworkReport
+typed_id (NwkCommand.NetworkUpdate c) = Some NwkCommandId.NetworkUpdate
+typed_id (NwkCommand.EndDeviceTimeoutRequest c) = Some NwkCommandId.EndDeviceTimeoutRequest
+typed_id (NwkCommand.EndDeviceTimeoutResponse c) = Some NwkCommandId.EndDeviceTimeoutResponse
+typed_id (NwkCommand.LinkPowerDelta c) = Some NwkCommandId.LinkPowerDelta
+typed_id (NwkCommand.NetworkCommissioningRequest c) = Some NwkCommandId.NetworkCommissioningRequest
+typed_id (NwkCommand.NetworkCommissioningResponse c) = Some NwkCommandId.NetworkCommissioningResponse
+typed_id NwkCommand.Unparsed = None
 
 -- the identifier of a command; of an unparsed one that of its first byte, if it is known
-unfoldable pub wire_id : Wire → NwkCommandIdCode
-wire_id (body id v) = NwkCommandIdCode.Known id
+unfoldable pub wire_id : Wire → Option NwkCommandId
+wire_id (body id v) = Some id
 wire_id (raw bs) = command_id_of (get_or bs 0 0)
 
-unfoldable pub command_id : NwkCommandWithLists → NwkCommandIdCode
+unfoldable pub command_id : NwkCommandWithLists → Option NwkCommandId
 command_id f = wire_id (wire f)
 
 -- 3.4.11, Table 3-58: code 0 is 10 seconds, any other code n is 2 to the power n minutes
 unfoldable pub seconds : ℕ → ℕ
 seconds n = cond (eqb n 0) 10 (60 * 2 ^ n)
+
+-- what is told of a timeout code: the refusal's number, 0 for none, and the seconds
+pub record EndDeviceTimeoutSeconds : Type 0 where
+  pub refusal : ℕ
+  pub seconds : ℕ
+
+-- the same, of the code's answer
+abbrev pub told_seconds : Result ℕ Refusal → EndDeviceTimeoutSeconds
+told_seconds (Ok n) = record { refusal = 0; seconds = n }
+told_seconds (Err r) = record { refusal = number_of r; seconds = 0 }
 
 -- document 01, number 13, above code 14
 unfoldable pub timeout_seconds : ℕ → EndDeviceTimeoutSeconds

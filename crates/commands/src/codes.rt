@@ -1,204 +1,142 @@
 // The codes of the commands' enums as numbers and back, and a timeout's seconds.
 
 ghost use Rattle.std.specs.Prelude.{◌≡◌};
-ghost use Rattle.commands.specs.Codes.{command_id_code, command_id_of, many_to_one_code, many_to_one_of, status_code, status_of, association_status_code, association_status_of, report_identifier_code, report_identifier_of, update_identifier_code, update_identifier_of, timeout_code, timeout_of, timeout_status_code, timeout_status_of, power_type_code, power_type_of, commissioning_type_code, commissioning_type_of, device_type_bit, device_type_of, power_source_bit, power_source_of};
-ghost use Rattle.commands.specs.Writing.{seconds, timeout_seconds};
+ghost use Rattle.commands.specs.Codes.{Decodes, command_id_code, command_id_of, many_to_one_code, many_to_one_of, status_code, status_of, association_status_code, association_status_of, report_identifier_code, report_identifier_of, update_identifier_code, update_identifier_of, timeout_code, timeout_of, timeout_status_code, timeout_status_of, power_type_code, power_type_of, commissioning_type_code, commissioning_type_of, device_type_bit, device_type_of, power_source_bit, power_source_of};
+ghost use Rattle.commands.specs.Writing.{seconds, timeout_seconds, told_seconds};
 
 use crate::*;
-
-const COMMAND_IDS: [NwkCommandId; 15] = [
-    NwkCommandId::RouteRequest,
-    NwkCommandId::RouteReply,
-    NwkCommandId::NetworkStatus,
-    NwkCommandId::Leave,
-    NwkCommandId::RouteRecord,
-    NwkCommandId::RejoinRequest,
-    NwkCommandId::RejoinResponse,
-    NwkCommandId::LinkStatus,
-    NwkCommandId::NetworkReport,
-    NwkCommandId::NetworkUpdate,
-    NwkCommandId::EndDeviceTimeoutRequest,
-    NwkCommandId::EndDeviceTimeoutResponse,
-    NwkCommandId::LinkPowerDelta,
-    NwkCommandId::NetworkCommissioningRequest,
-    NwkCommandId::NetworkCommissioningResponse,
-];
+use octets::refusals::Refusal;
 
 impl NwkCommandId {
     // The number of this value.
     pub fn code(self) -> u8
         ensures { result ≡ command_id_code self }
     {
-        match self {
-            NwkCommandId::RouteRequest => 1,
-            NwkCommandId::RouteReply => 2,
-            NwkCommandId::NetworkStatus => 3,
-            NwkCommandId::Leave => 4,
-            NwkCommandId::RouteRecord => 5,
-            NwkCommandId::RejoinRequest => 6,
-            NwkCommandId::RejoinResponse => 7,
-            NwkCommandId::LinkStatus => 8,
-            NwkCommandId::NetworkReport => 9,
-            NwkCommandId::NetworkUpdate => 0xa,
-            NwkCommandId::EndDeviceTimeoutRequest => 0xb,
-            NwkCommandId::EndDeviceTimeoutResponse => 0xc,
-            NwkCommandId::LinkPowerDelta => 0xd,
-            NwkCommandId::NetworkCommissioningRequest => 0xe,
-            NwkCommandId::NetworkCommissioningResponse => 0xf,
-        }
-    }
-
-    // The value of a number, if it is declared.
-    pub fn try_from(code: u8) -> NwkCommandIdCode
-        ensures { result ≡ command_id_of code }
-    {
-        if code == 0 {
-            return NwkCommandIdCode::Unknown;
-        }
-        if code <= 15 {
-            NwkCommandIdCode::Known(COMMAND_IDS[(code - 1) as usize])
-        } else {
-            NwkCommandIdCode::Unknown
-        }
+        self as u8
     }
 }
 
-const MANY_TO_ONE: [NwkRouteRequestManyToOne; 4] = [
-    NwkRouteRequestManyToOne::NotManyToOne,
-    NwkRouteRequestManyToOne::ManyToOneSenderSupportsRouteRecordTable,
-    NwkRouteRequestManyToOne::ManyToOneSenderDoesntSupportRouteRecordTable,
-    NwkRouteRequestManyToOne::Reserved,
-];
+impl TryFrom<u8> for NwkCommandId {
+    type Error = Refusal;
+
+    ghost try_from_gives = { Decodes command_id_of };
+
+    #[tactic(auto, unfolding(crate::specs::Codes::command_id_of, crate::specs::Codes::command_ids))]
+    fn try_from(code: u8) -> Result<Self, Refusal> {
+        match code {
+            0x01 => Ok(Self::RouteRequest),
+            0x02 => Ok(Self::RouteReply),
+            0x03 => Ok(Self::NetworkStatus),
+            0x04 => Ok(Self::Leave),
+            0x05 => Ok(Self::RouteRecord),
+            0x06 => Ok(Self::RejoinRequest),
+            0x07 => Ok(Self::RejoinResponse),
+            0x08 => Ok(Self::LinkStatus),
+            0x09 => Ok(Self::NetworkReport),
+            0x0a => Ok(Self::NetworkUpdate),
+            0x0b => Ok(Self::EndDeviceTimeoutRequest),
+            0x0c => Ok(Self::EndDeviceTimeoutResponse),
+            0x0d => Ok(Self::LinkPowerDelta),
+            0x0e => Ok(Self::NetworkCommissioningRequest),
+            0x0f => Ok(Self::NetworkCommissioningResponse),
+            _ => Err(Refusal::Field),
+        }
+    }
+}
 
 impl NwkRouteRequestManyToOne {
     // The number of this value.
     pub fn code(self) -> u8
         ensures { result ≡ many_to_one_code self }
     {
-        match self {
-            NwkRouteRequestManyToOne::NotManyToOne => 0,
-            NwkRouteRequestManyToOne::ManyToOneSenderSupportsRouteRecordTable => 1,
-            NwkRouteRequestManyToOne::ManyToOneSenderDoesntSupportRouteRecordTable => 2,
-            NwkRouteRequestManyToOne::Reserved => 3,
-        }
-    }
-
-    // The value of a number, if it is declared.
-    pub fn try_from(code: u8) -> NwkRouteRequestManyToOneCode
-        ensures { result ≡ many_to_one_of code }
-    {
-        if code < 4 {
-            NwkRouteRequestManyToOneCode::Known(MANY_TO_ONE[code as usize])
-        } else {
-            NwkRouteRequestManyToOneCode::Unknown
-        }
+        self as u8
     }
 }
 
-const NETWORK_STATUSES: [NwkNetworkStatus; 21] = [
-    NwkNetworkStatus::LegacyNoRouteAvailable,
-    NwkNetworkStatus::LegacyLinkFailure,
-    NwkNetworkStatus::LinkFailure,
-    NwkNetworkStatus::LowBatteryLevel,
-    NwkNetworkStatus::NoRoutingCapacity,
-    NwkNetworkStatus::NoIndirectCapacity,
-    NwkNetworkStatus::IndirectTransactionExpiry,
-    NwkNetworkStatus::TargetDeviceUnavailable,
-    NwkNetworkStatus::TargetAddressUnallocated,
-    NwkNetworkStatus::ParentLinkFailure,
-    NwkNetworkStatus::ValidateRoute,
-    NwkNetworkStatus::SourceRouteFailure,
-    NwkNetworkStatus::ManyToOneRouteFailure,
-    NwkNetworkStatus::AddressConflict,
-    NwkNetworkStatus::VerifyAddresses,
-    NwkNetworkStatus::PanIdentifierUpdate,
-    NwkNetworkStatus::NetworkAddressUpdate,
-    NwkNetworkStatus::BadFrameCounter,
-    NwkNetworkStatus::BadKeySequenceNumber,
-    NwkNetworkStatus::UnknownCommand,
-    NwkNetworkStatus::PanIdConflictReport,
-];
+impl TryFrom<u8> for NwkRouteRequestManyToOne {
+    type Error = Refusal;
+
+    ghost try_from_gives = { Decodes many_to_one_of };
+
+    #[tactic(auto, unfolding(crate::specs::Codes::many_to_one_of, crate::specs::Codes::many_to_ones))]
+    fn try_from(code: u8) -> Result<Self, Refusal> {
+        match code {
+            0 => Ok(Self::NotManyToOne),
+            1 => Ok(Self::ManyToOneSenderSupportsRouteRecordTable),
+            2 => Ok(Self::ManyToOneSenderDoesntSupportRouteRecordTable),
+            3 => Ok(Self::Reserved),
+            _ => Err(Refusal::Field),
+        }
+    }
+}
 
 impl NwkNetworkStatus {
     // The number of this value.
     pub fn code(self) -> u8
         ensures { result ≡ status_code self }
     {
-        match self {
-            NwkNetworkStatus::LegacyNoRouteAvailable => 0,
-            NwkNetworkStatus::LegacyLinkFailure => 1,
-            NwkNetworkStatus::LinkFailure => 2,
-            NwkNetworkStatus::LowBatteryLevel => 3,
-            NwkNetworkStatus::NoRoutingCapacity => 4,
-            NwkNetworkStatus::NoIndirectCapacity => 5,
-            NwkNetworkStatus::IndirectTransactionExpiry => 6,
-            NwkNetworkStatus::TargetDeviceUnavailable => 7,
-            NwkNetworkStatus::TargetAddressUnallocated => 8,
-            NwkNetworkStatus::ParentLinkFailure => 9,
-            NwkNetworkStatus::ValidateRoute => 0xa,
-            NwkNetworkStatus::SourceRouteFailure => 0xb,
-            NwkNetworkStatus::ManyToOneRouteFailure => 0xc,
-            NwkNetworkStatus::AddressConflict => 0xd,
-            NwkNetworkStatus::VerifyAddresses => 0xe,
-            NwkNetworkStatus::PanIdentifierUpdate => 0xf,
-            NwkNetworkStatus::NetworkAddressUpdate => 0x10,
-            NwkNetworkStatus::BadFrameCounter => 0x11,
-            NwkNetworkStatus::BadKeySequenceNumber => 0x12,
-            NwkNetworkStatus::UnknownCommand => 0x13,
-            NwkNetworkStatus::PanIdConflictReport => 0x14,
-        }
-    }
-
-    // The value of a number, if it is declared.
-    pub fn try_from(code: u8) -> NwkNetworkStatusCode
-        ensures { result ≡ status_of code }
-    {
-        if code < 21 {
-            NwkNetworkStatusCode::Known(NETWORK_STATUSES[code as usize])
-        } else {
-            NwkNetworkStatusCode::Unknown
-        }
+        self as u8
     }
 }
 
-const ASSOCIATION_STATUSES: [Nwk802154AssociationStatus; 4] = [
-    Nwk802154AssociationStatus::AssociationSuccessful,
-    Nwk802154AssociationStatus::PanAtCapacity,
-    Nwk802154AssociationStatus::PanAccessDenied,
-    Nwk802154AssociationStatus::HoppingSequenceOffsetDuplication,
-];
+impl TryFrom<u8> for NwkNetworkStatus {
+    type Error = Refusal;
+
+    ghost try_from_gives = { Decodes status_of };
+
+    #[tactic(auto, unfolding(crate::specs::Codes::status_of, crate::specs::Codes::statuses))]
+    fn try_from(code: u8) -> Result<Self, Refusal> {
+        match code {
+            0x00 => Ok(Self::LegacyNoRouteAvailable),
+            0x01 => Ok(Self::LegacyLinkFailure),
+            0x02 => Ok(Self::LinkFailure),
+            0x03 => Ok(Self::LowBatteryLevel),
+            0x04 => Ok(Self::NoRoutingCapacity),
+            0x05 => Ok(Self::NoIndirectCapacity),
+            0x06 => Ok(Self::IndirectTransactionExpiry),
+            0x07 => Ok(Self::TargetDeviceUnavailable),
+            0x08 => Ok(Self::TargetAddressUnallocated),
+            0x09 => Ok(Self::ParentLinkFailure),
+            0x0a => Ok(Self::ValidateRoute),
+            0x0b => Ok(Self::SourceRouteFailure),
+            0x0c => Ok(Self::ManyToOneRouteFailure),
+            0x0d => Ok(Self::AddressConflict),
+            0x0e => Ok(Self::VerifyAddresses),
+            0x0f => Ok(Self::PanIdentifierUpdate),
+            0x10 => Ok(Self::NetworkAddressUpdate),
+            0x11 => Ok(Self::BadFrameCounter),
+            0x12 => Ok(Self::BadKeySequenceNumber),
+            0x13 => Ok(Self::UnknownCommand),
+            0x14 => Ok(Self::PanIdConflictReport),
+            _ => Err(Refusal::Field),
+        }
+    }
+}
 
 impl Nwk802154AssociationStatus {
     // The number of this value.
     pub fn code(self) -> u8
         ensures { result ≡ association_status_code self }
     {
-        match self {
-            Nwk802154AssociationStatus::AssociationSuccessful => 0,
-            Nwk802154AssociationStatus::PanAtCapacity => 1,
-            Nwk802154AssociationStatus::PanAccessDenied => 2,
-            Nwk802154AssociationStatus::HoppingSequenceOffsetDuplication => 3,
-            Nwk802154AssociationStatus::FastAssociationSuccessful => 0x80,
-            Nwk802154AssociationStatus::ZigbeeAddressConflict => 0xf0,
-        }
+        self as u8
     }
+}
 
-    // The value of a number, if it is declared.
-    pub fn try_from(code: u8) -> Nwk802154AssociationStatusCode
-        ensures { result ≡ association_status_of code }
-    {
-        if code < 4 {
-            return Nwk802154AssociationStatusCode::Known(ASSOCIATION_STATUSES[code as usize]);
-        }
-        if code == 0x80 {
-            return Nwk802154AssociationStatusCode::Known(
-                Nwk802154AssociationStatus::FastAssociationSuccessful,
-            );
-        }
-        if code == 0xF0 {
-            Nwk802154AssociationStatusCode::Known(Nwk802154AssociationStatus::ZigbeeAddressConflict)
-        } else {
-            Nwk802154AssociationStatusCode::Unknown
+impl TryFrom<u8> for Nwk802154AssociationStatus {
+    type Error = Refusal;
+
+    ghost try_from_gives = { Decodes association_status_of };
+
+    #[tactic(auto, unfolding(crate::specs::Codes::association_status_of, crate::specs::Codes::association_statuses))]
+    fn try_from(code: u8) -> Result<Self, Refusal> {
+        match code {
+            0x00 => Ok(Self::AssociationSuccessful),
+            0x01 => Ok(Self::PanAtCapacity),
+            0x02 => Ok(Self::PanAccessDenied),
+            0x03 => Ok(Self::HoppingSequenceOffsetDuplication),
+            0x80 => Ok(Self::FastAssociationSuccessful),
+            0xf0 => Ok(Self::ZigbeeAddressConflict),
+            _ => Err(Refusal::Field),
         }
     }
 }
@@ -208,19 +146,20 @@ impl NwkReportCommandIdentifier {
     pub fn code(self) -> u8
         ensures { result ≡ report_identifier_code self }
     {
-        match self {
-            NwkReportCommandIdentifier::PanIdentifierConflict => 0,
-        }
+        self as u8
     }
+}
 
-    // The value of a number, if it is declared.
-    pub fn try_from(code: u8) -> NwkReportCommandIdentifierCode
-        ensures { result ≡ report_identifier_of code }
-    {
-        if code == 0 {
-            NwkReportCommandIdentifierCode::Known(NwkReportCommandIdentifier::PanIdentifierConflict)
-        } else {
-            NwkReportCommandIdentifierCode::Unknown
+impl TryFrom<u8> for NwkReportCommandIdentifier {
+    type Error = Refusal;
+
+    ghost try_from_gives = { Decodes report_identifier_of };
+
+    #[tactic(auto, unfolding(crate::specs::Codes::report_identifier_of))]
+    fn try_from(code: u8) -> Result<Self, Refusal> {
+        match code {
+            0x00 => Ok(Self::PanIdentifierConflict),
+            _ => Err(Refusal::Field),
         }
     }
 }
@@ -230,74 +169,30 @@ impl NwkUpdateCommandIdentifier {
     pub fn code(self) -> u8
         ensures { result ≡ update_identifier_code self }
     {
-        match self {
-            NwkUpdateCommandIdentifier::PanIdentifierUpdate => 0,
-        }
-    }
-
-    // The value of a number, if it is declared.
-    pub fn try_from(code: u8) -> NwkUpdateCommandIdentifierCode
-        ensures { result ≡ update_identifier_of code }
-    {
-        if code == 0 {
-            NwkUpdateCommandIdentifierCode::Known(NwkUpdateCommandIdentifier::PanIdentifierUpdate)
-        } else {
-            NwkUpdateCommandIdentifierCode::Unknown
-        }
+        self as u8
     }
 }
 
-const TIMEOUTS: [EndDeviceTimeout; 15] = [
-    EndDeviceTimeout::Seconds10,
-    EndDeviceTimeout::Minutes2,
-    EndDeviceTimeout::Minutes4,
-    EndDeviceTimeout::Minutes8,
-    EndDeviceTimeout::Minutes16,
-    EndDeviceTimeout::Minutes32,
-    EndDeviceTimeout::Minutes64,
-    EndDeviceTimeout::Minutes128,
-    EndDeviceTimeout::Minutes256,
-    EndDeviceTimeout::Minutes512,
-    EndDeviceTimeout::Minutes1024,
-    EndDeviceTimeout::Minutes2048,
-    EndDeviceTimeout::Minutes4096,
-    EndDeviceTimeout::Minutes8192,
-    EndDeviceTimeout::Minutes16384,
-];
+impl TryFrom<u8> for NwkUpdateCommandIdentifier {
+    type Error = Refusal;
+
+    ghost try_from_gives = { Decodes update_identifier_of };
+
+    #[tactic(auto, unfolding(crate::specs::Codes::update_identifier_of))]
+    fn try_from(code: u8) -> Result<Self, Refusal> {
+        match code {
+            0x00 => Ok(Self::PanIdentifierUpdate),
+            _ => Err(Refusal::Field),
+        }
+    }
+}
 
 impl EndDeviceTimeout {
     // The number of this value.
     pub fn code(self) -> u8
         ensures { result ≡ timeout_code self }
     {
-        match self {
-            EndDeviceTimeout::Seconds10 => 0,
-            EndDeviceTimeout::Minutes2 => 1,
-            EndDeviceTimeout::Minutes4 => 2,
-            EndDeviceTimeout::Minutes8 => 3,
-            EndDeviceTimeout::Minutes16 => 4,
-            EndDeviceTimeout::Minutes32 => 5,
-            EndDeviceTimeout::Minutes64 => 6,
-            EndDeviceTimeout::Minutes128 => 7,
-            EndDeviceTimeout::Minutes256 => 8,
-            EndDeviceTimeout::Minutes512 => 9,
-            EndDeviceTimeout::Minutes1024 => 0xa,
-            EndDeviceTimeout::Minutes2048 => 0xb,
-            EndDeviceTimeout::Minutes4096 => 0xc,
-            EndDeviceTimeout::Minutes8192 => 0xd,
-            EndDeviceTimeout::Minutes16384 => 0xe,
-        }
-    }
-
-    // The value of a number, if it is declared.
-    pub fn try_from(code: u8) -> EndDeviceTimeoutCode
-        ensures { result ≡ timeout_of code }
-    {
-        if code < 15 {
-            EndDeviceTimeoutCode::Known(TIMEOUTS[code as usize])
-        } else {
-            EndDeviceTimeoutCode::Unknown
-        }
+        self as u8
     }
 
     // The timeout in seconds: 10 for code 0, and 2 to the power n minutes for any other code n.
@@ -306,171 +201,166 @@ impl EndDeviceTimeout {
         ensures { result ≡ seconds (timeout_code self) }
     {
         match self {
-            EndDeviceTimeout::Seconds10 => 10,
-            EndDeviceTimeout::Minutes2 => 60 * 2,
-            EndDeviceTimeout::Minutes4 => 60 * 4,
-            EndDeviceTimeout::Minutes8 => 60 * 8,
-            EndDeviceTimeout::Minutes16 => 60 * 16,
-            EndDeviceTimeout::Minutes32 => 60 * 32,
-            EndDeviceTimeout::Minutes64 => 60 * 64,
-            EndDeviceTimeout::Minutes128 => 60 * 128,
-            EndDeviceTimeout::Minutes256 => 60 * 256,
-            EndDeviceTimeout::Minutes512 => 60 * 512,
-            EndDeviceTimeout::Minutes1024 => 60 * 1024,
-            EndDeviceTimeout::Minutes2048 => 60 * 2048,
-            EndDeviceTimeout::Minutes4096 => 60 * 4096,
-            EndDeviceTimeout::Minutes8192 => 60 * 8192,
-            EndDeviceTimeout::Minutes16384 => 60 * 16384,
+            Self::Seconds10 => 10,
+            Self::Minutes2 => 60 * 2,
+            Self::Minutes4 => 60 * 4,
+            Self::Minutes8 => 60 * 8,
+            Self::Minutes16 => 60 * 16,
+            Self::Minutes32 => 60 * 32,
+            Self::Minutes64 => 60 * 64,
+            Self::Minutes128 => 60 * 128,
+            Self::Minutes256 => 60 * 256,
+            Self::Minutes512 => 60 * 512,
+            Self::Minutes1024 => 60 * 1024,
+            Self::Minutes2048 => 60 * 2048,
+            Self::Minutes4096 => 60 * 4096,
+            Self::Minutes8192 => 60 * 8192,
+            Self::Minutes16384 => 60 * 16384,
         }
     }
 }
 
-const TIMEOUT_STATUSES: [NwkEndDeviceTimeoutResponseStatus; 3] = [
-    NwkEndDeviceTimeoutResponseStatus::Success,
-    NwkEndDeviceTimeoutResponseStatus::IncorrectValue,
-    NwkEndDeviceTimeoutResponseStatus::UnsupportedFeature,
-];
+impl TryFrom<u8> for EndDeviceTimeout {
+    type Error = Refusal;
+
+    ghost try_from_gives = { Decodes timeout_of };
+
+    #[tactic(auto, unfolding(crate::specs::Codes::timeout_of, crate::specs::Codes::timeouts))]
+    fn try_from(code: u8) -> Result<Self, Refusal> {
+        match code {
+            0 => Ok(Self::Seconds10),
+            1 => Ok(Self::Minutes2),
+            2 => Ok(Self::Minutes4),
+            3 => Ok(Self::Minutes8),
+            4 => Ok(Self::Minutes16),
+            5 => Ok(Self::Minutes32),
+            6 => Ok(Self::Minutes64),
+            7 => Ok(Self::Minutes128),
+            8 => Ok(Self::Minutes256),
+            9 => Ok(Self::Minutes512),
+            10 => Ok(Self::Minutes1024),
+            11 => Ok(Self::Minutes2048),
+            12 => Ok(Self::Minutes4096),
+            13 => Ok(Self::Minutes8192),
+            14 => Ok(Self::Minutes16384),
+            _ => Err(Refusal::Field),
+        }
+    }
+}
 
 impl NwkEndDeviceTimeoutResponseStatus {
     // The number of this value.
     pub fn code(self) -> u8
         ensures { result ≡ timeout_status_code self }
     {
-        match self {
-            NwkEndDeviceTimeoutResponseStatus::Success => 0,
-            NwkEndDeviceTimeoutResponseStatus::IncorrectValue => 1,
-            NwkEndDeviceTimeoutResponseStatus::UnsupportedFeature => 2,
-        }
-    }
-
-    // The value of a number, if it is declared.
-    pub fn try_from(code: u8) -> NwkEndDeviceTimeoutResponseStatusCode
-        ensures { result ≡ timeout_status_of code }
-    {
-        if code < 3 {
-            NwkEndDeviceTimeoutResponseStatusCode::Known(TIMEOUT_STATUSES[code as usize])
-        } else {
-            NwkEndDeviceTimeoutResponseStatusCode::Unknown
-        }
+        self as u8
     }
 }
 
-const POWER_TYPES: [NwkLinkPowerDeltaType; 3] = [
-    NwkLinkPowerDeltaType::Notification,
-    NwkLinkPowerDeltaType::Request,
-    NwkLinkPowerDeltaType::Response,
-];
+impl TryFrom<u8> for NwkEndDeviceTimeoutResponseStatus {
+    type Error = Refusal;
+
+    ghost try_from_gives = { Decodes timeout_status_of };
+
+    #[tactic(auto, unfolding(crate::specs::Codes::timeout_status_of, crate::specs::Codes::timeout_statuses))]
+    fn try_from(code: u8) -> Result<Self, Refusal> {
+        match code {
+            0x00 => Ok(Self::Success),
+            0x01 => Ok(Self::IncorrectValue),
+            0x02 => Ok(Self::UnsupportedFeature),
+            _ => Err(Refusal::Field),
+        }
+    }
+}
 
 impl NwkLinkPowerDeltaType {
     // The number of this value.
     pub fn code(self) -> u8
         ensures { result ≡ power_type_code self }
     {
-        match self {
-            NwkLinkPowerDeltaType::Notification => 0,
-            NwkLinkPowerDeltaType::Request => 1,
-            NwkLinkPowerDeltaType::Response => 2,
-        }
-    }
-
-    // The value of a number, if it is declared.
-    pub fn try_from(code: u8) -> NwkLinkPowerDeltaTypeCode
-        ensures { result ≡ power_type_of code }
-    {
-        if code < 3 {
-            NwkLinkPowerDeltaTypeCode::Known(POWER_TYPES[code as usize])
-        } else {
-            NwkLinkPowerDeltaTypeCode::Unknown
-        }
+        self as u8
     }
 }
 
-const COMMISSIONING_TYPES: [NwkCommissioningType; 2] = [
-    NwkCommissioningType::InitialJoin,
-    NwkCommissioningType::Rejoin,
-];
+impl TryFrom<u8> for NwkLinkPowerDeltaType {
+    type Error = Refusal;
+
+    ghost try_from_gives = { Decodes power_type_of };
+
+    #[tactic(auto, unfolding(crate::specs::Codes::power_type_of, crate::specs::Codes::power_types))]
+    fn try_from(code: u8) -> Result<Self, Refusal> {
+        match code {
+            0 => Ok(Self::Notification),
+            1 => Ok(Self::Request),
+            2 => Ok(Self::Response),
+            _ => Err(Refusal::Field),
+        }
+    }
+}
 
 impl NwkCommissioningType {
     // The number of this value.
     pub fn code(self) -> u8
         ensures { result ≡ commissioning_type_code self }
     {
-        match self {
-            NwkCommissioningType::InitialJoin => 0,
-            NwkCommissioningType::Rejoin => 1,
-        }
+        self as u8
     }
+}
 
-    // The value of a number, if it is declared.
-    pub fn try_from(code: u8) -> NwkCommissioningTypeCode
-        ensures { result ≡ commissioning_type_of code }
-    {
-        if code < 2 {
-            NwkCommissioningTypeCode::Known(COMMISSIONING_TYPES[code as usize])
-        } else {
-            NwkCommissioningTypeCode::Unknown
+impl TryFrom<u8> for NwkCommissioningType {
+    type Error = Refusal;
+
+    ghost try_from_gives = { Decodes commissioning_type_of };
+
+    #[tactic(auto, unfolding(crate::specs::Codes::commissioning_type_of, crate::specs::Codes::commissioning_types))]
+    fn try_from(code: u8) -> Result<Self, Refusal> {
+        match code {
+            0x00 => Ok(Self::InitialJoin),
+            0x01 => Ok(Self::Rejoin),
+            _ => Err(Refusal::Field),
         }
     }
 }
 
-impl NwkRejoinCapabilityInformationDeviceType {
-    // This value as its one bit.
-    pub fn bit(self) -> bool
-        ensures { result ≡ device_type_bit self }
-    {
-        match self {
-            NwkRejoinCapabilityInformationDeviceType::EndDevice => false,
-            NwkRejoinCapabilityInformationDeviceType::Router => true,
-        }
-    }
+impl From<bool> for NwkRejoinCapabilityInformationDeviceType {
+    ghost from_gives = { λ bit r. r ≡ device_type_of bit };
 
-    // The value of a bit.
-    pub fn from_bit(bit: bool) -> NwkRejoinCapabilityInformationDeviceType
-        ensures { result ≡ device_type_of bit }
-    {
+    fn from(bit: bool) -> Self {
+        if bit { Self::Router } else { Self::EndDevice }
+    }
+}
+
+impl From<NwkRejoinCapabilityInformationDeviceType> for bool {
+    ghost from_gives = { λ value r. r ≡ device_type_bit value };
+
+    fn from(value: NwkRejoinCapabilityInformationDeviceType) -> bool {
+        value == NwkRejoinCapabilityInformationDeviceType::Router
+    }
+}
+
+impl From<bool> for NwkRejoinCapabilityInformationPowerSource {
+    ghost from_gives = { λ bit r. r ≡ power_source_of bit };
+
+    fn from(bit: bool) -> Self {
         if bit {
-            NwkRejoinCapabilityInformationDeviceType::Router
+            Self::MainsPowered
         } else {
-            NwkRejoinCapabilityInformationDeviceType::EndDevice
+            Self::OtherPowerSource
         }
     }
 }
 
-impl NwkRejoinCapabilityInformationPowerSource {
-    // This value as its one bit.
-    pub fn bit(self) -> bool
-        ensures { result ≡ power_source_bit self }
-    {
-        match self {
-            NwkRejoinCapabilityInformationPowerSource::OtherPowerSource => false,
-            NwkRejoinCapabilityInformationPowerSource::MainsPowered => true,
-        }
-    }
+impl From<NwkRejoinCapabilityInformationPowerSource> for bool {
+    ghost from_gives = { λ value r. r ≡ power_source_bit value };
 
-    // The value of a bit.
-    pub fn from_bit(bit: bool) -> NwkRejoinCapabilityInformationPowerSource
-        ensures { result ≡ power_source_of bit }
-    {
-        if bit {
-            NwkRejoinCapabilityInformationPowerSource::MainsPowered
-        } else {
-            NwkRejoinCapabilityInformationPowerSource::OtherPowerSource
-        }
+    fn from(value: NwkRejoinCapabilityInformationPowerSource) -> bool {
+        value == NwkRejoinCapabilityInformationPowerSource::MainsPowered
     }
 }
 
 // The seconds of a timeout code, or refusal 13 for a code above 14.
-pub fn timeout_seconds(code: u8) -> EndDeviceTimeoutSeconds
-    ensures { result ≡ timeout_seconds code }
+pub fn timeout_seconds(code: u8) -> Result<u32, Refusal>
+    ensures { told_seconds result ≡ timeout_seconds code }
 {
-    let EndDeviceTimeoutCode::Known(timeout) = EndDeviceTimeout::try_from(code) else {
-        return EndDeviceTimeoutSeconds {
-            refusal: octets::refusals::FIELD,
-            seconds: 0,
-        };
-    };
-    EndDeviceTimeoutSeconds {
-        refusal: 0,
-        seconds: timeout.duration(),
-    }
+    Ok(EndDeviceTimeout::try_from(code)?.duration())
 }

@@ -7,13 +7,13 @@ pub mod lists;
 
 ghost use Rattle.std.specs.Prelude.{◌≡◌, [], ◌≤◌};
 ghost use Rattle.commands.specs.Commands.{has};
-ghost use Rattle.commands.specs.Reading.{list_of, with_lists, read_as, read_nothing};
+ghost use Rattle.commands.specs.Reading.{list_of, with_lists};
 ghost use Rattle.commands.specs.Writing.{typed_id, command_id};
 
-use types::{NO_NWK, Nwk, OptionEui64, PanId};
+use types::{NO_NWK, Nwk, PanId};
 
 // Zigbee 3.4: the command identifier, the first byte of a command.
-#[derive(Clone, Copy)]
+#[derive(Clone, Copy, PartialEq, Eq)]
 pub enum NwkCommandId {
     RouteRequest = 0x01,
     RouteReply = 0x02,
@@ -33,7 +33,7 @@ pub enum NwkCommandId {
 }
 
 // Zigbee 3.4.1.3.1.1.
-#[derive(Clone, Copy)]
+#[derive(Clone, Copy, PartialEq, Eq)]
 pub enum NwkRouteRequestManyToOne {
     NotManyToOne = 0,
     ManyToOneSenderSupportsRouteRecordTable = 1,
@@ -48,7 +48,7 @@ pub struct NwkRouteRequestCommand {
     pub route_request_identifier: u8,
     pub destination_address: Nwk,
     pub path_cost: u8,
-    pub destination_eui64: OptionEui64,
+    pub destination_eui64: Option<u64>,
 }
 
 // Zigbee 3.4.2: Route Reply.
@@ -58,12 +58,12 @@ pub struct NwkRouteReplyCommand {
     pub originator_nwk: Nwk,
     pub responder_nwk: Nwk,
     pub path_cost: u8,
-    pub originator_eui64: OptionEui64,
-    pub responder_eui64: OptionEui64,
+    pub originator_eui64: Option<u64>,
+    pub responder_eui64: Option<u64>,
 }
 
 // Zigbee 3.4.3: the status codes.
-#[derive(Clone, Copy)]
+#[derive(Clone, Copy, PartialEq, Eq)]
 pub enum NwkNetworkStatus {
     LegacyNoRouteAvailable = 0x00,
     LegacyLinkFailure = 0x01,
@@ -104,14 +104,14 @@ pub struct NwkLeaveCommand {
 }
 
 // Zigbee 3.4.6: the capability information's device type.
-#[derive(Clone, Copy)]
+#[derive(Clone, Copy, PartialEq, Eq)]
 pub enum NwkRejoinCapabilityInformationDeviceType {
     EndDevice = 0,
     Router = 1,
 }
 
 // Zigbee 3.4.6: the capability information's power source.
-#[derive(Clone, Copy)]
+#[derive(Clone, Copy, PartialEq, Eq)]
 pub enum NwkRejoinCapabilityInformationPowerSource {
     OtherPowerSource = 0,
     MainsPowered = 1,
@@ -137,7 +137,7 @@ pub struct NwkRejoinRequestCommand {
 }
 
 // Zigbee 3.4.7: the association status of IEEE 802.15.4, with Zigbee's address conflict.
-#[derive(Clone, Copy)]
+#[derive(Clone, Copy, PartialEq, Eq)]
 pub enum Nwk802154AssociationStatus {
     AssociationSuccessful = 0x00,
     PanAtCapacity = 0x01,
@@ -170,7 +170,7 @@ pub struct NwkLinkStatus {
 }
 
 // Zigbee 3.4.9: the report command identifier.
-#[derive(Clone, Copy)]
+#[derive(Clone, Copy, PartialEq, Eq)]
 pub enum NwkReportCommandIdentifier {
     PanIdentifierConflict = 0x00,
 }
@@ -183,7 +183,7 @@ pub struct NwkNetworkReportCommand {
 }
 
 // Zigbee 3.4.10: the update command identifier.
-#[derive(Clone, Copy)]
+#[derive(Clone, Copy, PartialEq, Eq)]
 pub enum NwkUpdateCommandIdentifier {
     PanIdentifierUpdate = 0x00,
 }
@@ -199,7 +199,7 @@ pub struct NwkNetworkUpdateCommand {
 }
 
 // Zigbee 3.4.11: the requested timeout (Table 3-58).
-#[derive(Clone, Copy)]
+#[derive(Clone, Copy, PartialEq, Eq)]
 pub enum EndDeviceTimeout {
     Seconds10 = 0,
     Minutes2 = 1,
@@ -226,7 +226,7 @@ pub struct NwkEndDeviceTimeoutRequestCommand {
 }
 
 // Zigbee 3.4.12: the response's status.
-#[derive(Clone, Copy)]
+#[derive(Clone, Copy, PartialEq, Eq)]
 pub enum NwkEndDeviceTimeoutResponseStatus {
     Success = 0x00,
     IncorrectValue = 0x01,
@@ -243,7 +243,7 @@ pub struct NwkEndDeviceTimeoutResponseCommand {
 }
 
 // Zigbee 3.4.13: the power type.
-#[derive(Clone, Copy)]
+#[derive(Clone, Copy, PartialEq, Eq)]
 pub enum NwkLinkPowerDeltaType {
     Notification = 0,
     Request = 1,
@@ -264,7 +264,7 @@ pub struct NwkLinkPowerDeltaCommand {
 }
 
 // Zigbee 3.4.14: the commissioning type.
-#[derive(Clone, Copy)]
+#[derive(Clone, Copy, PartialEq, Eq)]
 pub enum NwkCommissioningType {
     InitialJoin = 0x00,
     Rejoin = 0x01,
@@ -324,7 +324,7 @@ pub struct NwkCommandWithLists {
 }
 
 // Which list of NwkCommandWithLists is a command's own.
-#[derive(Clone, Copy)]
+#[derive(Clone, Copy, PartialEq, Eq)]
 pub enum NwkCommandList {
     NoList,
     Relays,
@@ -334,144 +334,44 @@ pub enum NwkCommandList {
     Bytes,
 }
 
-// What the typed body reader answers: a command, or that the bytes hold none.
-#[derive(Clone, Copy)]
-pub enum TypedBody {
-    Typed(NwkCommand),
-    NotTyped,
-}
-
-// What reading a command gives: the refusal number, 0 for none, and the command. After a refusal the command is the
-// blank one: unparsed, with no bytes.
-#[derive(Clone, Copy)]
-pub struct NwkCommandRead {
-    pub refusal: u8,
-    pub command: NwkCommandWithLists,
-}
-
-// What a number means as a code: a declared value, or none.
-#[derive(Clone, Copy)]
-pub enum NwkCommandIdCode {
-    Known(NwkCommandId),
-    Unknown,
-}
-
-#[derive(Clone, Copy)]
-pub enum NwkRouteRequestManyToOneCode {
-    Known(NwkRouteRequestManyToOne),
-    Unknown,
-}
-
-#[derive(Clone, Copy)]
-pub enum NwkNetworkStatusCode {
-    Known(NwkNetworkStatus),
-    Unknown,
-}
-
-#[derive(Clone, Copy)]
-pub enum Nwk802154AssociationStatusCode {
-    Known(Nwk802154AssociationStatus),
-    Unknown,
-}
-
-#[derive(Clone, Copy)]
-pub enum NwkReportCommandIdentifierCode {
-    Known(NwkReportCommandIdentifier),
-    Unknown,
-}
-
-#[derive(Clone, Copy)]
-pub enum NwkUpdateCommandIdentifierCode {
-    Known(NwkUpdateCommandIdentifier),
-    Unknown,
-}
-
-#[derive(Clone, Copy)]
-pub enum EndDeviceTimeoutCode {
-    Known(EndDeviceTimeout),
-    Unknown,
-}
-
-#[derive(Clone, Copy)]
-pub enum NwkEndDeviceTimeoutResponseStatusCode {
-    Known(NwkEndDeviceTimeoutResponseStatus),
-    Unknown,
-}
-
-#[derive(Clone, Copy)]
-pub enum NwkLinkPowerDeltaTypeCode {
-    Known(NwkLinkPowerDeltaType),
-    Unknown,
-}
-
-#[derive(Clone, Copy)]
-pub enum NwkCommissioningTypeCode {
-    Known(NwkCommissioningType),
-    Unknown,
-}
-
-// The seconds of a timeout code, or refusal 13 for a code above 14.
-#[derive(Clone, Copy)]
-pub struct EndDeviceTimeoutSeconds {
-    pub refusal: u8,
-    pub seconds: u32,
-}
-
 impl NwkCommand {
     // The list that is this command's own.
     pub fn list(self) -> NwkCommandList
         ensures { result ≡ list_of self }
     {
         match self {
-            NwkCommand::RouteRequest(_) => NwkCommandList::NoList,
-            NwkCommand::RouteReply(_) => NwkCommandList::NoList,
-            NwkCommand::NetworkStatus(_) => NwkCommandList::NoList,
-            NwkCommand::Leave(_) => NwkCommandList::NoList,
             NwkCommand::RouteRecord => NwkCommandList::Relays,
-            NwkCommand::RejoinRequest(_) => NwkCommandList::NoList,
-            NwkCommand::RejoinResponse(_) => NwkCommandList::NoList,
             NwkCommand::LinkStatus(_) => NwkCommandList::LinkStatuses,
             NwkCommand::NetworkReport(_) => NwkCommandList::PanIds,
-            NwkCommand::NetworkUpdate(_) => NwkCommandList::NoList,
-            NwkCommand::EndDeviceTimeoutRequest(_) => NwkCommandList::NoList,
-            NwkCommand::EndDeviceTimeoutResponse(_) => NwkCommandList::NoList,
             NwkCommand::LinkPowerDelta(_) => NwkCommandList::PowerList,
-            NwkCommand::NetworkCommissioningRequest(_) => NwkCommandList::NoList,
-            NwkCommand::NetworkCommissioningResponse(_) => NwkCommandList::NoList,
             NwkCommand::Unparsed => NwkCommandList::Bytes,
+            _ => NwkCommandList::NoList,
         }
     }
 
-    // The identifier of a typed command; unknown for an unparsed one.
-    fn typed_id(self) -> NwkCommandIdCode
+    // The identifier of a typed command; an unparsed one has none.
+    fn typed_id(self) -> Option<NwkCommandId>
         ensures { result ≡ typed_id self }
     {
-        match self {
-            NwkCommand::RouteRequest(_) => NwkCommandIdCode::Known(NwkCommandId::RouteRequest),
-            NwkCommand::RouteReply(_) => NwkCommandIdCode::Known(NwkCommandId::RouteReply),
-            NwkCommand::NetworkStatus(_) => NwkCommandIdCode::Known(NwkCommandId::NetworkStatus),
-            NwkCommand::Leave(_) => NwkCommandIdCode::Known(NwkCommandId::Leave),
-            NwkCommand::RouteRecord => NwkCommandIdCode::Known(NwkCommandId::RouteRecord),
-            NwkCommand::RejoinRequest(_) => NwkCommandIdCode::Known(NwkCommandId::RejoinRequest),
-            NwkCommand::RejoinResponse(_) => NwkCommandIdCode::Known(NwkCommandId::RejoinResponse),
-            NwkCommand::LinkStatus(_) => NwkCommandIdCode::Known(NwkCommandId::LinkStatus),
-            NwkCommand::NetworkReport(_) => NwkCommandIdCode::Known(NwkCommandId::NetworkReport),
-            NwkCommand::NetworkUpdate(_) => NwkCommandIdCode::Known(NwkCommandId::NetworkUpdate),
-            NwkCommand::EndDeviceTimeoutRequest(_) => NwkCommandIdCode::Known(
-                NwkCommandId::EndDeviceTimeoutRequest,
-            ),
-            NwkCommand::EndDeviceTimeoutResponse(_) => NwkCommandIdCode::Known(
-                NwkCommandId::EndDeviceTimeoutResponse,
-            ),
-            NwkCommand::LinkPowerDelta(_) => NwkCommandIdCode::Known(NwkCommandId::LinkPowerDelta),
-            NwkCommand::NetworkCommissioningRequest(_) => NwkCommandIdCode::Known(
-                NwkCommandId::NetworkCommissioningRequest,
-            ),
-            NwkCommand::NetworkCommissioningResponse(_) => NwkCommandIdCode::Known(
+        Some(match self {
+            NwkCommand::RouteRequest(_) => NwkCommandId::RouteRequest,
+            NwkCommand::RouteReply(_) => NwkCommandId::RouteReply,
+            NwkCommand::NetworkStatus(_) => NwkCommandId::NetworkStatus,
+            NwkCommand::Leave(_) => NwkCommandId::Leave,
+            NwkCommand::RouteRecord => NwkCommandId::RouteRecord,
+            NwkCommand::RejoinRequest(_) => NwkCommandId::RejoinRequest,
+            NwkCommand::RejoinResponse(_) => NwkCommandId::RejoinResponse,
+            NwkCommand::LinkStatus(_) => NwkCommandId::LinkStatus,
+            NwkCommand::NetworkReport(_) => NwkCommandId::NetworkReport,
+            NwkCommand::NetworkUpdate(_) => NwkCommandId::NetworkUpdate,
+            NwkCommand::EndDeviceTimeoutRequest(_) => NwkCommandId::EndDeviceTimeoutRequest,
+            NwkCommand::EndDeviceTimeoutResponse(_) => NwkCommandId::EndDeviceTimeoutResponse,
+            NwkCommand::LinkPowerDelta(_) => NwkCommandId::LinkPowerDelta,
+            NwkCommand::NetworkCommissioningRequest(_) => NwkCommandId::NetworkCommissioningRequest,
+            NwkCommand::NetworkCommissioningResponse(_) =>
                 NwkCommandId::NetworkCommissioningResponse,
-            ),
-            NwkCommand::Unparsed => NwkCommandIdCode::Unknown,
-        }
+            NwkCommand::Unparsed => return None,
+        })
     }
 }
 
@@ -490,13 +390,10 @@ pub const NO_POWER: NwkPowerListEntry = NwkPowerListEntry {
 };
 
 // The presence bit of an optional IEEE address.
-pub fn has_address(address: OptionEui64) -> u8
+pub fn has_address(address: Option<u64>) -> u8
     ensures { (result ≡ has address) × (result ≤ 1) }
 {
-    match address {
-        OptionEui64::Absent => 0,
-        OptionEui64::Present(_) => 1,
-    }
+    u8::from(address.is_some())
 }
 
 impl NwkCommandWithLists {
@@ -504,57 +401,29 @@ impl NwkCommandWithLists {
     pub fn blank(command: NwkCommand) -> Self
         ensures { result ≡ with_lists command [] [] [] [] [] }
     {
-        let relays = [NO_NWK; 53];
-        let link_statuses = [NO_LINK; 31];
-        let pan_ids = [NO_PAN_ID; 31];
-        let power_list = [NO_POWER; 35];
-        let unparsed = [0u8; 108];
         NwkCommandWithLists {
             command,
             relay_count: 0,
-            relays,
+            relays: [NO_NWK; 53],
             link_statuses_len: 0,
-            link_statuses,
+            link_statuses: [NO_LINK; 31],
             report_information_count: 0,
-            pan_ids,
+            pan_ids: [NO_PAN_ID; 31],
             list_count: 0,
-            power_list,
+            power_list: [NO_POWER; 35],
             unparsed_len: 0,
-            unparsed,
+            unparsed: [0; 108],
         }
     }
 
     // The command identifier; of an unparsed command that of its first byte, if it is known.
-    pub fn command_id(self) -> NwkCommandIdCode
+    pub fn command_id(self) -> Option<NwkCommandId>
         ensures { result ≡ command_id self }
     {
-        let command = self.command;
-        let NwkCommandIdCode::Known(id) = command.typed_id() else {
-            if self.unparsed_len == 0 {
-                return NwkCommandIdCode::Unknown;
-            }
-            return NwkCommandId::try_from(self.unparsed[0]);
-        };
-        NwkCommandIdCode::Known(id)
-    }
-}
-
-impl NwkCommandRead {
-    // A command that was read.
-    pub fn accepted(command: NwkCommandWithLists) -> Self
-        ensures { result ≡ read_as command }
-    {
-        NwkCommandRead {
-            refusal: 0,
-            command,
+        match self.command.typed_id() {
+            Some(id) => Some(id),
+            None if self.unparsed_len == 0 => None,
+            None => NwkCommandId::try_from(self.unparsed[0]).ok(),
         }
-    }
-
-    // A refusal, with the blank command beside it.
-    pub fn refused(refusal: u8) -> Self
-        ensures { result ≡ read_nothing refusal }
-    {
-        let command = NwkCommandWithLists::blank(NwkCommand::Unparsed);
-        NwkCommandRead { refusal, command }
     }
 }

@@ -1,7 +1,7 @@
 -- `commands::NwkCommandWithLists::command_id` meets its contract: the identifier goes by the typed command's, else by the first byte
--- (`identifier`). Assumes nothing.
-use mathlib.Core.Path.{◌≡◌, refl, sym, ap, ◌∙◌}
-use Prim.Native.Nat.{ℕ, zero, suc, ◌≤◌}
+-- (`by_command`). Assumes nothing.
+use Rattle.std.specs.Prelude.{Option, Some, None}
+use mathlib.Core.Path.{◌≡◌, refl}
 use native.Mathlib.Omega.{arith}
 use lib.ListN.{get_or}
 use Rattle.octets.specs.Strings.{tab}
@@ -9,13 +9,13 @@ use Rattle.octets.proofs.Strings.{get_or_tab}
 use Rattle.commands.specs.Codes.{command_id_of}
 use Rattle.commands.specs.Commands.{firsts}
 use Rattle.commands.specs.Writing.{wire_of, wire, wire_id, typed_id, command_id}
-use Rattle.commands.specs.declared.{NwkCommand.NwkCommand, NwkCommandWithLists.NwkCommandWithLists, NwkCommandIdCode.NwkCommandIdCode}
+use Rattle.commands.specs.declared.{NwkCommandId.NwkCommandId, NwkCommand.NwkCommand, NwkCommandWithLists.NwkCommandWithLists}
 use Rattle.commands.proofs.NwkCommandWithLists.command_id.Goals as goal
 
 -- by the typed identifier, else by x
-abbrev known : NwkCommandIdCode → NwkCommandIdCode → NwkCommandIdCode
-known (NwkCommandIdCode.Known id) x = NwkCommandIdCode.Known id
-known NwkCommandIdCode.Unknown x = x
+abbrev known : Option NwkCommandId → Option NwkCommandId → Option NwkCommandId
+known (Some id) x = Some id
+known None x = x
 
 by_command : (c : NwkCommand) (f : NwkCommandWithLists) → wire_id (wire_of c f) ≡ known (typed_id c) (command_id_of (get_or (firsts 0 f.unparsed f.unparsed_len) 0 0))
 unfolding wire_id wire_of
@@ -36,39 +36,16 @@ by_command (NwkCommand.NetworkCommissioningRequest c) f = refl
 by_command (NwkCommand.NetworkCommissioningResponse c) f = refl
 by_command NwkCommand.Unparsed f = refl
 
-identifier : (c : NwkCommand) (f : NwkCommandWithLists) (k : NwkCommandIdCode) → typed_id c ≡ k
-    → wire_id (wire_of c f) ≡ known k (command_id_of (get_or (firsts 0 f.unparsed f.unparsed_len) 0 0))
-identifier c f k e = by_command c f ∙ ap (λ (t : NwkCommandIdCode). known t (command_id_of (get_or (firsts 0 f.unparsed f.unparsed_len) 0 0))) e
-
-none : (f : NwkCommandWithLists) → typed_id f.command ≡ NwkCommandIdCode.Unknown → f.unparsed_len ≡ 0 → command_id f ≡ NwkCommandIdCode.Unknown
-unfolding command_id wire firsts tab command_id_of
-none f e z = identifier f.command f NwkCommandIdCode.Unknown e ∙ ap (λ (n : ℕ). command_id_of (get_or (firsts 0 f.unparsed n) 0 0)) z
-
-unparsed_id : (f : NwkCommandWithLists) → typed_id f.command ≡ NwkCommandIdCode.Unknown → (f.unparsed_len ≡ 0 → ⊥)
-    → command_id f ≡ command_id_of (get_or f.unparsed 0 0)
-unfolding command_id wire firsts
-unparsed_id f e z =
-    identifier f.command f NwkCommandIdCode.Unknown e
-    ∙ ap command_id_of (get_or_tab (λ (k : ℕ). get_or f.unparsed k 0) f.unparsed_len 0 0 (positive f.unparsed_len z))
-  where
-    positive : (n : ℕ) → (n ≡ 0 → ⊥) → 1 ≤ n
-    positive zero z = absurd (z refl)
-    positive (suc n) z = omega arith
-
-pub returns-then-self-eq0 : goal.returns-then-self-eq0
-returns-then-self-eq0 c =
-    let f = c.args.self in
-    sym (none f (sym c.typed_id.ensures ∙ c.in_default.is) c.if-self-eq0.true)
-
-pub returns-in_default : goal.returns-in_default
-returns-in_default c =
-    let f = c.args.self in
-    c.try_from.ensures
-    ∙ sym (unparsed_id f (sym c.typed_id.ensures ∙ c.in_default.is)
-    c.if-self-eq0.false)
-
-pub returns : goal.returns
+pub returns-in-Some : goal.returns-in-Some
 unfolding command_id wire
-returns c =
+returns-in-Some c = let f = c.args.self in rw (by_command f.command f, ← c.typed_id.ensures, c.in-Some.is)
+
+pub returns-in-None : goal.returns-in-None
+unfolding command_id wire firsts tab command_id_of
+returns-in-None c = let f = c.args.self in rw (by_command f.command f, ← c.typed_id.ensures, c.in-None.is, c.if-self-eq0.true)
+
+pub returns-in-None-2 : goal.returns-in-None-2
+unfolding command_id wire firsts
+returns-in-None-2 c =
     let f = c.args.self in
-    sym (identifier f.command f _ (sym c.typed_id.ensures ∙ c.in-Known.is))
+    rw (by_command f.command f, ← c.typed_id.ensures, c.in-None.is, get_or_tab (λ k. get_or f.unparsed k 0) f.unparsed_len 0 0 (omega arith), c.ok.ensures.value) c.try_from.ensures.0
