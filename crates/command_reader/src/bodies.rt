@@ -1,7 +1,9 @@
 // The typed body reader of NWK commands: one function for each of the fifteen (Zigbee 3.4.1 to 3.4.15), which answers a
 // command, or that the body ends early or has an undeclared code.
+#![tactic(auto, unfolding(crate::proofs::Layouts::layouts))]
 
-ghost use Rattle.std.specs.Prelude.{◌≡◌};
+ghost use Rattle.std.specs.Prelude.{◌≡◌, ◌/◌, ◌%◌, ◌^◌, ◌<◌};
+ghost use Rattle.commands.specs.Codes.{is_set};
 ghost use Rattle.octets.specs.Numbers.{le_at};
 ghost use Rattle.commands.specs.declared.NwkCommandId.{NwkCommandId};
 ghost use Rattle.commands.specs.Commands.{address_of};
@@ -12,14 +14,19 @@ use commands::*;
 use types::*;
 
 // The IEEE address at place i, if its presence bit is set.
-fn address_at(s: &[u8], i: usize, has: u8) -> OptionEui64
+#[tactic(auto, unfolding(commands::specs::Commands::address_of))]
+fn address_at(s: &[u8], i: usize, has: u8) -> Option<u64>
     ensures { result ≡ address_of has (le_at 8 s.now i) }
 {
-    if has == 1 {
-        OptionEui64::Present(octets::read_u64(s, i))
-    } else {
-        OptionEui64::Absent
-    }
+    (has == 1).then_some(octets::read_u64(s, i))
+}
+
+// Bit k of a byte.
+fn bit(byte: u8, k: u32) -> bool
+    requires { k < 8 }
+    ensures { result ≡ is_set (byte / 2 ^ k % 2) }
+{
+    byte >> k & 1 == 1
 }
 
 // The capability information of a byte (Zigbee 3.4.6), its reserved bits kept.
@@ -27,33 +34,29 @@ fn capability_of(b: u8) -> NwkRejoinCapabilityInformation
     ensures { result ≡ capability_of_byte b }
 {
     NwkRejoinCapabilityInformation {
-        alternate_pan_coordinator: b % 2 == 1,
-        device_type: NwkRejoinCapabilityInformationDeviceType::from_bit(b / 2 % 2 == 1),
-        power_source: NwkRejoinCapabilityInformationPowerSource::from_bit(b / 2 / 2 % 2 == 1),
-        receiver_on_when_idle: b / 2 / 2 / 2 % 2 == 1,
-        reserved1: b / 2 / 2 / 2 / 2 % 2 == 1,
-        reserved2: b / 2 / 2 / 2 / 2 / 2 % 2 == 1,
-        security_capability: b / 2 / 2 / 2 / 2 / 2 / 2 % 2 == 1,
-        allocate_address: b / 2 / 2 / 2 / 2 / 2 / 2 / 2 % 2 == 1,
+        alternate_pan_coordinator: bit(b, 0),
+        device_type: bit(b, 1).into(),
+        power_source: bit(b, 2).into(),
+        receiver_on_when_idle: bit(b, 3),
+        reserved1: bit(b, 4),
+        reserved2: bit(b, 5),
+        security_capability: bit(b, 6),
+        allocate_address: bit(b, 7),
     }
 }
 
 // 3.4.1 Route Request.
-fn read_route_request(s: &[u8]) -> TypedBody
+fn read_route_request(s: &[u8]) -> Option<NwkCommand>
     ensures { result ≡ body_of NwkCommandId.RouteRequest s.now }
 {
     let options = octets::byte_at(s, 1);
-    let has_destination_eui64 = options / 8 / 4 % 2;
-    if s.len() < 6 + (has_destination_eui64 as usize) * 8 {
-        return TypedBody::NotTyped;
+    let has_destination_eui64 = options >> 5 & 1;
+    if s.len() < 6 + usize::from(has_destination_eui64) * 8 {
+        return None;
     }
-    let NwkRouteRequestManyToOneCode::Known(many_to_one) = NwkRouteRequestManyToOne::try_from(
-        options / 8 % 4,
-    ) else {
-        return TypedBody::NotTyped;
-    };
+    let many_to_one = NwkRouteRequestManyToOne::try_from(options >> 3 & 3).ok()?;
     let destination_eui64 = address_at(s, 6, has_destination_eui64);
-    TypedBody::Typed(NwkCommand::RouteRequest(NwkRouteRequestCommand {
+    Some(NwkCommand::RouteRequest(NwkRouteRequestCommand {
         many_to_one,
         route_request_identifier: octets::byte_at(s, 2),
         destination_address: Nwk(octets::read_u16(s, 3)),
@@ -63,19 +66,19 @@ fn read_route_request(s: &[u8]) -> TypedBody
 }
 
 // 3.4.2 Route Reply.
-fn read_route_reply(s: &[u8]) -> TypedBody
+fn read_route_reply(s: &[u8]) -> Option<NwkCommand>
     ensures { result ≡ body_of NwkCommandId.RouteReply s.now }
 {
     let options = octets::byte_at(s, 1);
-    let has_originator_eui64 = options / 16 % 2;
-    let has_responder_eui64 = options / 16 / 2 % 2;
-    if s.len() < 8 + ((has_originator_eui64 + has_responder_eui64) as usize) * 8 {
-        return TypedBody::NotTyped;
+    let has_originator_eui64 = options >> 4 & 1;
+    let has_responder_eui64 = options >> 5 & 1;
+    if s.len() < 8 + usize::from(has_originator_eui64 + has_responder_eui64) * 8 {
+        return None;
     }
-    let responder_at = 8 + (has_originator_eui64 as usize) * 8;
+    let responder_at = 8 + usize::from(has_originator_eui64) * 8;
     let originator_eui64 = address_at(s, 8, has_originator_eui64);
     let responder_eui64 = address_at(s, responder_at, has_responder_eui64);
-    TypedBody::Typed(NwkCommand::RouteReply(NwkRouteReplyCommand {
+    Some(NwkCommand::RouteReply(NwkRouteReplyCommand {
         route_request_identifier: octets::byte_at(s, 2),
         originator_nwk: Nwk(octets::read_u16(s, 3)),
         responder_nwk: Nwk(octets::read_u16(s, 5)),
@@ -86,128 +89,114 @@ fn read_route_reply(s: &[u8]) -> TypedBody
 }
 
 // 3.4.3 Network Status.
-fn read_network_status(s: &[u8]) -> TypedBody
+fn read_network_status(s: &[u8]) -> Option<NwkCommand>
     ensures { result ≡ body_of NwkCommandId.NetworkStatus s.now }
 {
     if s.len() < 4 {
-        return TypedBody::NotTyped;
+        return None;
     }
-    let NwkNetworkStatusCode::Known(status_code) = NwkNetworkStatus::try_from(octets::byte_at(s, 1))
-    else {
-        return TypedBody::NotTyped;
-    };
-    TypedBody::Typed(NwkCommand::NetworkStatus(NwkNetworkStatusCommand {
+    let status_code = NwkNetworkStatus::try_from(octets::byte_at(s, 1)).ok()?;
+    Some(NwkCommand::NetworkStatus(NwkNetworkStatusCommand {
         status_code,
         network_address: Nwk(octets::read_u16(s, 2)),
     }))
 }
 
 // 3.4.4 Leave.
-fn read_leave(s: &[u8]) -> TypedBody
+fn read_leave(s: &[u8]) -> Option<NwkCommand>
     ensures { result ≡ body_of NwkCommandId.Leave s.now }
 {
     if s.len() < 2 {
-        return TypedBody::NotTyped;
+        return None;
     }
-    let options = octets::byte_at(s, 1) / 32;
-    TypedBody::Typed(NwkCommand::Leave(NwkLeaveCommand {
-        rejoin: options % 2 == 1,
-        request: options / 2 % 2 == 1,
-        remove_children: options / 2 / 2 % 2 == 1,
+    let options = octets::byte_at(s, 1);
+    Some(NwkCommand::Leave(NwkLeaveCommand {
+        rejoin: bit(options, 5),
+        request: bit(options, 6),
+        remove_children: bit(options, 7),
     }))
 }
 
 // 3.4.5 Route Record.
-fn read_route_record(s: &[u8]) -> TypedBody
+fn read_route_record(s: &[u8]) -> Option<NwkCommand>
     ensures { result ≡ body_of NwkCommandId.RouteRecord s.now }
 {
     let relay_count = octets::byte_at(s, 1);
-    if s.len() < 2 + (relay_count as usize) * 2 {
-        return TypedBody::NotTyped;
+    if s.len() < 2 + usize::from(relay_count) * 2 {
+        return None;
     }
-    TypedBody::Typed(NwkCommand::RouteRecord)
+    Some(NwkCommand::RouteRecord)
 }
 
 // 3.4.6 Rejoin Request.
-fn read_rejoin_request(s: &[u8]) -> TypedBody
+fn read_rejoin_request(s: &[u8]) -> Option<NwkCommand>
     ensures { result ≡ body_of NwkCommandId.RejoinRequest s.now }
 {
     if s.len() < 2 {
-        return TypedBody::NotTyped;
+        return None;
     }
     let capability_information = capability_of(octets::byte_at(s, 1));
-    TypedBody::Typed(NwkCommand::RejoinRequest(NwkRejoinRequestCommand {
+    Some(NwkCommand::RejoinRequest(NwkRejoinRequestCommand {
         capability_information,
     }))
 }
 
 // 3.4.7 Rejoin Response.
-fn read_rejoin_response(s: &[u8]) -> TypedBody
+fn read_rejoin_response(s: &[u8]) -> Option<NwkCommand>
     ensures { result ≡ body_of NwkCommandId.RejoinResponse s.now }
 {
     if s.len() < 4 {
-        return TypedBody::NotTyped;
+        return None;
     }
-    let Nwk802154AssociationStatusCode::Known(rejoin_status) = Nwk802154AssociationStatus::try_from(
-        octets::byte_at(s, 3),
-    ) else {
-        return TypedBody::NotTyped;
-    };
-    TypedBody::Typed(NwkCommand::RejoinResponse(NwkRejoinResponseCommand {
+    let rejoin_status = Nwk802154AssociationStatus::try_from(octets::byte_at(s, 3)).ok()?;
+    Some(NwkCommand::RejoinResponse(NwkRejoinResponseCommand {
         network_address: Nwk(octets::read_u16(s, 1)),
         rejoin_status,
     }))
 }
 
 // 3.4.8 Link Status.
-fn read_link_status(s: &[u8]) -> TypedBody
+fn read_link_status(s: &[u8]) -> Option<NwkCommand>
     ensures { result ≡ body_of NwkCommandId.LinkStatus s.now }
 {
     let options = octets::byte_at(s, 1);
-    let link_statuses_len = options % 32;
-    if s.len() < 2 + (link_statuses_len as usize) * 3 {
-        return TypedBody::NotTyped;
+    let link_statuses_len = options & 31;
+    if s.len() < 2 + usize::from(link_statuses_len) * 3 {
+        return None;
     }
-    let flags = options / 32;
-    TypedBody::Typed(NwkCommand::LinkStatus(NwkLinkStatusCommand {
-        is_first_frame: flags % 2 == 1,
-        is_last_frame: flags / 2 % 2 == 1,
+    Some(NwkCommand::LinkStatus(NwkLinkStatusCommand {
+        is_first_frame: bit(options, 5),
+        is_last_frame: bit(options, 6),
     }))
 }
 
 // 3.4.9 Network Report.
-fn read_network_report(s: &[u8]) -> TypedBody
+fn read_network_report(s: &[u8]) -> Option<NwkCommand>
     ensures { result ≡ body_of NwkCommandId.NetworkReport s.now }
 {
     let options = octets::byte_at(s, 1);
-    let report_information_count = options % 32;
-    if s.len() < 10 + (report_information_count as usize) * 2 {
-        return TypedBody::NotTyped;
+    let report_information_count = options & 31;
+    if s.len() < 10 + usize::from(report_information_count) * 2 {
+        return None;
     }
-    let NwkReportCommandIdentifierCode::Known(report_command_identifier) =
-        NwkReportCommandIdentifier::try_from(options / 32 % 8) else {
-        return TypedBody::NotTyped;
-    };
-    TypedBody::Typed(NwkCommand::NetworkReport(NwkNetworkReportCommand {
+    let report_command_identifier = NwkReportCommandIdentifier::try_from(options >> 5).ok()?;
+    Some(NwkCommand::NetworkReport(NwkNetworkReportCommand {
         report_command_identifier,
         epid: octets::read_u64(s, 2),
     }))
 }
 
 // 3.4.10 Network Update.
-fn read_network_update(s: &[u8]) -> TypedBody
+fn read_network_update(s: &[u8]) -> Option<NwkCommand>
     ensures { result ≡ body_of NwkCommandId.NetworkUpdate s.now }
 {
     if s.len() < 13 {
-        return TypedBody::NotTyped;
+        return None;
     }
     let options = octets::byte_at(s, 1);
-    let NwkUpdateCommandIdentifierCode::Known(update_command_identifier) =
-        NwkUpdateCommandIdentifier::try_from(options / 32 % 8) else {
-        return TypedBody::NotTyped;
-    };
-    TypedBody::Typed(NwkCommand::NetworkUpdate(NwkNetworkUpdateCommand {
-        update_information_count: options % 32,
+    let update_command_identifier = NwkUpdateCommandIdentifier::try_from(options >> 5).ok()?;
+    Some(NwkCommand::NetworkUpdate(NwkNetworkUpdateCommand {
+        update_information_count: options & 31,
         update_command_identifier,
         epid: octets::read_u64(s, 2),
         update_id: octets::byte_at(s, 10),
@@ -216,102 +205,79 @@ fn read_network_update(s: &[u8]) -> TypedBody
 }
 
 // 3.4.11 End Device Timeout Request.
-fn read_timeout_request(s: &[u8]) -> TypedBody
+fn read_timeout_request(s: &[u8]) -> Option<NwkCommand>
     ensures { result ≡ body_of NwkCommandId.EndDeviceTimeoutRequest s.now }
 {
     if s.len() < 3 {
-        return TypedBody::NotTyped;
+        return None;
     }
-    let EndDeviceTimeoutCode::Known(request_timeout_enum) = EndDeviceTimeout::try_from(
-        octets::byte_at(s, 1),
-    ) else {
-        return TypedBody::NotTyped;
-    };
-    TypedBody::Typed(NwkCommand::EndDeviceTimeoutRequest(NwkEndDeviceTimeoutRequestCommand {
+    let request_timeout_enum = EndDeviceTimeout::try_from(octets::byte_at(s, 1)).ok()?;
+    Some(NwkCommand::EndDeviceTimeoutRequest(NwkEndDeviceTimeoutRequestCommand {
         request_timeout_enum,
         end_device_configuration: octets::byte_at(s, 2),
     }))
 }
 
 // 3.4.12 End Device Timeout Response.
-fn read_timeout_response(s: &[u8]) -> TypedBody
+fn read_timeout_response(s: &[u8]) -> Option<NwkCommand>
     ensures { result ≡ body_of NwkCommandId.EndDeviceTimeoutResponse s.now }
 {
     if s.len() < 3 {
-        return TypedBody::NotTyped;
+        return None;
     }
-    let NwkEndDeviceTimeoutResponseStatusCode::Known(status) =
-        NwkEndDeviceTimeoutResponseStatus::try_from(octets::byte_at(s, 1)) else {
-        return TypedBody::NotTyped;
-    };
+    let status = NwkEndDeviceTimeoutResponseStatus::try_from(octets::byte_at(s, 1)).ok()?;
     let parent = octets::byte_at(s, 2);
-    TypedBody::Typed(NwkCommand::EndDeviceTimeoutResponse(NwkEndDeviceTimeoutResponseCommand {
+    Some(NwkCommand::EndDeviceTimeoutResponse(NwkEndDeviceTimeoutResponseCommand {
         status,
-        mac_data_poll_keepalive_supported: parent % 2 == 1,
-        end_device_timeout_request_keepalive_supported: parent / 2 % 2 == 1,
-        power_negotation_support: parent / 2 / 2 % 2 == 1,
+        mac_data_poll_keepalive_supported: bit(parent, 0),
+        end_device_timeout_request_keepalive_supported: bit(parent, 1),
+        power_negotation_support: bit(parent, 2),
     }))
 }
 
 // 3.4.13 Link Power Delta.
-fn read_link_power_delta(s: &[u8]) -> TypedBody
+fn read_link_power_delta(s: &[u8]) -> Option<NwkCommand>
     ensures { result ≡ body_of NwkCommandId.LinkPowerDelta s.now }
 {
     let list_count = octets::byte_at(s, 2);
-    if s.len() < 3 + (list_count as usize) * 3 {
-        return TypedBody::NotTyped;
+    if s.len() < 3 + usize::from(list_count) * 3 {
+        return None;
     }
-    let NwkLinkPowerDeltaTypeCode::Known(command_type) = NwkLinkPowerDeltaType::try_from(
-        octets::byte_at(s, 1) % 4,
-    ) else {
-        return TypedBody::NotTyped;
-    };
-    TypedBody::Typed(NwkCommand::LinkPowerDelta(NwkLinkPowerDeltaCommand { command_type }))
+    let command_type = NwkLinkPowerDeltaType::try_from(octets::byte_at(s, 1) & 3).ok()?;
+    Some(NwkCommand::LinkPowerDelta(NwkLinkPowerDeltaCommand { command_type }))
 }
 
 // 3.4.14 Network Commissioning Request.
-fn read_commissioning_request(s: &[u8]) -> TypedBody
+fn read_commissioning_request(s: &[u8]) -> Option<NwkCommand>
     ensures { result ≡ body_of NwkCommandId.NetworkCommissioningRequest s.now }
 {
     if s.len() < 3 {
-        return TypedBody::NotTyped;
+        return None;
     }
-    let NwkCommissioningTypeCode::Known(commissioning_type) = NwkCommissioningType::try_from(
-        octets::byte_at(s, 1),
-    ) else {
-        return TypedBody::NotTyped;
-    };
+    let commissioning_type = NwkCommissioningType::try_from(octets::byte_at(s, 1)).ok()?;
     let capability_information = capability_of(octets::byte_at(s, 2));
-    TypedBody::Typed(NwkCommand::NetworkCommissioningRequest(
-        NwkNetworkCommissioningRequestCommand {
-            commissioning_type,
-            capability_information,
-        },
-    ))
+    Some(NwkCommand::NetworkCommissioningRequest(NwkNetworkCommissioningRequestCommand {
+        commissioning_type,
+        capability_information,
+    }))
 }
 
 // 3.4.15 Network Commissioning Response.
-fn read_commissioning_response(s: &[u8]) -> TypedBody
+fn read_commissioning_response(s: &[u8]) -> Option<NwkCommand>
     ensures { result ≡ body_of NwkCommandId.NetworkCommissioningResponse s.now }
 {
     if s.len() < 4 {
-        return TypedBody::NotTyped;
+        return None;
     }
-    let Nwk802154AssociationStatusCode::Known(status) = Nwk802154AssociationStatus::try_from(
-        octets::byte_at(s, 3),
-    ) else {
-        return TypedBody::NotTyped;
-    };
-    TypedBody::Typed(NwkCommand::NetworkCommissioningResponse(
-        NwkNetworkCommissioningResponseCommand {
-            network_address: Nwk(octets::read_u16(s, 1)),
-            status,
-        },
-    ))
+    let status = Nwk802154AssociationStatus::try_from(octets::byte_at(s, 3)).ok()?;
+    Some(NwkCommand::NetworkCommissioningResponse(NwkNetworkCommissioningResponseCommand {
+        network_address: Nwk(octets::read_u16(s, 1)),
+        status,
+    }))
 }
 
 // The body that an identifier announces.
-fn parse_body(id: NwkCommandId, s: &[u8]) -> TypedBody
+fn parse_body(id: NwkCommandId, s: &[u8]) -> Option<NwkCommand>
     ensures { result ≡ body_of id s.now }
 {
     match id {
@@ -334,11 +300,10 @@ fn parse_body(id: NwkCommandId, s: &[u8]) -> TypedBody
 }
 
 // The typed command, if the bytes hold one.
-pub fn try_parse(s: &[u8]) -> TypedBody
+#[tactic(auto, unfolding(commands::specs::Reading::typed, commands::specs::Reading::typed_by))]
+pub fn try_parse(s: &[u8]) -> Option<NwkCommand>
     ensures { result ≡ typed s.now }
 {
-    let NwkCommandIdCode::Known(id) = NwkCommandId::try_from(octets::byte_at(s, 0)) else {
-        return TypedBody::NotTyped;
-    };
+    let id = NwkCommandId::try_from(octets::byte_at(s, 0)).ok()?;
     parse_body(id, s)
 }

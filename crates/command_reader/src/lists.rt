@@ -43,7 +43,7 @@ pub fn with_relays(command: NwkCommand, s: &[u8]) -> NwkCommandWithLists
 {
     let mut filled = NwkCommandWithLists::blank(command);
     let n = octets::byte_at(s, 1);
-    let relays = lists::read_relays(s, 2, n as usize);
+    let relays = lists::read_relays(s, 2, usize::from(n));
     filled.relay_count = n;
     filled.relays = relays;
     filled
@@ -55,7 +55,7 @@ pub fn with_link_statuses(command: NwkCommand, s: &[u8]) -> NwkCommandWithLists
 {
     let mut filled = NwkCommandWithLists::blank(command);
     let n = octets::byte_at(s, 1) % 32;
-    let links = read_link_statuses(s, n as usize);
+    let links = read_link_statuses(s, usize::from(n));
     filled.link_statuses_len = n;
     filled.link_statuses = links;
     filled
@@ -67,7 +67,7 @@ pub fn with_pan_ids(command: NwkCommand, s: &[u8]) -> NwkCommandWithLists
 {
     let mut filled = NwkCommandWithLists::blank(command);
     let n = octets::byte_at(s, 1) % 32;
-    let pan_ids = lists::read_pan_ids(s, 10, n as usize);
+    let pan_ids = lists::read_pan_ids(s, 10, usize::from(n));
     filled.report_information_count = n;
     filled.pan_ids = pan_ids;
     filled
@@ -80,24 +80,10 @@ pub fn with_power_list(command: NwkCommand, s: &[u8]) -> NwkCommandWithLists
 {
     let mut filled = NwkCommandWithLists::blank(command);
     let n = octets::byte_at(s, 2);
-    let powers = lists::read_power_list(s, 3, n as usize);
+    let powers = lists::read_power_list(s, 3, usize::from(n));
     filled.list_count = n;
     filled.power_list = powers;
     filled
-}
-
-// The bytes of an unparsed command, in an array.
-fn read_bytes(s: &[u8]) -> [u8; 108]
-    requires { length s.now ≤ 108 }
-    ensures { result ≡ places 0 108 s.now }
-{
-    let mut bytes = [0u8; 108];
-    let mut k = 0;
-    while k < s.len() {
-        bytes[k] = s[k];
-        k += 1;
-    }
-    bytes
 }
 
 // An unparsed command: all the bytes, as they are.
@@ -105,9 +91,11 @@ pub fn keep_unparsed(s: &[u8]) -> NwkCommandWithLists
     requires { length s.now ≤ 108 }
     ensures { result ≡ unparsed s.now }
 {
-    let mut kept = NwkCommandWithLists::blank(NwkCommand::Unparsed);
-    let bytes = read_bytes(s);
-    kept.unparsed_len = s.len() as u8;
-    kept.unparsed = bytes;
-    kept
+    let mut bytes = [0; 108];
+    bytes[..s.len()].copy_from_slice(s);
+    NwkCommandWithLists {
+        unparsed_len: s.len() as u8,
+        unparsed: bytes,
+        ..NwkCommandWithLists::blank(NwkCommand::Unparsed)
+    }
 }

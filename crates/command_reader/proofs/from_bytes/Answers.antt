@@ -6,17 +6,12 @@ use Rattle.commands.proofs.RoundTrip.{read_accepts, read_refuses}
 use Rattle.command_reader.proofs.from_bytes.Goals as goal
 
 pub returns-then-s-gt-MAX_NSDU_SIZE : goal.returns-then-s-gt-MAX_NSDU_SIZE
-returns-then-s-gt-MAX_NSDU_SIZE c =
-    rw (c.refused.ensures, read_refuses c.args.s.now (omega (arith, c.if-s-gt-MAX_NSDU_SIZE.true)))
+returns-then-s-gt-MAX_NSDU_SIZE c = rw (read_refuses c.args.s.now (omega arith))
 
-pub returns-in_default : goal.returns-in_default
+pub returns-in-Some : goal.returns-in-Some
 unfolding parsed
-returns-in_default c =
-    rw (c.accepted.ensures, c.keep_unparsed.ensures)
-    (rw (read_accepts _ c.if-s-gt-MAX_NSDU_SIZE.false, ← c.try_parse.ensures, c.in_default.is))
+returns-in-Some c = rw (c.with_list.ensures, read_accepts c.args.s.now (omega arith), ← c.try_parse.ensures, c.in-Some.is)
 
-pub returns : goal.returns
+pub returns-in-None : goal.returns-in-None
 unfolding parsed
-returns c =
-    rw (c.accepted-2.ensures, c.with_list.ensures)
-    (rw (read_accepts _ c.if-s-gt-MAX_NSDU_SIZE.false, ← c.try_parse.ensures, c.in-Typed.is))
+returns-in-None c = rw (c.keep_unparsed.ensures, read_accepts c.args.s.now (omega arith), ← c.try_parse.ensures, c.in-None.is)

@@ -9,4 +9,4 @@ use Rattle.command_reader.proofs.lists.with_link_statuses.Goals as goal
 
 pub returns : goal.returns
 unfolding layouts with_lists listed link_at
-returns c = rw (c.blank-filled.ensures, map_tab, length_tab, c.read_link_statuses-links.ensures, c.byte_at-n.ensures)
+returns c = rw (c.blank-filled.ensures, map_tab, length_tab, c.read_link_statuses-links.ensures, c.from.ensures, c.byte_at-n.ensures)

@@ -9,4 +9,4 @@ use Rattle.command_reader.proofs.lists.with_pan_ids.Goals as goal
 
 pub returns : goal.returns
 unfolding layouts with_lists listed pan_id_of
-returns c = rw (c.blank-filled.ensures, map_tab, length_tab, c.read_pan_ids-pan_ids.ensures, c.byte_at-n.ensures)
+returns c = rw (c.blank-filled.ensures, map_tab, length_tab, c.read_pan_ids-pan_ids.ensures, c.from.ensures, c.byte_at-n.ensures)

@@ -9,4 +9,4 @@ use Rattle.command_reader.proofs.lists.with_power_list.Goals as goal
 
 pub returns : goal.returns
 unfolding layouts with_lists listed power_at
-returns c = rw (c.blank-filled.ensures, map_tab, length_tab, c.read_power_list-powers.ensures, c.byte_at-n.ensures)
+returns c = rw (c.blank-filled.ensures, map_tab, length_tab, c.read_power_list-powers.ensures, c.from.ensures, c.byte_at-n.ensures)

@@ -9,4 +9,4 @@ use Rattle.command_reader.proofs.lists.with_relays.Goals as goal
 
 pub returns : goal.returns
 unfolding layouts with_lists listed relay_of
-returns c = rw (c.blank-filled.ensures, map_tab, length_tab, c.read_relays-relays.ensures, c.byte_at-n.ensures)
+returns c = rw (c.blank-filled.ensures, map_tab, length_tab, c.read_relays-relays.ensures, c.from.ensures, c.byte_at-n.ensures)
