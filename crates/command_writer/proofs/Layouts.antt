@@ -6,9 +6,8 @@ use Rattle.commands.specs.Commands.{link_entry, capability_values}
 use Rattle.commands.specs.Writing.{wire_bytes}
 use Rattle.commands.proofs.Layouts.{formats, contents, shapes}
 use Rattle.command_writer.specs.Options.{capability_byte}
-use Rattle.command_writer.specs.Reply.{reply_head}
 
 unfoldable pub layouts : Unit {0}
 unfolding formats contents shapes wire_bytes body_bytes filled write_field write_fields write_entries le link_entry capability_values
-    capability_byte reply_head
+    capability_byte
 layouts = tt

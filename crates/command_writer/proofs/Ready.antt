@@ -4,15 +4,17 @@
 use Rattle.std.specs.Prelude.{Option, Some, None}
 use mathlib.Core.Path.{◌≡◌, refl, sym, subst, ◌∙◌}
 use mathlib.Core.Bool.{Bool, true, false, ◌&&◌, true≢false}
-use mathlib.Core.List.{List, ◌++◌}
+use mathlib.Core.List.{List}
 use Prim.Native.Nat.{ℕ, ◌+◌, ◌*◌, ◌≤◌}
 use native.Mathlib.Omega.{arith}
 use borrow.Author.Tests.{ltb-true}
 use lib.Dec.{ltb}
 use lib.ListN.{length, get_or, length-append}
+use Rattle.octets.specs.Numbers.{le}
 use Rattle.octets.proofs.Strings.{length_tab}
+use Rattle.types.specs.Optional.{ieee_bytes}
 use Rattle.commands.specs.Format.{size, sizes, width, kept_count, held_parts, held_field, held_fields, held_entries}
-use Rattle.commands.specs.Commands.{has, address_entry, firsts, link_status_format, link_entry, link_entries, no_link}
+use Rattle.commands.specs.Commands.{address_entry, firsts, link_status_format, link_entry, link_entries, no_link}
 use Rattle.commands.specs.Reading.{list_of}
 use Rattle.commands.specs.Writing.{wire_of, wire, wire_bytes, command_bytes, write_refusal}
 use Rattle.commands.proofs.Format.{first, second, held_not}
@@ -27,8 +29,8 @@ use Rattle.commands.specs.declared.{NwkCommandId.NwkCommandId, NwkCommand.NwkCom
 -- ---- the length of each command
 
 abbrev pub length_by : NwkCommand → NwkCommandWithLists → ℕ
-length_by (NwkCommand.RouteRequest c) f = 6 + has c.destination_eui64 * 8
-length_by (NwkCommand.RouteReply c) f = 8 + has c.originator_eui64 * 8 + has c.responder_eui64 * 8
+length_by (NwkCommand.RouteRequest c) f = 6 + length (ieee_bytes c.destination_eui64)
+length_by (NwkCommand.RouteReply c) f = 8 + length (ieee_bytes c.originator_eui64) + length (ieee_bytes c.responder_eui64)
 length_by (NwkCommand.NetworkStatus c) f = 4
 length_by (NwkCommand.Leave c) f = 2
 length_by NwkCommand.RouteRecord f = 2 + f.relay_count * 2
@@ -44,17 +46,17 @@ length_by (NwkCommand.NetworkCommissioningRequest c) f = 3
 length_by (NwkCommand.NetworkCommissioningResponse c) f = 4
 length_by NwkCommand.Unparsed f = f.unparsed_len
 
-address_length : (a : Option ℕ) → length (address_entry a) ≡ has a
+address_length : (a : Option ℕ) → length (address_entry a) * 8 ≡ length (ieee_bytes a)
+unfolding le
 address_length None = refl
 address_length (Some x) = refl
 
-addresses_length : (a b : Option ℕ) → length (address_entry a ++ address_entry b) ≡ has a + has b
-addresses_length a b = length-append (address_entry a) (address_entry b) ∙ rw (address_length a, address_length b)
-
 pub length_by_lem : (c : NwkCommand) (f : NwkCommandWithLists) → length (wire_bytes (wire_of c f)) ≡ length_by c f
 unfolding formats contents wire_of wire_bytes firsts size sizes
-length_by_lem (NwkCommand.RouteRequest c) f = length_wire NwkCommandId.RouteRequest _ ∙ rw (address_length c.destination_eui64) (omega arith)
-length_by_lem (NwkCommand.RouteReply c) f = length_wire NwkCommandId.RouteReply _ ∙ rw (addresses_length c.originator_eui64 c.responder_eui64) (omega arith)
+length_by_lem (NwkCommand.RouteRequest c) f = length_wire NwkCommandId.RouteRequest _ ∙ omega (arith, address_length c.destination_eui64)
+length_by_lem (NwkCommand.RouteReply c) f =
+    length_wire NwkCommandId.RouteReply _
+    ∙ rw (length-append (address_entry c.originator_eui64)) (omega (arith, address_length c.originator_eui64, address_length c.responder_eui64))
 length_by_lem (NwkCommand.NetworkStatus c) f = length_wire NwkCommandId.NetworkStatus _
 length_by_lem (NwkCommand.Leave c) f = length_wire NwkCommandId.Leave _
 length_by_lem NwkCommand.RouteRecord f = length_wire NwkCommandId.RouteRecord _ ∙ rw length_tab (omega arith)
@@ -69,6 +71,10 @@ length_by_lem (NwkCommand.LinkPowerDelta c) f = length_wire NwkCommandId.LinkPow
 length_by_lem (NwkCommand.NetworkCommissioningRequest c) f = length_wire NwkCommandId.NetworkCommissioningRequest _
 length_by_lem (NwkCommand.NetworkCommissioningResponse c) f = length_wire NwkCommandId.NetworkCommissioningResponse _
 length_by_lem NwkCommand.Unparsed f = length_tab _ _
+
+pub length_command : (f : NwkCommandWithLists) → length (command_bytes f) ≡ length_by f.command f
+unfolding command_bytes wire
+length_command f = length_by_lem f.command f
 
 -- ---- costs of three bits
 

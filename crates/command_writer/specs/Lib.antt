@@ -1,3 +1,2 @@
 -- What the contracts cite besides the definitions of `commands`.
 pub mod Options
-pub mod Reply

@@ -1,152 +1,93 @@
 // What is looked at before a command is written: its exact length, and refusals 13, 17 and 18 in this order.
 
-ghost use Rattle.std.specs.Prelude.{◌≡◌, not, ◌||◌, ◌+◌, ◌*◌, ◌≤◌, length, ltb};
+ghost use Rattle.std.specs.Prelude.{◌≡◌, not, ◌||◌, ◌≤◌, length, ltb, IfOk};
+ghost use Rattle.octets.specs.Refusals.{refused};
 ghost use Rattle.commands.specs.Format.{held_fields, held_entries};
-ghost use Rattle.commands.specs.Commands.{has, link_status_format, link_entry, link_entries};
+ghost use Rattle.commands.specs.Commands.{link_status_format, link_entry, link_entries};
 ghost use Rattle.commands.specs.Reading.{list_of};
-ghost use Rattle.commands.specs.Writing.{wire, misfits, update_count, command_bytes, field_refusal, write_refusal};
+ghost use Rattle.commands.specs.Writing.{wire, misfits, command_bytes, write_refusal};
 
 use commands::*;
-use octets::refusals;
-use types::MAX_NSDU_SIZE;
-
-// The length of a route request.
-fn route_request_length(c: NwkRouteRequestCommand) -> usize
-    ensures { result ≡ 6 + has c.destination_eui64 * 8 }
-{
-    let address = c.destination_eui64;
-    6 + (has_address(address) as usize) * 8
-}
-
-// The length of a route reply.
-fn route_reply_length(c: NwkRouteReplyCommand) -> usize
-    ensures { result ≡ 8 + has c.originator_eui64 * 8 + has c.responder_eui64 * 8 }
-{
-    let originator = c.originator_eui64;
-    let responder = c.responder_eui64;
-    8 + (has_address(originator) as usize) * 8 + (has_address(responder) as usize) * 8
-}
+use octets::refusals::Refusal;
+use types::{MAX_NSDU_SIZE, ieee_size};
 
 // The exact length of a command's bytes.
-pub fn length_of(given: NwkCommandWithLists) -> usize
+#[tactic(auto, using(crate::proofs::Ready::length_command))]
+fn length_of(given: NwkCommandWithLists) -> usize
     ensures { result ≡ length (command_bytes given) }
 {
-    let command = given.command;
-    match command {
-        NwkCommand::RouteRequest(c) => route_request_length(c),
-        NwkCommand::RouteReply(c) => route_reply_length(c),
+    match given.command {
+        NwkCommand::RouteRequest(c) => 6 + ieee_size(c.destination_eui64),
+        NwkCommand::RouteReply(c) => 8
+            + ieee_size(c.originator_eui64)
+            + ieee_size(c.responder_eui64),
         NwkCommand::NetworkStatus(_) => 4,
         NwkCommand::Leave(_) => 2,
-        NwkCommand::RouteRecord => 2 + (given.relay_count as usize) * 2,
+        NwkCommand::RouteRecord => 2 + usize::from(given.relay_count) * 2,
         NwkCommand::RejoinRequest(_) => 2,
         NwkCommand::RejoinResponse(_) => 4,
-        NwkCommand::LinkStatus(_) => 2 + (given.link_statuses_len as usize) * 3,
-        NwkCommand::NetworkReport(_) => 10 + (given.report_information_count as usize) * 2,
+        NwkCommand::LinkStatus(_) => 2 + usize::from(given.link_statuses_len) * 3,
+        NwkCommand::NetworkReport(_) => 10 + usize::from(given.report_information_count) * 2,
         NwkCommand::NetworkUpdate(_) => 13,
         NwkCommand::EndDeviceTimeoutRequest(_) => 3,
         NwkCommand::EndDeviceTimeoutResponse(_) => 3,
-        NwkCommand::LinkPowerDelta(_) => 3 + (given.list_count as usize) * 3,
+        NwkCommand::LinkPowerDelta(_) => 3 + usize::from(given.list_count) * 3,
         NwkCommand::NetworkCommissioningRequest(_) => 3,
         NwkCommand::NetworkCommissioningResponse(_) => 4,
-        NwkCommand::Unparsed => given.unparsed_len as usize,
-    }
-}
-
-// The stored count of a network update, 0 for the others.
-fn update_count(command: NwkCommand) -> u8
-    ensures { result ≡ update_count command }
-{
-    match command {
-        NwkCommand::RouteRequest(_) => 0,
-        NwkCommand::RouteReply(_) => 0,
-        NwkCommand::NetworkStatus(_) => 0,
-        NwkCommand::Leave(_) => 0,
-        NwkCommand::RouteRecord => 0,
-        NwkCommand::RejoinRequest(_) => 0,
-        NwkCommand::RejoinResponse(_) => 0,
-        NwkCommand::LinkStatus(_) => 0,
-        NwkCommand::NetworkReport(_) => 0,
-        NwkCommand::NetworkUpdate(c) => c.update_information_count,
-        NwkCommand::EndDeviceTimeoutRequest(_) => 0,
-        NwkCommand::EndDeviceTimeoutResponse(_) => 0,
-        NwkCommand::LinkPowerDelta(_) => 0,
-        NwkCommand::NetworkCommissioningRequest(_) => 0,
-        NwkCommand::NetworkCommissioningResponse(_) => 0,
-        NwkCommand::Unparsed => 0,
+        NwkCommand::Unparsed => usize::from(given.unparsed_len),
     }
 }
 
 // A link status entry has a cost over 7.
+#[tactic(auto, unfolding(crate::proofs::Layouts::layouts, commands::specs::Format::held_fields, commands::specs::Format::held_field, commands::specs::Format::held_parts))]
 fn link_misfits(link: NwkLinkStatus) -> bool
     ensures { result ≡ not (held_fields link_status_format.entry (link_entry link)) }
 {
-    if link.incoming_cost > 7 {
-        return true;
-    }
-    if link.outgoing_cost > 7 {
-        return true;
-    }
-    false
+    link.incoming_cost > 7 || link.outgoing_cost > 7
 }
 
-// One of the first n link status entries has a cost over 7.
-fn links_misfit(links: [NwkLinkStatus; 31], n: usize) -> bool
-    requires { n ≤ 31 }
-    ensures { result ≡ not (held_entries link_status_format.entry (link_entries links n)) }
-{
-    let mut k = 0;
-    while k < n {
-        let link = links[k];
-        if link_misfits(link) {
-            return true;
-        }
-        k += 1;
-    }
-    false
-}
-
-// A link status has too many entries, or a cost over 7.
+// A link status has too many entries, or one of them a cost over 7.
 fn link_status_misfits(links: [NwkLinkStatus; 31], n: u8) -> bool
     ensures { result ≡ (ltb 31 n || not (held_entries link_status_format.entry (link_entries links n))) }
 {
-    if n > 31 {
-        return true;
-    }
-    links_misfit(links, n as usize)
+    n > 31
+        || links[..usize::from(n)]
+            .iter()
+            .any(|link| link_misfits(*link))
 }
 
 // A field exceeds its bits, or the command's list its places.
 fn misfits(given: NwkCommandWithLists) -> bool
     ensures { result ≡ misfits (list_of given.command) (wire given) }
 {
-    let command = given.command;
-    let list = command.list();
-    match list {
-        NwkCommandList::NoList => update_count(command) > 31,
-        NwkCommandList::Relays => given.relay_count > 53,
-        NwkCommandList::LinkStatuses => {
-            let links = given.link_statuses;
-            link_status_misfits(links, given.link_statuses_len)
-        }
-        NwkCommandList::PanIds => given.report_information_count > 31,
-        NwkCommandList::PowerList => given.list_count > 35,
-        NwkCommandList::Bytes => false,
+    match given.command {
+        NwkCommand::RouteRecord => given.relay_count > 53,
+        NwkCommand::LinkStatus(_) => link_status_misfits(
+            given.link_statuses,
+            given.link_statuses_len,
+        ),
+        NwkCommand::NetworkReport(_) => given.report_information_count > 31,
+        NwkCommand::NetworkUpdate(c) => c.update_information_count > 31,
+        NwkCommand::LinkPowerDelta(_) => given.list_count > 35,
+        _ => false,
     }
 }
 
-// The refusal of the fields, or 0.
-fn field_refusal(given: NwkCommandWithLists) -> u8
-    ensures { result ≡ field_refusal given }
-{
-    octets::refuse(0, refusals::FIELD, misfits(given))
-}
-
-// The refusal number, or 0: that of the fields, then 17 and 18 in this order.
-pub fn refusal(given: NwkCommandWithLists, room: usize) -> u8
-    ensures { result ≡ write_refusal given room }
+// The length of a command that can be written into so much room, or refusal 13, 17 or 18, in this order.
+#[tactic(auto, unfolding(commands::specs::Writing::write_refusal, commands::specs::Writing::field_refusal, octets::specs::Refusals::first_of, octets::specs::Refusals::unless))]
+pub fn check(given: NwkCommandWithLists, room: usize) -> Result<usize, Refusal>
+    ensures refusal { refused result ≡ write_refusal given room }
+    ensures length { IfOk result (λ n. n ≡ length (command_bytes given)) }
 {
     let n = length_of(given);
-    let r = field_refusal(given);
-    let r = octets::refuse(r, refusals::LENGTH, MAX_NSDU_SIZE < n);
-    octets::refuse(r, refusals::NO_ROOM, room < n)
+    if misfits(given) {
+        return Err(Refusal::Field);
+    }
+    if n > MAX_NSDU_SIZE {
+        return Err(Refusal::Length);
+    }
+    if n > room {
+        return Err(Refusal::NoRoom);
+    }
+    Ok(n)
 }

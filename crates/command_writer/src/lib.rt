@@ -8,12 +8,14 @@ mod puts;
 
 ghost use Rattle.std.specs.Prelude.{◌≡◌, length};
 ghost use Rattle.octets.specs.Strings.{over};
+ghost use Rattle.octets.specs.Writing.{told};
 ghost use Rattle.commands.specs.Writing.{command_bytes, write_refusal, write_command};
 
 use commands::*;
-use octets::Written;
+use octets::refusals::Refusal;
 
 // The bytes of a command that is not refused, at the front of the output.
+#[tactic(auto, unfolding(commands::specs::Writing::command_bytes, commands::specs::Writing::wire, commands::specs::Writing::wire_of))]
 fn write_command(given: NwkCommandWithLists, out: &mut [u8])
     requires { write_refusal given (length out.old) ≡ 0 }
     ensures { out.new ≡ over out.old 0 (command_bytes given) }
@@ -58,17 +60,12 @@ fn write_command(given: NwkCommandWithLists, out: &mut [u8])
 }
 
 // Write a command: a refusal changes nothing, else the output's first bytes are the command and the rest stays.
-pub fn serialize(given: NwkCommandWithLists, out: &mut [u8]) -> Written
-    ensures answer { result ≡ (write_command given out.old).answer }
+#[tactic(auto, unfolding(commands::specs::Writing::write_command, octets::specs::Writing::written, octets::specs::Refusals::unless))]
+pub fn serialize(given: NwkCommandWithLists, out: &mut [u8]) -> Result<usize, Refusal>
+    ensures answer { told result ≡ (write_command given out.old).answer }
     ensures buffer { out.new ≡ (write_command given out.old).out }
 {
-    let refusal = checks::refusal(given, out.len());
-    if refusal != 0 {
-        return Written { refusal, length: 0 };
-    }
+    let n = checks::check(given, out.len())?;
     write_command(given, out);
-    Written {
-        refusal: 0,
-        length: checks::length_of(given),
-    }
+    Ok(n)
 }

@@ -32,14 +32,13 @@ pub fn leave_options(rejoin: bool, request: bool, children: bool) -> u8
 }
 
 // Zigbee 3.4.6: the capability information.
+#[tactic(auto, unfolding(crate::proofs::Layouts::layouts, octets::specs::Fields::packed))]
 pub fn capability_byte(c: NwkRejoinCapabilityInformation) -> u8
     ensures { result ≡ capability_byte c }
 {
-    let device = c.device_type;
-    let power = c.power_source;
     let low = bit_of(c.alternate_pan_coordinator)
-        + bit_of(device.bit()) * 2
-        + bit_of(power.bit()) * 4
+        + bit_of(c.device_type.into()) * 2
+        + bit_of(c.power_source.into()) * 4
         + bit_of(c.receiver_on_when_idle) * 8;
     let high = bit_of(c.reserved1)
         + bit_of(c.reserved2) * 2

@@ -1,4 +1,4 @@
--- `command_writer::write_command` meets its contract, arm by arm: a command that is not refused is ready for its writer.
+-- `command_writer::write_command` meets its contract, call by call: a command that is not refused is ready for its writer.
 -- Assumes nothing.
 use borrow.Author.Tests.{ltb-false, not-false}
 use mathlib.Core.Path.{◌≡◌, sym}
@@ -111,63 +111,3 @@ write_commissioning_response-requires c = (ready_by c.args.given _ (in_range c.a
 pub slice_bounds-bytes-end : goal.slice_bounds-bytes-end
 unfolding command_bytes wire wire_of too_big
 slice_bounds-bytes-end c = (unparsed_in c.args.given _ (in_range c.args.given _ c.well_formed.0) c.requires c.in-Unparsed.is).0
-
-pub returns-in-RouteRequest : goal.returns-in-RouteRequest
-unfolding command_bytes wire wire_of too_big
-returns-in-RouteRequest c = rw c.in-RouteRequest.is c.write_route_request.ensures
-
-pub returns-in-RouteReply : goal.returns-in-RouteReply
-unfolding command_bytes wire wire_of too_big
-returns-in-RouteReply c = rw c.in-RouteReply.is c.write_route_reply.ensures
-
-pub returns-in-NetworkStatus : goal.returns-in-NetworkStatus
-unfolding command_bytes wire wire_of too_big
-returns-in-NetworkStatus c = rw c.in-NetworkStatus.is c.write_network_status.ensures
-
-pub returns-in-Leave : goal.returns-in-Leave
-unfolding command_bytes wire wire_of too_big
-returns-in-Leave c = rw c.in-Leave.is c.write_leave.ensures
-
-pub returns-in-RouteRecord : goal.returns-in-RouteRecord
-unfolding command_bytes wire wire_of too_big
-returns-in-RouteRecord c = rw c.in-RouteRecord.is c.write_route_record.ensures
-
-pub returns-in-RejoinRequest : goal.returns-in-RejoinRequest
-unfolding command_bytes wire wire_of too_big
-returns-in-RejoinRequest c = rw c.in-RejoinRequest.is c.write_rejoin_request.ensures
-
-pub returns-in-RejoinResponse : goal.returns-in-RejoinResponse
-unfolding command_bytes wire wire_of too_big
-returns-in-RejoinResponse c = rw c.in-RejoinResponse.is c.write_rejoin_response.ensures
-
-pub returns-in-LinkStatus : goal.returns-in-LinkStatus
-unfolding command_bytes wire wire_of too_big
-returns-in-LinkStatus c = rw c.in-LinkStatus.is c.write_link_status.ensures
-
-pub returns-in-NetworkReport : goal.returns-in-NetworkReport
-unfolding command_bytes wire wire_of too_big
-returns-in-NetworkReport c = rw c.in-NetworkReport.is c.write_network_report.ensures
-
-pub returns-in-NetworkUpdate : goal.returns-in-NetworkUpdate
-unfolding command_bytes wire wire_of too_big
-returns-in-NetworkUpdate c = rw c.in-NetworkUpdate.is c.write_network_update.ensures
-
-pub returns-in-EndDeviceTimeoutRequest : goal.returns-in-EndDeviceTimeoutRequest
-unfolding command_bytes wire wire_of too_big
-returns-in-EndDeviceTimeoutRequest c = rw c.in-EndDeviceTimeoutRequest.is c.write_timeout_request.ensures
-
-pub returns-in-EndDeviceTimeoutResponse : goal.returns-in-EndDeviceTimeoutResponse
-unfolding command_bytes wire wire_of too_big
-returns-in-EndDeviceTimeoutResponse c = rw c.in-EndDeviceTimeoutResponse.is c.write_timeout_response.ensures
-
-pub returns-in-LinkPowerDelta : goal.returns-in-LinkPowerDelta
-unfolding command_bytes wire wire_of too_big
-returns-in-LinkPowerDelta c = rw c.in-LinkPowerDelta.is c.write_link_power_delta.ensures
-
-pub returns-in-NetworkCommissioningRequest : goal.returns-in-NetworkCommissioningRequest
-unfolding command_bytes wire wire_of too_big
-returns-in-NetworkCommissioningRequest c = rw c.in-NetworkCommissioningRequest.is c.write_commissioning_request.ensures
-
-pub returns-in-NetworkCommissioningResponse : goal.returns-in-NetworkCommissioningResponse
-unfolding command_bytes wire wire_of too_big
-returns-in-NetworkCommissioningResponse c = rw c.in-NetworkCommissioningResponse.is c.write_commissioning_response.ensures
