@@ -37,8 +37,8 @@ pub fn capability_byte(c: NwkRejoinCapabilityInformation) -> u8
     ensures { result ≡ capability_byte c }
 {
     let low = bit_of(c.alternate_pan_coordinator)
-        + bit_of(c.device_type.into()) * 2
-        + bit_of(c.power_source.into()) * 4
+        + c.device_type.code() * 2
+        + c.power_source.code() * 4
         + bit_of(c.receiver_on_when_idle) * 8;
     let high = bit_of(c.reserved1)
         + bit_of(c.reserved2) * 2

@@ -1,6 +1,7 @@
 // The codes of the commands' enums as numbers and back, and a timeout's seconds.
 
 ghost use Rattle.std.specs.Prelude.{◌≡◌};
+ghost use Rattle.octets.specs.Fields.{bit};
 ghost use Rattle.commands.specs.Codes.{Decodes, command_id_code, command_id_of, many_to_one_code, many_to_one_of, status_code, status_of, association_status_code, association_status_of, report_identifier_code, report_identifier_of, update_identifier_code, update_identifier_of, timeout_code, timeout_of, timeout_status_code, timeout_status_of, power_type_code, power_type_of, commissioning_type_code, commissioning_type_of, device_type_bit, device_type_of, power_source_bit, power_source_of};
 ghost use Rattle.commands.specs.Writing.{seconds, timeout_seconds, told_seconds};
 
@@ -322,24 +323,34 @@ impl TryFrom<u8> for NwkCommissioningType {
     }
 }
 
+impl NwkRejoinCapabilityInformationDeviceType {
+    // The number of this value.
+    pub fn code(self) -> u8
+        ensures { result ≡ bit (device_type_bit self) }
+    {
+        self as u8
+    }
+}
+
 impl From<bool> for NwkRejoinCapabilityInformationDeviceType {
-    ghost from_gives = { λ bit r. r ≡ device_type_of bit };
+    ghost from_gives = { λ b r. r ≡ device_type_of b };
 
     fn from(bit: bool) -> Self {
         if bit { Self::Router } else { Self::EndDevice }
     }
 }
 
-impl From<NwkRejoinCapabilityInformationDeviceType> for bool {
-    ghost from_gives = { λ value r. r ≡ device_type_bit value };
-
-    fn from(value: NwkRejoinCapabilityInformationDeviceType) -> bool {
-        value == NwkRejoinCapabilityInformationDeviceType::Router
+impl NwkRejoinCapabilityInformationPowerSource {
+    // The number of this value.
+    pub fn code(self) -> u8
+        ensures { result ≡ bit (power_source_bit self) }
+    {
+        self as u8
     }
 }
 
 impl From<bool> for NwkRejoinCapabilityInformationPowerSource {
-    ghost from_gives = { λ bit r. r ≡ power_source_of bit };
+    ghost from_gives = { λ b r. r ≡ power_source_of b };
 
     fn from(bit: bool) -> Self {
         if bit {
@@ -347,14 +358,6 @@ impl From<bool> for NwkRejoinCapabilityInformationPowerSource {
         } else {
             Self::OtherPowerSource
         }
-    }
-}
-
-impl From<NwkRejoinCapabilityInformationPowerSource> for bool {
-    ghost from_gives = { λ value r. r ≡ power_source_bit value };
-
-    fn from(value: NwkRejoinCapabilityInformationPowerSource) -> bool {
-        value == NwkRejoinCapabilityInformationPowerSource::MainsPowered
     }
 }
 

@@ -1,9 +1,0 @@
--- `put_commissioning_request` meets its contract: two parts, one right behind the other. Assumes nothing.
-use Rattle.octets.proofs.Strings.{behind}
-use Rattle.command_records.specs.Fields.{field_bytes}
-use Rattle.command_records.proofs.fields.put_commissioning_request.Goals as goal
-
-pub returns : goal.returns
-unfolding field_bytes
-returns c =
-    rw (← c.code.ensures) (behind _ _ _ c.copy_at.ensures c.put_capability.ensures)
