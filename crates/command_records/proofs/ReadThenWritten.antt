@@ -1,6 +1,7 @@
 -- Reading at most 108 bytes into a command record and writing that record is refused by nothing but 18: what was read is
 -- within the ranges of its types, so its record says it again, and of what was read only the room can be missing.
 -- Assumes nothing.
+use Rattle.std.specs.Prelude.{Option, Some, None}
 use mathlib.Core.Path.{◌≡◌, refl, ap, ◌∙◌}
 use mathlib.Core.Bool.{false}
 use mathlib.Core.List.{List, [], ◌∷◌}
@@ -19,13 +20,13 @@ use Rattle.octets.proofs.Conditions.{unless_number, skip_by, or_false}
 use Rattle.types.specs.Addresses.{no_nwk}
 use Rattle.commands.specs.Format.{part_sizes, kept, read_field, read_fields, values, announced}
 use Rattle.commands.specs.Commands.{no_link, no_pan_id, no_power, link_status_format, link_of}
-use Rattle.commands.specs.Reading.{places, with_lists, list_of, listed, typed, unparsed, parsed, read_command}
+use Rattle.commands.specs.Reading.{NwkCommandRead, places, with_lists, list_of, listed, typed, unparsed, parsed, read_command}
 use Rattle.commands.specs.Writing.{command_bytes, write_refusal}
 use Rattle.commands.proofs.Ranges.{InPower, Ranged, RangedList, too_big}
 use Rattle.commands.proofs.Reread.{entry_at, entry_read, Writable}
 use Rattle.commands.proofs.RoundTrip.{read_accepts, typed_writable, read_writes}
 use Rattle.types.specs.declared.{Nwk.Nwk, PanId.PanId}
-use Rattle.commands.specs.declared.{NwkCommand.NwkCommand, NwkCommandList.NwkCommandList, NwkCommandRead.NwkCommandRead, NwkCommandWithLists.NwkCommandWithLists, NwkLinkStatus.NwkLinkStatus, NwkPowerListEntry.NwkPowerListEntry, TypedBody.TypedBody}
+use Rattle.commands.specs.declared.{NwkCommand.NwkCommand, NwkCommandList.NwkCommandList, NwkCommandWithLists.NwkCommandWithLists, NwkLinkStatus.NwkLinkStatus, NwkPowerListEntry.NwkPowerListEntry}
 use Rattle.command_records.specs.CommandRecord.{command_record, write_record_refusal}
 use Rattle.command_records.proofs.Lengths.{length_places}
 use Rattle.command_records.proofs.Fits.{RelayFits, LinkFits, PanIdFits, ListFits, CommandFits}
@@ -98,10 +99,10 @@ listed_fits NwkCommandList.PanIds c s b h r t = with_fits c [] h none none (reco
 listed_fits NwkCommandList.PowerList c s b h r t = with_fits c [] h none none none (record { few = ltb-false 35 _ t; each = r }) (omega arith)
 listed_fits NwkCommandList.Bytes c s b h r t = with_fits c [] h none none none none (omega arith)
 
-parsed_fits : (s : List ℕ) (t : TypedBody) → Writable s t → Below 256 s → length s ≤ 108 → CommandFits (parsed t s)
+parsed_fits : (s : List ℕ) (t : Option NwkCommand) → Writable s t → Below 256 s → length s ≤ 108 → CommandFits (parsed t s)
 unfolding parsed unparsed
-parsed_fits s (TypedBody.Typed c) w b h = listed_fits (list_of c) c s b w.1 w.2.0 w.2.1
-parsed_fits s TypedBody.NotTyped w b h = with_fits NwkCommand.Unparsed s tt none none none none h
+parsed_fits s (Some c) w b h = listed_fits (list_of c) c s b w.1 w.2.0 w.2.1
+parsed_fits s None w b h = with_fits NwkCommand.Unparsed s tt none none none none h
 
 -- every command that was read is within the ranges of its types
 pub read_fits : (s : List ℕ) → Below 256 s → length s ≤ 108 → CommandFits (read_command s).command

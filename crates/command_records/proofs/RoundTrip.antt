@@ -15,14 +15,14 @@ use Rattle.types.specs.Addresses.{nwk}
 use Rattle.octets.specs.Fields.{bit}
 use Rattle.commands.specs.Codes.{command_id_of, command_ids, is_set, status_code, association_status_code, update_identifier_code}
 use Rattle.commands.specs.Commands.{has, only, address_of, capability_of, capability_values, route_request_by, network_report_by, link_power_delta_by, commissioning_request_by, commissioning_request_values}
-use Rattle.commands.specs.Reading.{places, command_of, read_as}
+use Rattle.commands.specs.Reading.{NwkCommandRead, places, command_of, read_as}
 use Rattle.commands.specs.Writing.{wire_of}
 use Rattle.commands.proofs.CodeLaws.{many_to_one_back, report_identifier_back, power_type_back, commissioning_type_back}
 use Rattle.commands.proofs.Ranges.{InAddress, Ranged}
 use Rattle.commands.proofs.Commands.{back}
 use Rattle.commands.proofs.Layouts.{contents}
 use Rattle.command_records.proofs.Layouts.{layouts}
-use Rattle.commands.specs.declared.{NwkCommand.NwkCommand, NwkCommandId.NwkCommandId, NwkCommandIdCode.NwkCommandIdCode, NwkCommandWithLists.NwkCommandWithLists, NwkCommandRead.NwkCommandRead, TypedBody.TypedBody}
+use Rattle.commands.specs.declared.{NwkCommand.NwkCommand, NwkCommandId.NwkCommandId, NwkCommandWithLists.NwkCommandWithLists}
 use Rattle.command_records.specs.Fields.{address_record, field_bytes, fields_record, record_values, are_flags, flags_fit, said_by, said}
 use Rattle.command_records.specs.CommandRecord.{lists_record, command_record, recorded_by, read_record}
 use Rattle.command_records.proofs.Lengths.{length_command}
@@ -56,8 +56,8 @@ responder_back (Some x) b rest h = address_back b rest h
 -- ---- the command
 
 -- a record whose flags are 0 or 1 says what its values mean
-flagged : (id : NwkCommandId) (r : List ℕ) {t : TypedBody} → flags_fit id r ≡ true → command_of id (record_values id r) ≡ t
-    → said_by (NwkCommandIdCode.Known id) r ≡ t
+flagged : (id : NwkCommandId) (r : List ℕ) {t : Option NwkCommand} → flags_fit id r ≡ true → command_of id (record_values id r) ≡ t
+    → said_by (Some id) r ≡ t
 flagged id r e p = sym (flags r id e) ∙ p
 
 bit_flag : (b : Bool) → ltb (bit b) 2 ≡ true
@@ -69,14 +69,14 @@ presence_flag None = refl
 presence_flag (Some x) = refl
 
 -- the command that the fields of c say, whatever lists follow
-fields_back : (c : NwkCommand) (f : NwkCommandWithLists) (rest : List ℕ) → Ranged c → said (fields_record c ++ rest) ≡ TypedBody.Typed c
+fields_back : (c : NwkCommand) (f : NwkCommandWithLists) (rest : List ℕ) → Ranged c → said (fields_record c ++ rest) ≡ Some c
 unfolding layouts contents wire_of fields_record places address_record field_bytes said said_by are_flags command_id_of command_ids
     capability_of capability_values le le_at
 fields_back (NwkCommand.RouteRequest c) f rest h =
     let r = fields_record (NwkCommand.RouteRequest c) ++ rest in
     flagged NwkCommandId.RouteRequest r (presence_flag c.destination_eui64)
     (ap (λ k. route_request_by k (record_values NwkCommandId.RouteRequest r)) (many_to_one_back c.many_to_one)
-    ∙ (λ i. TypedBody.Typed (NwkCommand.RouteRequest (record {
+    ∙ (λ i. Some (NwkCommand.RouteRequest (record {
       many_to_one = c.many_to_one;
       route_request_identifier = c.route_request_identifier;
       destination_address = nwk (le_at_le 2 c.destination_address.0 [] h.1 i);
@@ -85,7 +85,7 @@ fields_back (NwkCommand.RouteRequest c) f rest h =
     }))))
 fields_back (NwkCommand.RouteReply c) f rest h =
     flagged NwkCommandId.RouteReply (fields_record (NwkCommand.RouteReply c) ++ rest) (simp presence_flag)
-    (λ i. TypedBody.Typed (NwkCommand.RouteReply (record {
+    (λ i. Some (NwkCommand.RouteReply (record {
       route_request_identifier = c.route_request_identifier;
       originator_nwk = nwk (le_at_le 2 c.originator_nwk.0 [] h.1 i);
       responder_nwk = nwk (le_at_le 2 c.responder_nwk.0 [] h.2 i);
@@ -109,7 +109,7 @@ fields_back (NwkCommand.LinkStatus c) f rest h =
 fields_back (NwkCommand.NetworkReport c) f rest h =
     let r = fields_record (NwkCommand.NetworkReport c) ++ rest in
     ap (λ k. network_report_by k (record_values NwkCommandId.NetworkReport r)) (report_identifier_back c.report_command_identifier)
-    ∙ (λ i. TypedBody.Typed (NwkCommand.NetworkReport (record {
+    ∙ (λ i. Some (NwkCommand.NetworkReport (record {
       report_command_identifier = c.report_command_identifier;
       epid = le_at_le 8 c.epid [] h i;
     })))
@@ -138,7 +138,7 @@ fields_back NwkCommand.Unparsed f rest h = refl
 -- ---- the record
 
 -- the record of a command says the command
-said_back : (f : NwkCommandWithLists) → Ranged f.command → said (command_record f) ≡ TypedBody.Typed f.command
+said_back : (f : NwkCommandWithLists) → Ranged f.command → said (command_record f) ≡ Some f.command
 unfolding command_record
 said_back f h = fields_back f.command f (lists_record f) h
 

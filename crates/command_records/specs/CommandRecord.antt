@@ -1,10 +1,10 @@
 -- The command record, 535 bytes: the identifier and the fields, then the five lists. Only the command's own list counts.
 -- Assumes nothing.
-use Rattle.std.specs.Prelude.{ℕ, cond, List, [], ◌∷◌, ◌++◌, length, eqb}
+use Rattle.std.specs.Prelude.{ℕ, cond, List, [], ◌∷◌, ◌++◌, length, eqb, Option, Some, None}
 use Rattle.octets.specs.Refusals.{by, first_of}
-use Rattle.commands.specs.Reading.{read_as, read_nothing}
+use Rattle.commands.specs.Reading.{NwkCommandRead, read_as, read_nothing}
 use Rattle.commands.specs.Writing.{write_refusal}
-use Rattle.commands.specs.declared.{NwkCommandWithLists.NwkCommandWithLists, NwkCommandRead.NwkCommandRead, TypedBody.TypedBody}
+use Rattle.commands.specs.declared.{NwkCommand.NwkCommand, NwkCommandWithLists.NwkCommandWithLists}
 use Rattle.command_records.specs.Fields.{fields_record, said}
 use Rattle.command_records.specs.Lists.{relays_record, links_record, pan_ids_record, powers_record, with_lists_at}
 
@@ -28,14 +28,14 @@ command_record f = fields_record f.command ++ lists_record f
 -- ---- the command of a record
 
 -- the command with its lists that a record of 535 bytes encodes
-unfoldable pub recorded_by : TypedBody → List ℕ → NwkCommandRead
-recorded_by (TypedBody.Typed c) r = read_as (with_lists_at c r)
-recorded_by TypedBody.NotTyped r = read_nothing 13
+unfoldable pub recorded_by : Option NwkCommand → List ℕ → NwkCommandRead
+recorded_by (Some c) r = read_as (with_lists_at c r)
+recorded_by None r = read_nothing 13
 
 -- reading a record: document 01, number 13, for another length and for a byte that its field cannot take. The writer looks at
 -- the limits of the command's numbers and of its own list.
 unfoldable pub read_record : List ℕ → NwkCommandRead
-read_record r = recorded_by (cond (eqb (length r) command_record_size) (said r) TypedBody.NotTyped) r
+read_record r = recorded_by (cond (eqb (length r) command_record_size) (said r) None) r
 
 -- writing the command of a record: 13 for the record, then the command's own 13, 17 and 18
 unfoldable pub write_record_refusal : List ℕ → ℕ → ℕ

@@ -5,7 +5,7 @@
 use Rattle.std.specs.Prelude.{ℕ, zero, suc, ◌+◌, Bool, true, cond, ◌&&◌, List, [], ◌∷◌, ◌++◌, get_or, drop, ltb, eqb, Option, Some, None}
 use Rattle.octets.specs.Numbers.{le, le_at}
 use Rattle.octets.specs.Fields.{bit}
-use Rattle.commands.specs.declared.{NwkCommand.NwkCommand, NwkCommandId.NwkCommandId, NwkCommandIdCode.NwkCommandIdCode, TypedBody.TypedBody}
+use Rattle.commands.specs.declared.{NwkCommand.NwkCommand, NwkCommandId.NwkCommandId}
 use Rattle.commands.specs.Codes.{is_set, command_id_of, many_to_one_code, status_code, association_status_code, report_identifier_code, update_identifier_code, timeout_code, timeout_status_code, power_type_code, commissioning_type_code}
 use Rattle.commands.specs.Format.{Values}
 use Rattle.commands.specs.Commands.{has, capability_values, only}
@@ -101,10 +101,10 @@ flags_fit NwkCommandId.LinkPowerDelta r = true
 flags_fit NwkCommandId.NetworkCommissioningRequest r = are_flags 2 8 r
 flags_fit NwkCommandId.NetworkCommissioningResponse r = true
 
-unfoldable pub said_by : NwkCommandIdCode → List ℕ → TypedBody
-said_by (NwkCommandIdCode.Known id) r = cond (flags_fit id r) (command_of id (record_values id r)) TypedBody.NotTyped
-said_by NwkCommandIdCode.Unknown r = TypedBody.NotTyped
+unfoldable pub said_by : Option NwkCommandId → List ℕ → Option NwkCommand
+said_by (Some id) r = cond (flags_fit id r) (command_of id (record_values id r)) None
+said_by None r = None
 
 -- the command that the fields of r encode, if its identifier and codes are declared and its flags are 0 or 1
-unfoldable pub said : List ℕ → TypedBody
-said r = cond (eqb (get_or r 0 0) 0) (TypedBody.Typed NwkCommand.Unparsed) (said_by (command_id_of (get_or r 0 0)) r)
+unfoldable pub said : List ℕ → Option NwkCommand
+said r = cond (eqb (get_or r 0 0) 0) (Some NwkCommand.Unparsed) (said_by (command_id_of (get_or r 0 0)) r)

@@ -1,47 +1,37 @@
 // The identifier and the fields of a command record.
+#![tactic(auto, unfolding(crate::specs::Fields::field_bytes, octets::specs::Numbers::le), using(octets::proofs::Strings::over_over, octets::proofs::Numbers::length_le))]
 
 ghost use Rattle.std.specs.Prelude.{◌≡◌, [], ◌∷◌, ◌++◌, ◌+◌, ◌≤◌, length};
 ghost use Rattle.octets.specs.Strings.{over};
 ghost use Rattle.octets.specs.Numbers.{le};
 ghost use Rattle.commands.specs.Commands.{capability_values};
 ghost use Rattle.commands.specs.declared.NwkCommand.{NwkCommand};
-ghost use Rattle.command_records.specs.Fields.{address_value, address_record, field_bytes, fields_record};
+ghost use Rattle.command_records.specs.Fields.{address_record, field_bytes, fields_record};
 
-use commands::lists::put_byte;
 use commands::*;
 use octets::bit_of;
-use types::{Nwk, OptionEui64};
-
-// The address as a number, 0 where it is absent.
-fn address_value(a: OptionEui64) -> u64
-    ensures { result ≡ address_value a }
-{
-    match a {
-        OptionEui64::Absent => 0,
-        OptionEui64::Present(x) => x,
-    }
-}
+use types::Nwk;
 
 // Write the nine bytes of an optional address at place i.
-fn put_address(out: &mut [u8], i: usize, a: OptionEui64)
+#[tactic(auto, unfolding(crate::specs::Fields::address_record, octets::specs::Numbers::le), using(octets::proofs::Strings::over_over, octets::proofs::Numbers::length_le))]
+fn put_address(out: &mut [u8], i: usize, a: Option<u64>)
     requires { i + 9 ≤ length out.old }
     ensures { out.new ≡ over out.old i (address_record a) }
 {
-    put_byte(out, i, has_address(a));
-    octets::put_u64(out, i + 1, address_value(a));
+    octets::put_u8(out, i, has_address(a));
+    octets::put_u64(out, i + 1, a.unwrap_or(0));
 }
 
 // Write the eight bytes of the capability information at place i (Zigbee 3.4.6).
+#[tactic(auto, unfolding(commands::specs::Commands::capability_values))]
 fn put_capability(out: &mut [u8], i: usize, c: NwkRejoinCapabilityInformation)
     requires { i + 8 ≤ length out.old }
     ensures { out.new ≡ over out.old i (capability_values c) }
 {
-    let device_type = c.device_type;
-    let power_source = c.power_source;
     let values = [
         bit_of(c.alternate_pan_coordinator),
-        bit_of(device_type.bit()),
-        bit_of(power_source.bit()),
+        c.device_type.code(),
+        c.power_source.code(),
         bit_of(c.receiver_on_when_idle),
         bit_of(c.reserved1),
         bit_of(c.reserved2),
@@ -56,26 +46,12 @@ fn put_route_request(out: &mut [u8], c: NwkRouteRequestCommand)
     requires { 25 ≤ length out.old }
     ensures { out.new ≡ over out.old 0 (field_bytes (NwkCommand.RouteRequest c)) }
 {
-    let many_to_one = c.many_to_one;
-    let address = c.destination_address;
-    let destination_eui64 = c.destination_eui64;
-    let values = [1, many_to_one.code(), c.route_request_identifier];
-    octets::copy_at(out, 0, &values);
-    octets::put_u16(out, 3, address.0);
-    put_byte(out, 5, c.path_cost);
-    put_address(out, 6, destination_eui64);
-}
-
-// 3.4.2 Route Reply: what every one has.
-fn put_route_reply_front(out: &mut [u8], id: u8, originator: Nwk, responder: Nwk, cost: u8)
-    requires { 25 ≤ length out.old }
-    ensures { out.new ≡ over out.old 0 (2 ∷ id ∷ (le 2 originator.0 ++ (le 2 responder.0 ++ (cost ∷ [])))) }
-{
-    let values = [2, id];
-    octets::copy_at(out, 0, &values);
-    octets::put_u16(out, 2, originator.0);
-    octets::put_u16(out, 4, responder.0);
-    put_byte(out, 6, cost);
+    let id = NwkCommandId::RouteRequest as u8;
+    let many_to_one = c.many_to_one.code();
+    octets::copy_at(out, 0, &[id, many_to_one, c.route_request_identifier]);
+    octets::put_u16(out, 3, c.destination_address.0);
+    octets::put_u8(out, 5, c.path_cost);
+    put_address(out, 6, c.destination_eui64);
 }
 
 // 3.4.2 Route Reply.
@@ -83,19 +59,13 @@ fn put_route_reply(out: &mut [u8], c: NwkRouteReplyCommand)
     requires { 25 ≤ length out.old }
     ensures { out.new ≡ over out.old 0 (field_bytes (NwkCommand.RouteReply c)) }
 {
-    let originator = c.originator_nwk;
-    let responder = c.responder_nwk;
-    let originator_eui64 = c.originator_eui64;
-    let responder_eui64 = c.responder_eui64;
-    put_route_reply_front(
-        out,
-        c.route_request_identifier,
-        originator,
-        responder,
-        c.path_cost,
-    );
-    put_address(out, 7, originator_eui64);
-    put_address(out, 16, responder_eui64);
+    let id = NwkCommandId::RouteReply as u8;
+    octets::copy_at(out, 0, &[id, c.route_request_identifier]);
+    octets::put_u16(out, 2, c.originator_nwk.0);
+    octets::put_u16(out, 4, c.responder_nwk.0);
+    octets::put_u8(out, 6, c.path_cost);
+    put_address(out, 7, c.originator_eui64);
+    put_address(out, 16, c.responder_eui64);
 }
 
 // 3.4.3 Network Status.
@@ -103,11 +73,9 @@ fn put_network_status(out: &mut [u8], c: NwkNetworkStatusCommand)
     requires { 25 ≤ length out.old }
     ensures { out.new ≡ over out.old 0 (field_bytes (NwkCommand.NetworkStatus c)) }
 {
-    let status_code = c.status_code;
-    let address = c.network_address;
-    let values = [3, status_code.code()];
-    octets::copy_at(out, 0, &values);
-    octets::put_u16(out, 2, address.0);
+    let id = NwkCommandId::NetworkStatus as u8;
+    octets::copy_at(out, 0, &[id, c.status_code.code()]);
+    octets::put_u16(out, 2, c.network_address.0);
 }
 
 // 3.4.4 Leave.
@@ -116,7 +84,7 @@ fn put_leave(out: &mut [u8], c: NwkLeaveCommand)
     ensures { out.new ≡ over out.old 0 (field_bytes (NwkCommand.Leave c)) }
 {
     let values = [
-        4,
+        NwkCommandId::Leave as u8,
         bit_of(c.rejoin),
         bit_of(c.request),
         bit_of(c.remove_children),
@@ -129,9 +97,8 @@ fn put_rejoin_request(out: &mut [u8], c: NwkRejoinRequestCommand)
     requires { 25 ≤ length out.old }
     ensures { out.new ≡ over out.old 0 (field_bytes (NwkCommand.RejoinRequest c)) }
 {
-    let capability_information = c.capability_information;
-    put_byte(out, 0, 6);
-    put_capability(out, 1, capability_information);
+    octets::put_u8(out, 0, NwkCommandId::RejoinRequest as u8);
+    put_capability(out, 1, c.capability_information);
 }
 
 // 3.4.7 Rejoin Response and 3.4.15 Network Commissioning Response: an address and a status.
@@ -139,9 +106,9 @@ fn put_response(out: &mut [u8], id: u8, address: Nwk, status: u8)
     requires { 25 ≤ length out.old }
     ensures { out.new ≡ over out.old 0 (id ∷ (le 2 address.0 ++ (status ∷ []))) }
 {
-    put_byte(out, 0, id);
+    octets::put_u8(out, 0, id);
     octets::put_u16(out, 1, address.0);
-    put_byte(out, 3, status);
+    octets::put_u8(out, 3, status);
 }
 
 // 3.4.7 Rejoin Response.
@@ -149,9 +116,8 @@ fn put_rejoin_response(out: &mut [u8], c: NwkRejoinResponseCommand)
     requires { 25 ≤ length out.old }
     ensures { out.new ≡ over out.old 0 (field_bytes (NwkCommand.RejoinResponse c)) }
 {
-    let rejoin_status = c.rejoin_status;
-    let address = c.network_address;
-    put_response(out, 7, address, rejoin_status.code());
+    let id = NwkCommandId::RejoinResponse as u8;
+    put_response(out, id, c.network_address, c.rejoin_status.code());
 }
 
 // 3.4.8 Link Status.
@@ -159,8 +125,12 @@ fn put_link_status(out: &mut [u8], c: NwkLinkStatusCommand)
     requires { 25 ≤ length out.old }
     ensures { out.new ≡ over out.old 0 (field_bytes (NwkCommand.LinkStatus c)) }
 {
-    let values = [8, bit_of(c.is_first_frame), bit_of(c.is_last_frame)];
-    octets::copy_at(out, 0, &values);
+    let id = NwkCommandId::LinkStatus as u8;
+    octets::copy_at(
+        out,
+        0,
+        &[id, bit_of(c.is_first_frame), bit_of(c.is_last_frame)],
+    );
 }
 
 // 3.4.9 Network Report.
@@ -168,9 +138,8 @@ fn put_network_report(out: &mut [u8], c: NwkNetworkReportCommand)
     requires { 25 ≤ length out.old }
     ensures { out.new ≡ over out.old 0 (field_bytes (NwkCommand.NetworkReport c)) }
 {
-    let report_command_identifier = c.report_command_identifier;
-    let values = [9, report_command_identifier.code()];
-    octets::copy_at(out, 0, &values);
+    let id = NwkCommandId::NetworkReport as u8;
+    octets::copy_at(out, 0, &[id, c.report_command_identifier.code()]);
     octets::put_u64(out, 2, c.epid);
 }
 
@@ -179,17 +148,12 @@ fn put_network_update(out: &mut [u8], c: NwkNetworkUpdateCommand)
     requires { 25 ≤ length out.old }
     ensures { out.new ≡ over out.old 0 (field_bytes (NwkCommand.NetworkUpdate c)) }
 {
-    let update_command_identifier = c.update_command_identifier;
-    let new_pan_id = c.new_pan_id;
-    let values = [
-        10,
-        c.update_information_count,
-        update_command_identifier.code(),
-    ];
-    octets::copy_at(out, 0, &values);
+    let id = NwkCommandId::NetworkUpdate as u8;
+    let identifier = c.update_command_identifier.code();
+    octets::copy_at(out, 0, &[id, c.update_information_count, identifier]);
     octets::put_u64(out, 3, c.epid);
-    put_byte(out, 11, c.update_id);
-    octets::put_u16(out, 12, new_pan_id.0);
+    octets::put_u8(out, 11, c.update_id);
+    octets::put_u16(out, 12, c.new_pan_id.0);
 }
 
 // 3.4.11 End Device Timeout Request.
@@ -197,9 +161,9 @@ fn put_timeout_request(out: &mut [u8], c: NwkEndDeviceTimeoutRequestCommand)
     requires { 25 ≤ length out.old }
     ensures { out.new ≡ over out.old 0 (field_bytes (NwkCommand.EndDeviceTimeoutRequest c)) }
 {
-    let request_timeout_enum = c.request_timeout_enum;
-    let values = [11, request_timeout_enum.code(), c.end_device_configuration];
-    octets::copy_at(out, 0, &values);
+    let id = NwkCommandId::EndDeviceTimeoutRequest as u8;
+    let timeout = c.request_timeout_enum.code();
+    octets::copy_at(out, 0, &[id, timeout, c.end_device_configuration]);
 }
 
 // 3.4.12 End Device Timeout Response.
@@ -207,10 +171,9 @@ fn put_timeout_response(out: &mut [u8], c: NwkEndDeviceTimeoutResponseCommand)
     requires { 25 ≤ length out.old }
     ensures { out.new ≡ over out.old 0 (field_bytes (NwkCommand.EndDeviceTimeoutResponse c)) }
 {
-    let status = c.status;
     let values = [
-        12,
-        status.code(),
+        NwkCommandId::EndDeviceTimeoutResponse as u8,
+        c.status.code(),
         bit_of(c.mac_data_poll_keepalive_supported),
         bit_of(c.end_device_timeout_request_keepalive_supported),
         bit_of(c.power_negotation_support),
@@ -223,9 +186,8 @@ fn put_link_power_delta(out: &mut [u8], c: NwkLinkPowerDeltaCommand)
     requires { 25 ≤ length out.old }
     ensures { out.new ≡ over out.old 0 (field_bytes (NwkCommand.LinkPowerDelta c)) }
 {
-    let command_type = c.command_type;
-    let values = [13, command_type.code()];
-    octets::copy_at(out, 0, &values);
+    let id = NwkCommandId::LinkPowerDelta as u8;
+    octets::copy_at(out, 0, &[id, c.command_type.code()]);
 }
 
 // 3.4.14 Network Commissioning Request.
@@ -233,11 +195,9 @@ fn put_commissioning_request(out: &mut [u8], c: NwkNetworkCommissioningRequestCo
     requires { 25 ≤ length out.old }
     ensures { out.new ≡ over out.old 0 (field_bytes (NwkCommand.NetworkCommissioningRequest c)) }
 {
-    let commissioning_type = c.commissioning_type;
-    let capability_information = c.capability_information;
-    let values = [14, commissioning_type.code()];
-    octets::copy_at(out, 0, &values);
-    put_capability(out, 2, capability_information);
+    let id = NwkCommandId::NetworkCommissioningRequest as u8;
+    octets::copy_at(out, 0, &[id, c.commissioning_type.code()]);
+    put_capability(out, 2, c.capability_information);
 }
 
 // 3.4.15 Network Commissioning Response.
@@ -245,9 +205,8 @@ fn put_commissioning_response(out: &mut [u8], c: NwkNetworkCommissioningResponse
     requires { 25 ≤ length out.old }
     ensures { out.new ≡ over out.old 0 (field_bytes (NwkCommand.NetworkCommissioningResponse c)) }
 {
-    let status = c.status;
-    let address = c.network_address;
-    put_response(out, 15, address, status.code());
+    let id = NwkCommandId::NetworkCommissioningResponse as u8;
+    put_response(out, id, c.network_address, c.status.code());
 }
 
 // Write the identifier and the fields of a command over the front of the output.
@@ -260,7 +219,7 @@ fn put_own_fields(out: &mut [u8], command: NwkCommand)
         NwkCommand::RouteReply(c) => put_route_reply(out, c),
         NwkCommand::NetworkStatus(c) => put_network_status(out, c),
         NwkCommand::Leave(c) => put_leave(out, c),
-        NwkCommand::RouteRecord => put_byte(out, 0, 5),
+        NwkCommand::RouteRecord => octets::put_u8(out, 0, NwkCommandId::RouteRecord as u8),
         NwkCommand::RejoinRequest(c) => put_rejoin_request(out, c),
         NwkCommand::RejoinResponse(c) => put_rejoin_response(out, c),
         NwkCommand::LinkStatus(c) => put_link_status(out, c),
@@ -271,7 +230,7 @@ fn put_own_fields(out: &mut [u8], command: NwkCommand)
         NwkCommand::LinkPowerDelta(c) => put_link_power_delta(out, c),
         NwkCommand::NetworkCommissioningRequest(c) => put_commissioning_request(out, c),
         NwkCommand::NetworkCommissioningResponse(c) => put_commissioning_response(out, c),
-        NwkCommand::Unparsed => put_byte(out, 0, 0),
+        NwkCommand::Unparsed => octets::put_u8(out, 0, 0),
     }
 }
 
@@ -280,7 +239,6 @@ pub fn put_fields(out: &mut [u8], command: NwkCommand)
     requires { 25 ≤ length out.old }
     ensures { out.new ≡ over out.old 0 (fields_record command) }
 {
-    let blank = [0u8; 25];
-    octets::copy_at(out, 0, &blank);
+    octets::copy_at(out, 0, &[0; 25]);
     put_own_fields(out, command);
 }

@@ -10,10 +10,11 @@ mod read_lists;
 
 ghost use Rattle.std.specs.Prelude.{◌≡◌, ◌≤◌, length};
 ghost use Rattle.octets.specs.Strings.{over};
+ghost use Rattle.commands.specs.Reading.{told_command};
 ghost use Rattle.command_records.specs.CommandRecord.{command_record, read_record};
 
-use commands::{NwkCommandRead, NwkCommandWithLists, TypedBody};
-use octets::refusals;
+use commands::NwkCommandWithLists;
+use octets::refusals::Refusal;
 
 pub const COMMAND_RECORD_SIZE: usize = 535;
 
@@ -22,30 +23,23 @@ pub fn put_command(out: &mut [u8], f: NwkCommandWithLists)
     requires { 535 ≤ length out.old }
     ensures { out.new ≡ over out.old 0 (command_record f) }
 {
-    let command = f.command;
-    let relays = f.relays;
-    let link_statuses = f.link_statuses;
-    let pan_ids = f.pan_ids;
-    let power_list = f.power_list;
-    let unparsed = f.unparsed;
-    fields::put_fields(out, command);
-    lists::put_relays(out, f.relay_count, relays);
-    lists::put_link_statuses(out, f.link_statuses_len, link_statuses);
-    lists::put_pan_ids(out, f.report_information_count, pan_ids);
-    lists::put_power_list(out, f.list_count, power_list);
-    lists::put_unparsed(out, f.unparsed_len, unparsed);
+    fields::put_fields(out, f.command);
+    lists::put_relays(out, f.relay_count, f.relays);
+    lists::put_link_statuses(out, f.link_statuses_len, f.link_statuses);
+    lists::put_pan_ids(out, f.report_information_count, f.pan_ids);
+    lists::put_power_list(out, f.list_count, f.power_list);
+    lists::put_unparsed(out, f.unparsed_len, f.unparsed);
 }
 
 // Read a record: the command that it encodes, with its lists, or refusal 13 for another length, an undeclared identifier or
 // code, and a truth value or presence byte above 1.
-pub fn read_record(bytes: &[u8]) -> NwkCommandRead
-    ensures { result ≡ read_record bytes.now }
+#[tactic(auto, unfolding(crate::specs::CommandRecord::read_record, crate::specs::CommandRecord::recorded_by))]
+pub fn read_record(bytes: &[u8]) -> Result<NwkCommandWithLists, Refusal>
+    ensures { told_command result ≡ read_record bytes.now }
 {
     if bytes.len() != COMMAND_RECORD_SIZE {
-        return NwkCommandRead::refused(refusals::FIELD);
+        return Err(Refusal::Field);
     }
-    let TypedBody::Typed(said) = read_fields::command_at(bytes) else {
-        return NwkCommandRead::refused(refusals::FIELD);
-    };
-    NwkCommandRead::accepted(read_lists::with_lists_at(bytes, said))
+    let command = read_fields::command_at(bytes).ok_or(Refusal::Field)?;
+    Ok(read_lists::with_lists_at(bytes, command))
 }
