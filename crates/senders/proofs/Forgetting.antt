@@ -1,17 +1,20 @@
 -- Laws of forgetting a sender, each by induction on the places that count.
 -- Assumes nothing.
 use Rattle.std.specs.Prelude.{Some, None}
-use mathlib.Core.Path.{◌≡◌, refl, ap, ◌∙◌}
+use mathlib.Core.Path.{◌≡◌, refl, sym, ap, ◌∙◌}
 use mathlib.Core.Bool.{Bool, true, false, cond, ◌||◌, false≢true}
-use mathlib.Core.List.{List, [], ◌∷◌}
-use Prim.Native.Nat.{ℕ, zero, suc, ◌<◌}
+use mathlib.Core.List.{List, [], ◌∷◌, ◌++◌}
+use Prim.Native.Nat.{ℕ, zero, suc, ◌+◌, ◌<◌, ◌≤◌, min}
 use native.Mathlib.Omega.{arith}
-use lib.ListN.{length, get_or}
+use lib.Dec.{ltb}
+use lib.ListN.{length, get_or, set, take, drop}
+use Rattle.std.proofs.Common.{add-one}
+use borrow.Author.Tests.{ltb-true, ltb-false}
 use borrow.Table.Steps.{cases}
 use Rattle.octets.proofs.Conditions.{or_false}
 use Rattle.senders.specs.declared.SenderRecord.{SenderRecord}
 use Rattle.senders.specs.Records.{is_free, names, free_record, kept}
-use Rattle.senders.specs.Senders.{some_of, stored_in, forgotten_in}
+use Rattle.senders.specs.Senders.{some_of, stored_in, forgotten_in, forget}
 use Rattle.senders.proofs.Naming.{names_one}
 
 module _ (s : ℕ) where
@@ -95,3 +98,58 @@ module _ (s : ℕ) where
       or_right : (a b : Bool) → b ≡ true → (a || b) ≡ true
       or_right true b e = refl
       or_right false b e = e
+
+  -- ---- place by place: xs with the sender forgotten in its first i places
+
+  -- the record behind them is as it was
+  behind_forgotten : (i : ℕ) (xs : List SenderRecord) (d : SenderRecord) → get_or (forgotten_in s i xs) i d ≡ get_or xs i d
+  unfolding forgotten_in
+  behind_forgotten zero xs d = refl
+  behind_forgotten (suc i) [] d = refl
+  behind_forgotten (suc i) (r ∷ xs) d = behind_forgotten i xs d
+
+  pub forgotten_none : (xs : List SenderRecord) → xs ≡ forgotten_in s 0 xs
+  unfolding forgotten_in
+  forgotten_none xs = refl
+
+  forgotten_next : (i : ℕ) (xs : List SenderRecord) (d : SenderRecord) → i < length xs
+      → set (forgotten_in s i xs) i (kept s (get_or (forgotten_in s i xs) i d)) ≡ forgotten_in s (suc i) xs
+  unfolding forgotten_in
+  forgotten_next zero [] d h = absurd (omega (arith, h))
+  forgotten_next zero (r ∷ xs) d h = refl
+  forgotten_next (suc i) [] d h = absurd (omega (arith, h))
+  forgotten_next (suc i) (r ∷ xs) d h = ap (λ (m : List SenderRecord). kept s r ∷ m) (forgotten_next i xs d (omega (arith, h)))
+
+  module _ (i : ℕ) (xs ys : List SenderRecord) (d : SenderRecord) (e : ys ≡ forgotten_in s i xs) (h : i < length xs) where
+    pub forgotten_own : names s (get_or ys i d) ≡ true → set ys i free_record ≡ forgotten_in s (i + 1) xs
+    forgotten_own k = rw (add-one, ← kept_own (get_or ys i d) k, e) (forgotten_next i xs d h)
+
+    pub forgotten_other : names s (get_or ys i d) ≡ false → set ys i (get_or ys i d) ≡ forgotten_in s (i + 1) xs
+    forgotten_other k = ap (set ys i) (sym (kept_other (get_or ys i d) k)) ∙ rw (add-one, e) (forgotten_next i xs d h)
+
+  -- all of the first n, with what is behind them
+  forgotten_front : (i n : ℕ) (l : List SenderRecord) → length (take n l) ≤ i → forgotten_in s i (take n l) ++ drop n l ≡ forgotten_in s n l
+  unfolding forgotten_in
+  forgotten_front zero zero l h = refl
+  forgotten_front (suc i) zero l h = refl
+  forgotten_front zero (suc n) [] h = refl
+  forgotten_front (suc i) (suc n) [] h = refl
+  forgotten_front zero (suc n) (r ∷ l) h = absurd (omega (arith, h))
+  forgotten_front (suc i) (suc n) (r ∷ l) h = ap (λ (m : List SenderRecord). kept s r ∷ m) (forgotten_front i n l (omega (arith, h)))
+
+  forgotten_enough : (n : ℕ) (l : List SenderRecord) → length l ≤ n → forgotten_in s (length l) l ≡ forgotten_in s n l
+  unfolding forgotten_in
+  forgotten_enough zero [] h = refl
+  forgotten_enough zero (r ∷ l) h = absurd (omega (arith, h))
+  forgotten_enough (suc n) [] h = refl
+  forgotten_enough (suc n) (r ∷ l) h = ap (λ (m : List SenderRecord). kept s r ∷ m) (forgotten_enough n l (omega (arith, h)))
+
+  pub forgotten_counted : (i n : ℕ) (l : List SenderRecord) → n ≡ min (length l) 64 → length (take n l) ≤ i
+      → forgotten_in s i (take n l) ++ drop n l ≡ forget s l
+  unfolding forget
+  forgotten_counted i n l e h =
+      forgotten_front i n l h
+      ∙ cases (ltb (length l) 64)
+      (λ c. let k : n ≡ length l = omega (arith, e, ltb-true (length l) 64 c) in
+      rw k (forgotten_enough 64 l (omega (arith, ltb-true (length l) 64 c))))
+      (λ c. let k : n ≡ 64 = omega (arith, e, ltb-false (length l) 64 c) in rw k refl)

@@ -1,10 +1,9 @@
--- The laws of the inbound counters, and what the walks over a list cite.
+-- The laws of the inbound counters, and what the functions over a list cite.
 pub mod Naming
 pub mod Firsts
 pub mod Forgetting
 pub mod Places
 pub mod Noting
-pub mod Walks
+pub mod Finding
 pub mod Claims
 pub mod WorkedCases
-pub mod Turns

@@ -7,9 +7,9 @@ use Prim.Native.Nat.{ℕ}
 use native.Mathlib.Omega.{arith}
 use borrow.Table.Steps.{cases}
 use Rattle.octets.specs.Refusals.{unless, first_of}
-use Rattle.senders.specs.declared.{SenderRecord.SenderRecord, Noted.Noted}
+use Rattle.senders.specs.declared.SenderRecord.{SenderRecord}
 use Rattle.senders.specs.Records.{is_free, names, record_of}
-use Rattle.senders.specs.Senders.{counted_places, first_replaced, stored, knows, has_free, Run, note_refusal, note_nothing, note}
+use Rattle.senders.specs.Senders.{counted_places, first_replaced, stored, knows, has_free, Noted, Run, note_refusal, note_nothing, note}
 
 -- the parts of what noting leaves
 abbrev pub answer : Run → Noted

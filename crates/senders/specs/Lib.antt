@@ -1,6 +1,5 @@
--- The inbound counters: a sender's record, the operations over a list of records, and one turn of the walk that finds a sender.
+-- The inbound counters: a sender's record, and the operations over a list of records.
 pub mod Records
 pub mod Senders
-pub mod Walks
 pub mod Claims
 pub mod WorkedCases

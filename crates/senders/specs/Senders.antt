@@ -2,14 +2,15 @@
 -- of security.rs over a list of sender records, and forgetting a sender. The first 64 places of a list count: a
 -- recursion along a list carries how many places still count, and stops there.
 -- Assumes nothing.
-use Rattle.std.specs.Prelude.{ℕ, zero, suc, Bool, true, false, cond, not, ◌&&◌, ◌||◌, List, [], ◌∷◌, eqb, leb, ltb, get_or, Option, Some, None}
+use Rattle.std.specs.Prelude.{ℕ, zero, suc, Bool, false, cond, not, ◌&&◌, ◌||◌, List, [], ◌∷◌, eqb, leb, ltb, Option, Some, None, Result, Ok, Err}
 use Rattle.octets.specs.Strings.{tab}
-use Rattle.octets.specs.Refusals.{unless, on, first_of}
+use Rattle.octets.specs.declared.refusals.Refusal.{Refusal}
+use Rattle.octets.specs.Refusals.{unless, on, first_of, number_of}
 use Rattle.types.specs.declared.Key.{Key}
 use Rattle.types.specs.Counters.{last_counter}
 use Rattle.types.specs.Keys.{key}
-use Rattle.senders.specs.declared.{SenderRecord.SenderRecord, Found.Found, Asked.Asked, Noted.Noted}
-use Rattle.senders.specs.Records.{is_free, names, record_of, free_record, kept}
+use Rattle.senders.specs.declared.{SenderRecord.SenderRecord, Found.Found}
+use Rattle.senders.specs.Records.{is_free, names, record_of, kept}
 
 abbrev pub counted_places : ℕ
 counted_places = 64
@@ -17,11 +18,6 @@ counted_places = 64
 -- how many of n places count
 unfoldable pub counted : ℕ → ℕ
 counted n = cond (ltb n counted_places) n counted_places
-
--- the counter c if it is there
-abbrev pub counter_if : Bool → ℕ → Option ℕ
-counter_if true c = Some c
-counter_if false c = None
 
 -- ---- along a list, of which n places still count
 
@@ -69,14 +65,23 @@ has_free l = some_of is_free counted_places l
 abbrev pub stored : ℕ → List SenderRecord → Option ℕ
 stored s l = stored_in s counted_places l
 
--- what it says of s: the first counted place whose record names s, and that record's counter; else the first free place, or 64
+-- what it says of s: the first counted place whose record names s, else the first free place, if there is one; and the counter that
+-- it stores for s
 unfoldable pub found : ℕ → List SenderRecord → Found
 found s l =
-    let i : ℕ = first_place (names s) counted_places l in
-    cond (knows s l) (record { named = true; counter = (get_or l i free_record).counter; place = i })
-    (record { named = false; counter = 0; place = cond (has_free l) (first_place is_free counted_places l) counted_places })
+    record {
+      place =
+          cond (knows s l) (Some (first_place (names s) counted_places l))
+          (cond (has_free l) (Some (first_place is_free counted_places l)) None);
+      counter = stored s l;
+    }
 
 -- ---- asking for the key
+
+-- what asking answers: a refusal's number with a key of zeros, or 0 and the active key
+pub record Asked : Type 0 where
+  pub refusal : ℕ
+  pub key : Key
 
 -- a counter is compared with a stored one only
 abbrev pub not_above : ℕ → Option ℕ → Bool
@@ -85,6 +90,11 @@ not_above c (Some x) = leb c x
 
 unfoldable pub ask_refused : ℕ → Asked
 ask_refused n = record { refusal = n; key = key (tab (λ (i : ℕ). 0) 16) }
+
+-- the same, of the code's answer
+abbrev pub told_asked : Result Key Refusal → Asked
+told_asked (Ok k) = record { refusal = 0; key = k }
+told_asked (Err r) = ask_refused (number_of r)
 
 -- for the active key and its number, the stored counter, and the key sequence number and counter asked with
 unfoldable pub ask_refusal : ℕ → Option ℕ → ℕ → ℕ → ℕ
@@ -97,6 +107,16 @@ unfoldable pub inbound_network_key : Key → ℕ → List SenderRecord → ℕ �
 inbound_network_key ak active l s k c = asked_by ak active (stored s l) k c
 
 -- ---- noting a counter
+
+-- what noting answers: a refusal's number and none, or 0 and the sender's earlier counter or none
+pub record Noted : Type 0 where
+  pub refusal : ℕ
+  pub earlier : Option ℕ
+
+-- the same, of the code's answer
+abbrev pub told_noted : Result (Option ℕ) Refusal → Noted
+told_noted (Ok o) = record { refusal = 0; earlier = o }
+told_noted (Err r) = record { refusal = number_of r; earlier = None }
 
 -- what noting leaves: its answer, and the whole list
 pub record Run : Type 0 where
