@@ -17,9 +17,9 @@ use Rattle.octets.specs.Numbers.{le}
 use Rattle.octets.proofs.Conditions.{accepted, none, or_false}
 use Rattle.octets.proofs.Strings.{take_over}
 use Rattle.octets.proofs.Writing.{written_number, write_accepted}
-use Rattle.journal.specs.declared.{format.JournalRecord.JournalRecord, Recovered.Recovered}
+use Rattle.journal.specs.declared.format.JournalRecord.{JournalRecord}
 use Rattle.journal.specs.Format.{is_kind, body_length, record_at, record_bytes, kinds_from, records_from, records, some_unknown, unknown_kind, total_length, bytes_of, complete_length}
-use Rattle.journal.specs.Recovery.{State, blank, key_number_after, applied, applied_all, state_of, recover_refusal, recover_given, recover_nothing, recover_answer, recovered_list}
+use Rattle.journal.specs.Recovery.{State, blank, key_number_after, applied, applied_all, state_of, Recovered, recover_refusal, recover_given, recover_nothing, recover_answer, recovered_list}
 use Rattle.journal.specs.Writing.{record_of_kind, write_refusal, write_record, some_ceiling}
 use Rattle.journal.specs.Life.{complete_part, writes, given}
 use Rattle.journal.specs.Claims.{Fits, RecordIsApplied, SameRecovery, PartChangesNothing, CompleteRecordsRecover, CompletePartIsRecords, length_of_kind, ReadsBack, LargestCeiling, NoKeyNumber, LastKeyNumberOrNone}

@@ -12,7 +12,7 @@ use borrow.Table.Steps.{cases}
 use Rattle.senders.specs.declared.SenderRecord.{SenderRecord}
 use Rattle.senders.specs.Records.{names, free_record}
 use Rattle.senders.specs.Senders.{counted_places}
-use Rattle.senders.proofs.Walks.{counted_within, counted_64}
+use Rattle.senders.proofs.Finding.{counted_within, counted_64}
 use Rattle.journal.specs.declared.format.JournalRecord.{JournalRecord}
 use Rattle.journal.specs.Format.{records}
 use Rattle.journal.specs.Recovery.{State, blank, noted, senders_after, applied, applied_all, state_of, anew}

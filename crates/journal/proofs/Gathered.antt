@@ -1,56 +1,24 @@
--- The answers by what a pass gathered are those of the journal's state. Assumes nothing.
-use mathlib.Core.Path.{◌≡◌, refl, sym, ap, ◌∙◌}
-use mathlib.Core.Bool.{Bool, true, false, cond, not, ◌&&◌, ◌||◌}
-use mathlib.Core.List.{List, [], ◌∷◌}
-use Prim.Native.Nat.{ℕ, suc}
-use native.Mathlib.Omega.{arith}
-use lib.Dec.{leb, ltb}
-use lib.ListN.{length}
-use borrow.Author.Tests.{leb-true, leb-false, ltb-true, ltb-false, le-leb, lt-leb, lt-ltb}
+-- What is answered by what a pass gathered is what the definitions answer of the journal's state. Assumes nothing.
+use Rattle.std.specs.Prelude.{Option, Some, None, Result, Ok, Err}
+use Rattle.std.proofs.Common.{◌≡◌, refl, sym, ap, ◌∙◌, Bool, true, false, not, ◌&&◌, ◌||◌, List, [], ◌∷◌, ℕ, suc, ◌+◌, ◌≤◌, ◌<◌, leb, ltb, length, arith, add-one}
+use borrow.Author.Tests.{leb-true, leb-false, ltb-true, ltb-false, le-leb, lt-leb, lt-ltb, le-ltb}
 use borrow.Table.Steps.{cases}
-use Rattle.octets.specs.Refusals.{unless, first_of}
-use Rattle.octets.proofs.Conditions.{none}
+use Rattle.octets.specs.declared.refusals.Refusal.{Refusal}
+use Rattle.octets.specs.Refusals.{unless, first_of, number_of}
+use Rattle.octets.specs.Strings.{over}
+use Rattle.octets.specs.Writing.{Run, wrote, wrote_nothing, written}
+use Rattle.senders.specs.declared.SenderRecord.{SenderRecord}
 use Rattle.senders.specs.Senders.{counted}
-use Rattle.journal.specs.declared.{format.JournalRecord.JournalRecord, scan.Scanned.Scanned}
-use Rattle.journal.specs.Format.{record_bytes, records, unknown_kind}
-use Rattle.journal.specs.Recovery.{State, blank, larger, ceiling_after, senders_after, applied, applied_all, state_of, recover_refusal, recover_answer}
-use Rattle.journal.specs.Writing.{write_refusal, some_ceiling, next_refusal}
-use Rattle.journal.specs.Scan.{table_of, Holds, Scans, recovered_by, write_refusal_by, next_refusal_by}
+use Rattle.senders.proofs.Finding.{counted_64}
+use Rattle.journal.specs.declared.{Recovery.Recovery, format.Kind.Kind, format.JournalRecord.JournalRecord}
+use Rattle.journal.specs.Format.{record_bytes, records, unknown_kind, complete_length}
+use Rattle.journal.specs.Recovery.{State, blank, larger, ceiling_after, senders_after, applied, applied_all, state_of, anew, recover_refusal, recover_nothing, recover_answer, recovered_list}
+use Rattle.journal.specs.Writing.{record_of_kind, write_refusal, write_record, some_ceiling, next_refusal, next_nothing, next_counter}
+use Rattle.journal.specs.Scan.{kind_of, byte_of, within, with_record, gathered}
+use Rattle.journal.proofs.Whole.{kind_known, kind_unknown, byte_is}
+use Rattle.journal.proofs.Passing.{within_after}
 
--- the table's number is above the room exactly if the senders are more
-pub more_same : (room n m : ℕ) → n ≡ cond (leb m room) m (suc room) → ltb room n ≡ ltb room m
-more_same room n m e =
-    cases (leb m room) (λ l. ap (λ (x : ℕ). ltb room x) (rw l at e))
-    (λ l. let n-is : n ≡ suc room = (rw l at e) in lt-ltb room n (omega (arith, n-is)) ∙ sym (lt-ltb room m (leb-false m room l)))
-
--- ---- recovery
-
-module _ (j : List ℕ) (places : ℕ) (r : Scanned) (xs cs : List ℕ) (h : Scans (counted places) j r xs cs) where
-  pub recovered_by_lem : recovered_by r (counted places) ≡ recover_answer j places
-  unfolding recovered_by recover_answer recover_refusal first_of unless
-  recovered_by_lem =
-      cases (unknown_kind j) (λ u. rw (h.0, u) refl)
-      (λ u. let s = h.1 u in
-      rw (h.0, u, more_same (counted places) r.senders (length (state_of j).senders) s.senders.0)
-      (cases (ltb (counted places) (length (state_of j).senders)) (λ o. rw o refl) (λ o. rw (o, s.ceiling, s.key_number, s.complete) refl)))
-
-  pub table_held : recover_refusal j places ≡ 0 → table_of r.senders xs cs ≡ (state_of j).senders
-  unfolding recover_refusal
-  table_held z =
-      let n = none _ z in
-      (h.1 n.0).senders.1 (ltb-false (counted places) (length (state_of j).senders) n.1.0)
-
--- ---- writing
-
-pub write_refusal_by_lem : (j : List ℕ) (kind : ℕ) (r : JournalRecord) (room : ℕ) (known : Bool) (n : ℕ) (xs cs : List ℕ) → known ≡ not (unknown_kind j)
-    → (unknown_kind j ≡ false → Holds 64 n xs cs (senders_after r (state_of j).senders))
-    → write_refusal_by known kind n room (length (record_bytes r)) ≡ write_refusal j kind r room
-unfolding write_refusal_by write_refusal first_of
-write_refusal_by_lem j kind r room known n xs cs k h =
-    cases (unknown_kind j) (λ u. rw (k, u) refl)
-    (λ u. rw (k, u, more_same 64 n (length (senders_after r (state_of j).senders)) (h u).0) refl)
-
--- ---- the next counter
+-- ---- the largest ceiling
 
 leb_larger : (x c n : ℕ) → leb (larger x c) n ≡ (leb x n && leb c n)
 leb_larger x c n =
@@ -89,8 +57,205 @@ pub covered : (j : List ℕ) (n : ℕ) → leb (state_of j).ceiling n ≡ not (s
 unfolding state_of
 covered j n = uncovered n (records j) blank ∙ rw (le-leb 0 n (omega arith)) refl
 
-pub next_refusal_by_lem : (j : List ℕ) (last : ℕ) (known : Bool) (ceiling : ℕ) → known ≡ not (unknown_kind j)
-    → (unknown_kind j ≡ false → ceiling ≡ (state_of j).ceiling) → next_refusal_by known ceiling last ≡ next_refusal j last
-unfolding next_refusal_by next_refusal first_of
-next_refusal_by_lem j last known ceiling k h =
-    cases (unknown_kind j) (λ u. rw (k, u) refl) (λ u. rw (k, u, h u, covered j last) refl)
+-- ---- what a pass answered
+
+module _ (j : List ℕ) where
+  -- 25: a kind is not known
+  pub unread : (r : Refusal) → Err r ≡ gathered j → (unknown_kind j ≡ true) × (r ≡ Refusal.JournalKind)
+  unfolding gathered
+  unread r e =
+      cases (unknown_kind j)
+      (λ u. let f : ◌≡◌ {A = Result Recovery Refusal} (Err r) (Err Refusal.JournalKind) = (rw u at e) in (u, (cc)))
+      (λ u. let f : ◌≡◌ {A = Result Recovery Refusal} (Err r) (Ok (record { ceiling = (state_of j).ceiling; key_number = (state_of j).key_number; complete = complete_length j })) = (rw u at e) in absurd (cc))
+
+  -- the journal's state, where every kind is known
+  pub record IsRead (f : Recovery) : Type 0 where
+    pub known : unknown_kind j ≡ false
+    pub is : f ≡ record { ceiling = (state_of j).ceiling; key_number = (state_of j).key_number; complete = complete_length j }
+
+  pub read_of : (f : Recovery) → Ok f ≡ gathered j → IsRead f
+  unfolding gathered
+  read_of f e =
+      cases (unknown_kind j)
+      (λ u. let g : ◌≡◌ {A = Result Recovery Refusal} (Ok f) (Err Refusal.JournalKind) = (rw u at e) in absurd (cc))
+      (λ u. let g : ◌≡◌ {A = Result Recovery Refusal} (Ok f) (Ok (record { ceiling = (state_of j).ceiling; key_number = (state_of j).key_number; complete = complete_length j })) = (rw u at e) in record { known = u; is = (cc) })
+
+  -- ---- the next counter
+
+  module _ (last : ℕ) where
+    pub next_unread : (r : Refusal) → Err r ≡ gathered j → next_nothing (number_of r) ≡ next_counter j last
+    unfolding next_counter next_refusal first_of unless
+    next_unread r e = let u = unread r e in rw (u.0, u.1) refl
+
+    module _ (f : Recovery) (e : Ok f ≡ gathered j) where
+      ceiling_is : f.ceiling ≡ (state_of j).ceiling
+      ceiling_is = ap (λ (g : Recovery). g.ceiling) (read_of f e).is
+
+      pub next_used_up : 0xFFFFFFFE ≤ last → next_nothing 26 ≡ next_counter j last
+      unfolding next_counter next_refusal first_of unless
+      next_used_up h = rw ((read_of f e).known, le-leb 0xFFFFFFFE last h) refl
+
+      pub next_uncovered : last < 0xFFFFFFFE → f.ceiling ≤ last → next_nothing 27 ≡ next_counter j last
+      unfolding next_counter next_refusal first_of unless
+      next_uncovered h k = rw ((read_of f e).known, lt-leb 0xFFFFFFFE last h, ← covered j last, le-leb (state_of j).ceiling last (omega (arith, k, ceiling_is))) refl
+
+      pub next_covered : last < 0xFFFFFFFE → last < f.ceiling → record { refusal = 0; counter = last + 1 } ≡ next_counter j last
+      unfolding next_counter next_refusal first_of unless
+      next_covered h k = rw ((read_of f e).known, lt-leb 0xFFFFFFFE last h, ← covered j last, lt-leb (state_of j).ceiling last (omega (arith, k, ceiling_is)), add-one) refl
+
+  -- the senders of a table with 64 places, or none
+  module _ (ss : List SenderRecord) where
+    pub more_held : None ≡ within 64 ss → 64 < length ss
+    more_held e = cases (leb (length ss) 64) (λ b. let f : ◌≡◌ {A = Option (List SenderRecord)} None (Some ss) = (rw b at e) in absurd (cc)) (λ b. leb-false (length ss) 64 b)
+
+    pub same_held : (ts : List SenderRecord) → Some ts ≡ within 64 ss → (length ss ≤ 64) × (ts ≡ ss)
+    same_held ts e =
+        cases (leb (length ss) 64)
+        (λ b. let f : ◌≡◌ {A = Option (List SenderRecord)} (Some ts) (Some ss) = (rw b at e) in (leb-true (length ss) 64 b, (cc)))
+        (λ b. let f : ◌≡◌ {A = Option (List SenderRecord)} (Some ts) None = (rw b at e) in absurd (cc))
+
+  -- ---- recovery into a list l
+
+  module _ (l : List SenderRecord) where
+    recover_refused : (n : ℕ) → recover_refusal j (length l) ≡ suc n → (recover_nothing (suc n) ≡ recover_answer j (length l)) × (l ≡ recovered_list j l)
+    unfolding recover_answer recovered_list unless
+    recover_refused n e = (rw e refl, rw e refl)
+
+    module _ (r : Refusal) (e : Err r ≡ gathered j) where
+      refusal_unread : recover_refusal j (length l) ≡ 25
+      unfolding recover_refusal first_of
+      refusal_unread = rw (unread r e).0 refl
+
+      pub recover_unread : recover_nothing (number_of r) ≡ recover_answer j (length l)
+      recover_unread = rw (unread r e).1 (recover_refused 24 refusal_unread).0
+
+      pub list_unread : l ≡ recovered_list j l
+      list_unread = (recover_refused 24 refusal_unread).1
+
+    module _ (f : Recovery) (e : Ok f ≡ gathered j) where
+      refusal_full : counted (length l) < length (state_of j).senders → recover_refusal j (length l) ≡ 24
+      unfolding recover_refusal first_of
+      refusal_full h = rw ((read_of f e).known, lt-ltb (counted (length l)) (length (state_of j).senders) h) refl
+
+      module _ (n : None ≡ within 64 (state_of j).senders) where
+        full : counted (length l) < length (state_of j).senders
+        full = omega (arith, counted_64 (length l), more_held (state_of j).senders n)
+
+        pub recover_full : recover_nothing 24 ≡ recover_answer j (length l)
+        recover_full = (recover_refused 23 (refusal_full full)).0
+
+        pub list_full : l ≡ recovered_list j l
+        list_full = (recover_refused 23 (refusal_full full)).1
+
+      module _ (ss : List SenderRecord) (q : Some ss ≡ within 64 (state_of j).senders) where
+        module _ (h : counted (length l) < length ss) where
+          above : counted (length l) < length (state_of j).senders
+          above = rw (same_held (state_of j).senders ss q).1 at h
+
+          pub recover_over : recover_nothing 24 ≡ recover_answer j (length l)
+          recover_over = (recover_refused 23 (refusal_full above)).0
+
+          pub list_over : l ≡ recovered_list j l
+          list_over = (recover_refused 23 (refusal_full above)).1
+
+        module _ (h : length ss ≤ counted (length l)) where
+          refusal_none : recover_refusal j (length l) ≡ 0
+          unfolding recover_refusal first_of
+          refusal_none =
+              let k : length (state_of j).senders ≤ counted (length l) = rw (same_held (state_of j).senders ss q).1 at h in
+              rw ((read_of f e).known, le-ltb (counted (length l)) (length (state_of j).senders) k) refl
+
+          pub recover_all : record { refusal = 0; ceiling = f.ceiling; key_number = f.key_number; complete = f.complete } ≡ recover_answer j (length l)
+          unfolding recover_answer unless
+          recover_all = rw (refusal_none, (read_of f e).is) refl
+
+          pub list_all : anew 64 ss l ≡ recovered_list j l
+          unfolding recovered_list unless
+          list_all = rw (refusal_none, (same_held (state_of j).senders ss q).1) refl
+
+  -- ---- writing a record, of a kind and those of these values that it takes, to the front of o
+
+  module _ (kind s c k : ℕ) (o : List ℕ) where
+    abbrev new : JournalRecord
+    new = record_of_kind kind s c k
+
+    abbrev run : Run
+    run = write_record j kind s c k o
+
+    refused_run : (n : ℕ) → write_refusal j kind new (length o) ≡ suc n → run ≡ wrote_nothing (suc n) o
+    unfolding write_record written unless
+    refused_run n e = rw e refl
+
+    module _ (q : Refusal) (e : Err q ≡ gathered j) where
+      run_unread : run ≡ wrote_nothing 25 o
+      unfolding write_refusal first_of
+      run_unread = refused_run 24 (rw (unread q e).0 refl)
+
+      pub write_unread : record { refusal = number_of q; length = 0 } ≡ run.answer
+      write_unread = rw ((unread q e).1, run_unread) refl
+
+      pub out_unread : o ≡ run.out
+      out_unread = rw run_unread refl
+
+    module _ (f : Recovery) (e : Ok f ≡ gathered j) where
+      module _ (q : Refusal) (w : kind_of kind ≡ Err q) where
+        run_unknown : run ≡ wrote_nothing 25 o
+        unfolding write_refusal first_of
+        run_unknown = refused_run 24 (rw ((read_of f e).known, (kind_unknown kind q w).0) refl)
+
+        pub write_unknown : record { refusal = number_of q; length = 0 } ≡ run.answer
+        write_unknown = rw (← (kind_unknown kind q w).1, run_unknown) refl
+
+        pub out_unknown : o ≡ run.out
+        out_unknown = rw run_unknown refl
+
+      module _ (x : Kind) (w : kind_of kind ≡ Ok x) (r : JournalRecord) (a : r ≡ record_of_kind (byte_of x) s c k)
+          (held : Option (List SenderRecord)) (h : held ≡ within 64 (state_of j).senders) where
+        r_is : r ≡ new
+        r_is = a ∙ ap (λ (n : ℕ). record_of_kind n s c k) (byte_is kind x w)
+
+        held_is : with_record 64 r held ≡ within 64 (senders_after new (state_of j).senders)
+        held_is = rw (r_is, h) (within_after j 64 new (state_of j).senders)
+
+        module _ (z : None ≡ with_record 64 r held) where
+          run_full : run ≡ wrote_nothing 24 o
+          unfolding write_refusal first_of
+          run_full =
+              let more = more_held (senders_after new (state_of j).senders) (z ∙ held_is) in
+              refused_run 23 (rw ((read_of f e).known, kind_known kind x w, lt-ltb 64 (length (senders_after new (state_of j).senders)) more) refl)
+
+          pub write_full : record { refusal = 24; length = 0 } ≡ run.answer
+          write_full = rw run_full refl
+
+          pub out_full : o ≡ run.out
+          out_full = rw run_full refl
+
+        module _ (ss : List SenderRecord) (z : Some ss ≡ with_record 64 r held) where
+          few : length (senders_after new (state_of j).senders) ≤ 64
+          few = (same_held (senders_after new (state_of j).senders) ss (z ∙ held_is)).0
+
+          module _ (b : length o < length (record_bytes r)) where
+            run_short : run ≡ wrote_nothing 18 o
+            unfolding write_refusal first_of
+            run_short =
+                let short : length o < length (record_bytes new) = rw r_is at b in
+                refused_run 17 (rw ((read_of f e).known, kind_known kind x w, le-ltb 64 (length (senders_after new (state_of j).senders)) few, lt-ltb (length o) (length (record_bytes new)) short) refl)
+
+            pub write_short : record { refusal = 18; length = 0 } ≡ run.answer
+            write_short = rw run_short refl
+
+            pub out_short : o ≡ run.out
+            out_short = rw run_short refl
+
+          module _ (b : length (record_bytes r) ≤ length o) where
+            run_given : run ≡ wrote (record_bytes new) o
+            unfolding write_record write_refusal first_of written unless
+            run_given =
+                let room : length (record_bytes new) ≤ length o = rw r_is at b in
+                rw ((read_of f e).known, kind_known kind x w, le-ltb 64 (length (senders_after new (state_of j).senders)) few, le-ltb (length o) (length (record_bytes new)) room) refl
+
+            pub write_given : record { refusal = 0; length = length (record_bytes r) } ≡ run.answer
+            write_given = rw (run_given, r_is) refl
+
+            pub out_given : over o 0 (record_bytes r) ≡ run.out
+            out_given = rw (run_given, r_is) refl

@@ -1,177 +1,85 @@
 -- Keeping a sender in the table is noting it among the senders that the table holds: in its place, or behind them. Assumes nothing.
-use mathlib.Core.Path.{◌≡◌, refl, sym, ap, ◌∙◌}
-use mathlib.Core.Bool.{Bool, true, false, cond}
-use mathlib.Core.List.{List, [], ◌∷◌}
-use Prim.Native.Nat.{ℕ, zero, suc, ◌+◌, ◌-◌, ◌<◌, ◌≤◌}
-use native.Mathlib.Omega.{arith}
-use native.Mathlib.Nat.{zero-add}
-use lib.Dec.{eqb, leb}
-use lib.ListN.{length, get_or, drop, set, length-set}
-use lib.Seq.{drop-cons}
-use borrow.Author.Tests.{leb-true, leb-false, le-leb, lt-leb, eq-eqb, ne_eqb}
+use Rattle.std.specs.Prelude.{Option, Some, None, position}
+use Rattle.std.specs.List.{position_or_len}
+use Rattle.std.proofs.Common.{◌≡◌, refl, sym, ap, ◌∙◌, Bool, true, false, cond, List, [], ◌∷◌, ◌++◌, ℕ, suc, ◌+◌, ◌<◌, ◌≤◌, eqb, ltb, length, set, take, arith, length-set, length-take, length-append}
+use Rattle.std.proofs.Math.Numerals.{one-add}
+use Rattle.std.proofs.Math.Seq.{take-set-lt}
+use Rattle.std.proofs.lemmas.List.{take_more_set}
+use lib.Dec.{leb-suc-suc}
+use borrow.Author.Tests.{lt-ltb, le-leb, lt-leb}
 use borrow.Table.Steps.{cases}
 use Rattle.senders.specs.declared.SenderRecord.{SenderRecord}
 use Rattle.senders.specs.Records.{record_of}
 use Rattle.journal.specs.Recovery.{noted}
-use Rattle.journal.specs.Scan.{first_at, table_of, Holds}
-
--- ---- the place of a sender, looked for among the first n
-
--- it is none of the first i
-abbrev pub Passed : ℕ → ℕ → List ℕ → ℕ → Type 0
-Passed s n xs i = (i ≤ n) × (first_at s n xs ≡ i + first_at s (n - i) (drop i xs))
-
-pub passed_none : (s n : ℕ) (xs : List ℕ) → Passed s n xs 0
-passed_none s n xs = let m : n - 0 ≡ n = omega arith in (omega arith, rw m (sym (zero-add (first_at s n xs))))
-
-module _ (s n : ℕ) (xs : List ℕ) (i : ℕ) (p : Passed s n xs i) where
-  -- the place that is looked at, as the first of those left
-  here : (b : Bool) → i < n → n ≤ length xs → eqb (get_or xs i 0) s ≡ b → first_at s (n - i) (drop i xs) ≡ cond b 0 (suc (first_at s (n - (i + 1)) (drop (i + 1) xs)))
-  unfolding first_at
-  here b h l e =
-      let m : n - i ≡ suc (n - (i + 1)) = omega (arith, h) in
-      let k : i + 1 ≡ suc i = omega arith in
-      rw (drop-cons xs i 0 (omega (arith, h, l)), m, e, k)
-
-  pub passed_here : i < n → n ≤ length xs → get_or xs i 0 ≡ s → i ≡ first_at s n xs
-  passed_here h l e = omega (arith, p.1, here true h l (eq-eqb (get_or xs i 0) s e))
-
-  pub passed_more : i < n → n ≤ length xs → (get_or xs i 0 ≡ s → ⊥) → Passed s n xs (i + 1)
-  passed_more h l e = (omega (arith, h), omega (arith, p.1, here false h l (ne_eqb (get_or xs i 0) s e)))
-
-  pub passed_all : n ≤ i → n ≡ first_at s n xs
-  unfolding first_at
-  passed_all h =
-      let m : n - i ≡ 0 = omega (arith, h) in
-      let q : first_at s n xs ≡ i + first_at s (n - i) (drop i xs) = p.1 in omega (arith, (rw m at q), p.0, h)
-
--- ---- the table
-
-pub length_table : (n : ℕ) (xs cs : List ℕ) → n ≤ length xs → n ≤ length cs → length (table_of n xs cs) ≡ n
-unfolding table_of
-length_table zero xs cs h g = refl
-length_table (suc n) [] cs h g = absurd (omega (arith, h))
-length_table (suc n) (x ∷ xs) [] h g = absurd (omega (arith, g))
-length_table (suc n) (x ∷ xs) (c ∷ cs) h g = ap suc (length_table n xs cs (omega (arith, h)) (omega (arith, g)))
+use Rattle.journal.specs.Scan.{held, within, with_sender}
 
 module _ (s c : ℕ) where
+  -- whether a record is the sender's
+  abbrev is : SenderRecord → Bool
+  is r = eqb r.address s
+
+  -- its place, or the length
+  abbrev place : List SenderRecord → ℕ
+  place ss = position_or_len is ss
+
+  abbrev stored_at : List SenderRecord → ℕ → List SenderRecord
+  stored_at ss p = cond (ltb p (length ss)) (set ss p (record_of s c)) (ss ++ (record_of s c ∷ []))
+
+  stored_next : (r : SenderRecord) (ss : List SenderRecord) (p : ℕ) → stored_at (r ∷ ss) (suc p) ≡ r ∷ stored_at ss p
+  stored_next r ss p =
+      ap (λ (b : Bool). cond b (r ∷ set ss p (record_of s c)) (r ∷ (ss ++ (record_of s c ∷ [])))) (leb-suc-suc (suc p) (length ss))
+      ∙ either (ltb p (length ss))
+    where
+      either : (b : Bool) → cond b (r ∷ set ss p (record_of s c)) (r ∷ (ss ++ (record_of s c ∷ []))) ≡ r ∷ cond b (set ss p (record_of s c)) (ss ++ (record_of s c ∷ []))
+      either true = refl
+      either false = refl
+
+  -- noting is storing the record at that place, or behind the others
+  noted_at : (ss : List SenderRecord) → noted s c ss ≡ stored_at ss (place ss)
+  unfolding noted
+  noted_at [] = refl
+  noted_at (r ∷ ss) =
+      cases (eqb r.address s)
+      (λ e. rw (e, lt-ltb 0 (suc (length ss)) (omega arith)) refl)
+      (λ e. rw (e, one-add) (ap (λ (l : List SenderRecord). r ∷ l) (noted_at ss) ∙ sym (stored_next r ss (place ss))))
+
+  noted_found : (ss : List SenderRecord) (i : ℕ) → position is ss ≡ Some i → noted s c ss ≡ set ss i (record_of s c)
+  noted_found ss i e =
+      noted_at ss
+      ∙ cases (ltb (place ss) (length ss))
+      (λ b. let q : Some (place ss) ≡ Some i = rw b at e in let p : place ss ≡ i = (cc) in rw (b, p) refl)
+      (λ b. let q : ◌≡◌ {A = Option ℕ} None (Some i) = rw b at e in absurd (cc))
+
+  noted_new : (ss : List SenderRecord) → position is ss ≡ None → noted s c ss ≡ ss ++ (record_of s c ∷ [])
+  noted_new ss e =
+      noted_at ss
+      ∙ cases (ltb (place ss) (length ss))
+      (λ b. let q : Some (place ss) ≡ None = rw b at e in absurd (cc))
+      (λ b. rw b refl)
+
   -- noting never makes fewer
-  noted_longer : (l : List SenderRecord) → length l ≤ length (noted s c l)
+  pub noted_longer : (ss : List SenderRecord) → length ss ≤ length (noted s c ss)
   unfolding noted
   noted_longer [] = omega arith
-  noted_longer (r ∷ l) = cases (eqb r.address s) (λ e. rw e (omega arith)) (λ e. rw e (omega (arith, noted_longer l)))
+  noted_longer (r ∷ ss) = cases (eqb r.address s) (λ e. rw e (omega arith)) (λ e. rw e (omega (arith, noted_longer ss)))
 
-  -- a sender that is there keeps its place
-  noted_found : (n : ℕ) (xs cs : List ℕ) → n ≤ length xs → n ≤ length cs → first_at s n xs < n
-      → noted s c (table_of n xs cs) ≡ table_of n (set xs (first_at s n xs) s) (set cs (first_at s n xs) c)
-  unfolding first_at table_of noted
-  noted_found zero xs cs h g p = absurd (omega (arith, p))
-  noted_found (suc n) [] cs h g p = absurd (omega (arith, h))
-  noted_found (suc n) (x ∷ xs) [] h g p = absurd (omega (arith, g))
-  noted_found (suc n) (x ∷ xs) (d ∷ cs) h g p =
-      cases (eqb x s) (λ e. rw e refl)
-      (λ e. rw e (ap (λ (l : List SenderRecord). record_of x d ∷ l)
-      (noted_found n xs cs (omega (arith, h)) (omega (arith, g)) (below e))))
-    where
-      below : eqb x s ≡ false → first_at s n xs < n
-      below e = let q : cond (eqb x s) 0 (suc (first_at s n xs)) < suc n = p in omega (arith, (rw e at q))
+  -- ---- a table of so many places, of which the first n hold senders
 
-  -- a new one comes behind the others
-  noted_new : (n : ℕ) (xs cs : List ℕ) → n < length xs → n < length cs → first_at s n xs ≡ n
-      → noted s c (table_of n xs cs) ≡ table_of (suc n) (set xs n s) (set cs n c)
-  unfolding first_at table_of noted
-  noted_new zero [] cs h g p = absurd (omega (arith, h))
-  noted_new zero (x ∷ xs) [] h g p = absurd (omega (arith, g))
-  noted_new zero (x ∷ xs) (d ∷ cs) h g p = refl
-  noted_new (suc n) [] cs h g p = absurd (omega (arith, h))
-  noted_new (suc n) (x ∷ xs) [] h g p = absurd (omega (arith, g))
-  noted_new (suc n) (x ∷ xs) (d ∷ cs) h g p =
-      cases (eqb x s) (λ e. absurd (here e))
-      (λ e. rw e (ap (λ (l : List SenderRecord). record_of x d ∷ l)
-      (noted_new n xs cs (omega (arith, h)) (omega (arith, g)) (next e))))
-    where
-      here : eqb x s ≡ true → ⊥
-      here e = let q : cond (eqb x s) 0 (suc (first_at s n xs)) ≡ suc n = p in omega (arith, (rw e at q))
+  module _ (places n : ℕ) (xs : List SenderRecord) (h : length xs ≡ places) (l : n ≤ places) where
+    room_for : (ts : List SenderRecord) → length ts ≤ places → Some ts ≡ within places ts
+    room_for ts k = rw (le-leb (length ts) places k) refl
 
-      next : eqb x s ≡ false → first_at s n xs ≡ n
-      next e = let q : cond (eqb x s) 0 (suc (first_at s n xs)) ≡ suc n = p in omega (arith, (rw e at q))
+    pub keep_found : (i : ℕ) → position is (take n xs) ≡ Some i → i < length (take n xs)
+        → held (Some n) (set xs i (record_of s c)) ≡ with_sender places s c (held (Some n) xs)
+    keep_found i e b =
+        rw (noted_found (take n xs) i e)
+        (ap Some (take-set-lt n xs i (record_of s c) (omega (arith, b, length-take n xs))) ∙ room_for (set (take n xs) i (record_of s c)) (simp (length-set, length-take) (omega arith)))
 
-  -- and makes one more
-  more_new : (n : ℕ) (xs cs : List ℕ) → n ≤ length xs → n ≤ length cs → first_at s n xs ≡ n → length (noted s c (table_of n xs cs)) ≡ suc n
-  unfolding first_at table_of noted
-  more_new zero xs cs h g p = refl
-  more_new (suc n) [] cs h g p = absurd (omega (arith, h))
-  more_new (suc n) (x ∷ xs) [] h g p = absurd (omega (arith, g))
-  more_new (suc n) (x ∷ xs) (d ∷ cs) h g p =
-      let q : cond (eqb x s) 0 (suc (first_at s n xs)) ≡ suc n = p in
-      cases (eqb x s) (λ e. absurd (omega (arith, (rw e at q))))
-      (λ e. rw e (ap suc (more_new n xs cs (omega (arith, h)) (omega (arith, g)) (omega (arith, (rw e at q))))))
+    pub keep_new : position is (take n xs) ≡ None → n < places → held (Some (n + 1)) (set xs n (record_of s c)) ≡ with_sender places s c (held (Some n) xs)
+    keep_new e k =
+        rw (noted_new (take n xs) e)
+        (ap Some (take_more_set xs n (record_of s c) (omega arith)) ∙ room_for (take n xs ++ (record_of s c ∷ [])) (simp (length-append, length-take) (omega arith)))
 
--- ---- what the table holds, with room for so many
-
-module _ (room n : ℕ) (xs cs : List ℕ) (ss : List SenderRecord) where
-  -- there are more than there is room for
-  over : Holds room n xs cs ss → room < n → room < length ss
-  over h r =
-      cases (leb (length ss) room)
-      (λ e. let q : n ≡ cond (leb (length ss) room) (length ss) (suc room) = h.0 in absurd (omega (arith, (rw e at q), leb-true (length ss) room e, r)))
-      (λ e. leb-false (length ss) room e)
-
-  still_over : (ds ys : List ℕ) (m : ℕ) → m ≡ suc room → room < length ss → Holds room m ys ds ss
-  still_over ds ys m e r = (rw (lt-leb _ _ r) e, λ l. absurd (omega (arith, l, r)))
-
-  all_held : Holds room n xs cs ss → n ≤ room → (length ss ≡ n) × (table_of n xs cs ≡ ss)
-  all_held h r =
-      cases (leb (length ss) room)
-      (λ e. let q : n ≡ cond (leb (length ss) room) (length ss) (suc room) = h.0 in (sym (rw e at q), h.1 (leb-true _ _ e)))
-      (λ e. let q : n ≡ cond (leb (length ss) room) (length ss) (suc room) = h.0 in absurd (omega (arith, (rw e at q), r)))
-
-holding : (room n : ℕ) (xs cs : List ℕ) (ss : List SenderRecord) → length ss ≡ n → n ≤ room → table_of n xs cs ≡ ss → Holds room n xs cs ss
-holding room n xs cs ss e r t = (rw (le-leb (length ss) room (omega (arith, e, r))) (sym e), λ _. t)
-
--- ---- keeping s with the counter c
-
-module _ (room n : ℕ) (xs cs : List ℕ) (s c : ℕ) (ss : List SenderRecord) (h : Holds room n xs cs ss) where
-  pub keep_over : room < n → Holds room n xs cs (noted s c ss)
-  keep_over r =
-      let q = over room n xs cs ss h r in
-      still_over room n xs cs (noted s c ss) cs xs n (number q) (omega (arith, q, noted_longer s c ss))
-    where
-      number : room < length ss → n ≡ suc room
-      number q = let e : n ≡ cond (leb (length ss) room) (length ss) (suc room) = h.0 in (rw (lt-leb _ _ q) at e)
-
-  module _ (r : n ≤ room) (hx : room ≤ length xs) (hc : room ≤ length cs) where
-    -- there was room for those before
-    before : (length ss ≡ n) × (table_of n xs cs ≡ ss)
-    before = all_held room n xs cs ss h r
-
-    -- at the place p that was found
-    module _ (p : ℕ) (e : p ≡ first_at s n xs) where
-      pub keep-full : p ≤ n → p ≡ room → Holds room (room + 1) xs cs (noted s c ss)
-      keep-full l q =
-          still_over room (suc room) xs cs (noted s c ss) cs xs (room + 1) (omega arith)
-          (omega (
-            arith,
-            q,
-            l,
-            r,
-            ap (λ (t : List SenderRecord). length (noted s c t)) (sym before.1),
-            more_new s c n xs cs (omega (arith, hx, r)) (omega (arith, hc, r)) (omega (arith, e, l, q, r)),
-          ))
-
-      pub keep-new : p ≡ n → (p ≡ room → ⊥) → Holds room (n + 1) (set xs p s) (set cs p c) (noted s c ss)
-      keep-new q d =
-          let l : n < room = omega (arith, r, q, d) in
-          let t = ap (noted s c) (sym before.1) ∙ noted_new s c n xs cs (omega (arith, hx, l)) (omega (arith, hc, l)) (omega (arith, e, q)) in
-          let m : n + 1 ≡ suc n = omega arith in
-          rw (q, m) (holding room (suc n) _ _ _
-          (ap length t ∙ length_table (suc n) _ _ (rw (length-set xs n s) (omega (arith, hx, l))) (rw (length-set cs n c) (omega (arith, hc, l))))
-          (omega (arith, l)) (sym t))
-
-      pub keep-found : p ≤ n → (p ≡ n → ⊥) → Holds room n (set xs p s) (set cs p c) (noted s c ss)
-      keep-found l d =
-          let t = ap (noted s c) (sym before.1) ∙ noted_found s c n xs cs (omega (arith, hx, r)) (omega (arith, hc, r)) (omega (arith, e, l, d)) in
-          rw e (holding room n _ _ _
-          (ap length t ∙ length_table n _ _ (rw (length-set xs (first_at s n xs) s) (omega (arith, hx, r)))
-          (rw (length-set cs (first_at s n xs) c) (omega (arith, hc, r))))
-          r (sym t))
+    pub keep_full : position is (take n xs) ≡ None → places ≤ n → held None xs ≡ with_sender places s c (held (Some n) xs)
+    keep_full e k =
+        rw (noted_new (take n xs) e) (rw (lt-leb (length (take n xs ++ (record_of s c ∷ []))) places (simp (length-append, length-take) (omega arith))) refl)

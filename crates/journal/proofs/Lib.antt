@@ -12,8 +12,8 @@ pub mod FirstAppearance
 pub mod AddressOrder
 pub mod Sorting
 pub mod InRange
-pub mod Carrying
 pub mod ShrunkBytes
+pub mod Shrinks
 pub mod ShrunkState
 pub mod ShrinkingClaims
 pub mod NoCounterTwice

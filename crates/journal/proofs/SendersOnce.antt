@@ -14,7 +14,7 @@ use Rattle.octets.proofs.Conditions.{accepted, none, unless_either}
 use Rattle.senders.specs.declared.SenderRecord.{SenderRecord}
 use Rattle.senders.specs.Records.{names}
 use Rattle.senders.specs.Senders.{counted_places, counted, stored_in, stored}
-use Rattle.senders.proofs.Walks.{counted_within, counted_64}
+use Rattle.senders.proofs.Finding.{counted_within, counted_64}
 use Rattle.journal.specs.declared.format.JournalRecord.{JournalRecord}
 use Rattle.journal.specs.Format.{records}
 use Rattle.journal.specs.Recovery.{State, blank, noted, senders_after, applied, applied_all, state_of, anew, recover_refusal, recovered_list}

@@ -15,20 +15,18 @@ use Rattle.octets.proofs.Strings.{take_over}
 use Rattle.octets.proofs.Writing.{written_number, write_accepted}
 use Rattle.senders.specs.declared.SenderRecord.{SenderRecord}
 use Rattle.senders.specs.Senders.{stored}
-use Rattle.journal.specs.declared.Recovered.{Recovered}
 use Rattle.journal.specs.Format.{records, unknown_kind, bytes_of}
-use Rattle.journal.specs.Recovery.{state_of, recover_refusal, recover_given, recover_nothing, recover_answer, recovered_list}
+use Rattle.journal.specs.Recovery.{state_of, Recovered, recover_refusal, recover_given, recover_nothing, recover_answer, recovered_list}
 use Rattle.journal.specs.Writing.{record_of_kind, write_refusal, write_record, next_refusal, next_counter}
 use Rattle.journal.specs.Shrinking.{shrunk_records, shrunk, shrink_refusal, shrink}
 use Rattle.journal.specs.Life.{Writing, writes, given}
 use Rattle.journal.specs.ShrinkingClaims.{SameState, RecoversTheSame, AnswersTheSame, RisingAddressBytes, NoneIsShorter, NeverLonger, SameStateSameBytes, ShrunkTwice}
-use Rattle.journal.specs.Scan.{front_length}
 use Rattle.journal.proofs.Appending.{complete_within}
 use Rattle.journal.proofs.Gathered.{covered}
 use Rattle.journal.proofs.SendersOnce.{once_state, stored_counter}
 use Rattle.journal.proofs.Sorting.{rising_sorted}
 use Rattle.journal.proofs.InRange.{state_fits}
-use Rattle.journal.proofs.ShrunkBytes.{length_ceiling, length_key_number, length_shrunk}
+use Rattle.journal.proofs.ShrunkBytes.{front_length, length_ceiling, length_key_number, length_shrunk}
 use Rattle.journal.proofs.ShrunkState.{Alike, records_alike, number_alike, shrunk_read, shrunk_complete, shrunk_alike, shrunk_below, shrunk_within, length_after}
 
 -- ---- shrinking that is not refused

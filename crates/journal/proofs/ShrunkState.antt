@@ -20,13 +20,12 @@ use Rattle.journal.specs.Format.{record_bytes, kinds_from, records_from, records
 use Rattle.journal.specs.Recovery.{State, blank, noted, ceiling_after, key_number_after, senders_after, applied, applied_all, state_of}
 use Rattle.journal.specs.Shrinking.{sorted, key_number_records, ceiling_records, sender_records, shrunk_records, shrunk}
 use Rattle.journal.specs.Claims.{last_of}
-use Rattle.journal.specs.Scan.{front_length}
 use Rattle.journal.proofs.Appending.{applied_append}
 use Rattle.journal.proofs.ReadBack.{one_record, record_known}
 use Rattle.journal.proofs.SendersOnce.{counter_of, Once, last_all, once_state}
 use Rattle.journal.proofs.Sorting.{Marked, none_of, each_sorted, once_marked, counter_sorted, rising_sorted, once_rising, same_sorted}
 use Rattle.journal.proofs.InRange.{AllFit, StateFits, state_fits, shrunk_fits}
-use Rattle.journal.proofs.ShrunkBytes.{length_ceiling, length_key_number, length_sorted, length_shrunk}
+use Rattle.journal.proofs.ShrunkBytes.{front_length, length_ceiling, length_key_number, length_sorted, length_shrunk}
 
 -- ---- records end to end
 

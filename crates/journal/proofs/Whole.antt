@@ -1,22 +1,19 @@
--- What stands at a place of a journal: a complete record, an incomplete one, a byte that is no kind, or its end. Assumes nothing.
+-- What stands at the front of a journal: a complete record, an incomplete one, a byte that is no kind, or its end. Assumes nothing.
+use Rattle.std.specs.Prelude.{Option, Some, None, Result, Ok, Err}
 use mathlib.Core.Path.{◌≡◌, refl, sym, ap, ◌∙◌}
-use mathlib.Core.Bool.{Bool, true, false, cond, true≢false, ◌&&◌, ◌||◌}
+use mathlib.Core.Bool.{Bool, true, false, true≢false}
 use mathlib.Core.List.{List, [], ◌∷◌}
-use Prim.Native.Nat.{ℕ, zero, suc, ◌+◌, ◌-◌, ◌<◌, ◌≤◌}
+use Prim.Native.Nat.{ℕ, zero, suc, ◌<◌, ◌≤◌}
 use native.Mathlib.Omega.{arith}
-use native.Mathlib.Nat.{add-zero}
-use lib.Dec.{eqb, leb, ltb}
-use lib.ListN.{length, get_or, drop, get_or-eq_default, length-drop, drop_of_length-le}
-use lib.Seq.{drop-cons, drop-drop, get_or-drop}
-use borrow.Author.Tests.{le-leb, lt-leb, lt-ltb, le-ltb, leb-true, leb-false, ltb-true, ltb-false}
+use lib.Dec.{eqb, leb}
+use lib.ListN.{length, get_or, drop, length-drop}
+use borrow.Author.Tests.{eqb-true, le-leb, lt-leb, leb-true, leb-false}
 use borrow.Table.Steps.{cases}
-use Rattle.octets.specs.Numbers.{le, le_at}
-use Rattle.octets.proofs.Conditions.{or_false}
-use Rattle.octets.proofs.Numbers.{le_at_same}
-use Rattle.journal.specs.declared.format.JournalRecord.{JournalRecord}
+use Rattle.octets.specs.Numbers.{le}
+use Rattle.octets.specs.declared.refusals.Refusal.{Refusal}
+use Rattle.journal.specs.declared.format.{Kind.Kind, JournalRecord.JournalRecord}
 use Rattle.journal.specs.Format.{is_kind, body_length, record_at, record_bytes, kinds_from, records_from, records, some_unknown, unknown_kind}
-use Rattle.journal.specs.Scan.{whole_at}
-use Rattle.journal.proofs.Bodies.{body_kind, kind_body}
+use Rattle.journal.specs.Scan.{kind_of, byte_of, first_record}
 
 -- ---- the bytes of a body are skipped
 
@@ -63,109 +60,90 @@ module _ (k : ℕ) (l : List ℕ) where
   unfolding kinds_from some_unknown
   unknown_here h = rw h
 
--- ---- at place i of the journal j
+-- ---- the record at place i of a journal
 
-module _ (j : List ℕ) (i : ℕ) where
-  -- the byte there
-  abbrev k : ℕ
-  k = get_or j i 0
+pub length_at : (j : List ℕ) (i : ℕ) → is_kind (get_or j i 0) ≡ true → length (record_bytes (record_at j i)) ≡ suc (body_length (get_or j i 0))
+unfolding record_at record_bytes body_length le
+length_at j i w =
+    let k = get_or j i 0 in
+    cases (eqb k 1) (λ e. rw e refl)
+    (λ e. rw e (cases (eqb k 2) (λ f. rw f refl)
+    (λ f. rw f (cases (eqb k 3) (λ g. rw g refl) (λ g. absurd (true≢false (sym w ∙ rw (e, f, g))))))))
 
-  pub whole_past : length j ≤ i → whole_at j i ≡ 0
-  unfolding whole_at
-  whole_past h = rw (get_or-eq_default j 0 h)
+pub record_length_pos : (r : JournalRecord) → 0 < length (record_bytes r)
+unfolding record_bytes
+record_length_pos (JournalRecord.Ceiling c) = omega arith
+record_length_pos (JournalRecord.Sender s c) = omega arith
+record_length_pos (JournalRecord.KeyNumber k) = omega arith
 
-  pub whole_none : is_kind k ≡ false → whole_at j i ≡ 0
-  unfolding whole_at
-  whole_none h = rw h
+-- ---- the record at the front
 
-  pub whole_short : length j ≤ i + body_length k → whole_at j i ≡ 0
-  unfolding whole_at
-  whole_short h = rw (le-ltb _ _ h) (and-false (is_kind k))
-    where
-      and-false : (b : Bool) → cond (b && false) (suc (body_length k)) 0 ≡ 0
-      and-false true = refl
-      and-false false = refl
+-- r is the record at the front of l, and the rest stands behind it
+pub record IsFront (l : List ℕ) (r : JournalRecord) : Type 0 where
+  pub within : length (record_bytes r) ≤ length l
+  pub records : records l ≡ r ∷ records (drop (length (record_bytes r)) l)
+  pub known : unknown_kind l ≡ unknown_kind (drop (length (record_bytes r)) l)
 
-  pub whole_given : 0 < body_length k → i + body_length k < length j → whole_at j i ≡ suc (body_length k)
-  unfolding whole_at
-  whole_given p h = rw (body_kind k p, lt-ltb _ _ h)
+pub front_given : (l : List ℕ) (r : JournalRecord) → first_record l ≡ Some r → IsFront l r
+unfolding first_record
+front_given [] r e = let f : ◌≡◌ {A = Option JournalRecord} None (Some r) = e in absurd (cc)
+front_given (k ∷ l) r e =
+    cases (is_kind k)
+    (λ w. cases (leb (body_length k) (length l))
+    (λ h. let f : Some (record_at (k ∷ l) 0) ≡ Some r = (rw (w, h) at e) in
+    let q : record_at (k ∷ l) 0 ≡ r = (cc) in
+    let n : length (record_bytes r) ≡ suc (body_length k) = ap (λ (x : JournalRecord). length (record_bytes x)) (sym q) ∙ length_at (k ∷ l) 0 w in
+    record {
+      within = omega (arith, n, leb-true (body_length k) (length l) h);
+      records = rw n (records_whole k l w (leb-true (body_length k) (length l) h) ∙ ap (λ (x : JournalRecord). x ∷ records (drop (body_length k) l)) q);
+      known = rw n (unknown_behind k l w);
+    })
+    (λ h. let f : ◌≡◌ {A = Option JournalRecord} None (Some r) = (rw (w, h) at e) in absurd (cc)))
+    (λ w. let f : ◌≡◌ {A = Option JournalRecord} None (Some r) = (rw w at e) in absurd (cc))
 
-  -- a record that is there is complete and of a known kind
-  pub whole_inv : (whole_at j i ≡ 0 → ⊥) → (is_kind k ≡ true) × ((i + body_length k < length j) × (whole_at j i ≡ suc (body_length k)))
-  whole_inv h =
-      cases (is_kind k)
-      (λ e. cases (ltb (i + body_length k) (length j))
-      (λ f. (e, (ltb-true _ _ f, whole_given (kind_body k e) (ltb-true _ _ f))))
-      (λ f. absurd (h (whole_short (ltb-false _ _ f)))))
-      (λ e. absurd (h (whole_none e)))
+pub front_shorter : (l : List ℕ) (r : JournalRecord) (m : List ℕ) → (first_record l ≡ Some r) × (m ≡ drop (length (record_bytes r)) l) → length m < length l
+front_shorter l r m q =
+    let f = front_given l r q.0 in
+    omega (arith, ap length q.1, length-drop (length (record_bytes r)) l, f.within, record_length_pos r)
 
-  -- the record there, read from the bytes from there on
-  record_there : record_at (drop i j) 0 ≡ record_at j i
-  unfolding record_at
-  record_there =
-      let b : get_or (drop i j) 0 0 ≡ get_or j i 0 = get_or-drop i j 0 0 ∙ ap (λ (x : ℕ). get_or j x 0) (add-zero i) in
-      let c : get_or (drop i j) (0 + 1) 0 ≡ get_or j (i + 1) 0 = get_or-drop i j 1 0 in
-      rw (b, c, number 4 1, number 8 1, number 4 9)
-    where
-      number : (n m : ℕ) → le_at n (drop i j) (0 + m) ≡ le_at n j (i + m)
-      number n m =
-          le_at_same n (drop i j) j (0 + m) (i + m) (λ q _.
-          let e : i + (0 + m + q) ≡ i + m + q = omega arith in get_or-drop i j (0 + m + q) 0 ∙ ap (λ (x : ℕ). get_or j x 0) e)
+-- where there is none, a byte of a known kind begins an incomplete one
+pub front_none : (l : List ℕ) → first_record l ≡ None → (0 < length l → is_kind (get_or l 0 0) ≡ true) → (unknown_kind l ≡ false) × (records l ≡ [])
+unfolding first_record kinds_from some_unknown records_from
+front_none [] e w = (refl, refl)
+front_none (k ∷ l) e w =
+    let known : is_kind k ≡ true = w (omega arith) in
+    cases (leb (body_length k) (length l))
+    (λ h. let f : Some (record_at (k ∷ l) 0) ≡ None = (rw (known, h) at e) in absurd (cc))
+    (λ h. let s = leb-false (body_length k) (length l) h in (unknown_short k l known s, records_short k l known s))
 
-  module _ (w : is_kind k ≡ true) (h : i + body_length k < length j) where
-    here : drop i j ≡ k ∷ drop (suc i) j
-    here = drop-cons j i 0 (omega (arith, h))
+pub front_unknown : (l : List ℕ) → 0 < length l → is_kind (get_or l 0 0) ≡ false → unknown_kind l ≡ true
+front_unknown [] h w = absurd (omega (arith, h))
+front_unknown (k ∷ l) h w = unknown_here k l w
 
-    behind : drop (body_length k) (drop (suc i) j) ≡ drop (i + suc (body_length k)) j
-    behind =
-        let e : suc i + body_length k ≡ i + suc (body_length k) = omega arith in
-        drop-drop (body_length k) (suc i) j ∙ ap (λ (n : ℕ). drop n j) e
+-- ---- the kind of a byte
 
-    pub records-at : records (drop i j) ≡ record_at j i ∷ records (drop (i + suc (body_length k)) j)
-    records-at =
-        ap records here ∙ records_whole k (drop (suc i) j) w (rw (length-drop (suc i) j) (omega (arith, h)))
-        ∙ (λ t. record_at (sym here t) 0 ∷ records (behind t))
-        ∙ ap (λ (r : JournalRecord). r ∷ records (drop (i + suc (body_length k)) j)) record_there
+module _ (k : ℕ) where
+  either_kind : (P : Result Kind Refusal → Bool → Type 0) → P (Ok Kind.Ceiling) true → P (Ok Kind.Sender) true → P (Ok Kind.KeyNumber) true
+      → P (Err Refusal.JournalKind) false → P (kind_of k) (is_kind k)
+  either_kind P a b c d =
+      cases (eqb k 1) (λ e. rw e a) (λ e. rw e (cases (eqb k 2) (λ f. rw f b) (λ f. rw f (cases (eqb k 3) (λ g. rw g c) (λ g. rw g d)))))
 
-    pub unknown-at : unknown_kind (drop i j) ≡ unknown_kind (drop (i + suc (body_length k)) j)
-    unknown-at = ap unknown_kind here ∙ unknown_behind k (drop (suc i) j) w ∙ ap unknown_kind behind
+  pub kind_known : (x : Kind) → kind_of k ≡ Ok x → is_kind k ≡ true
+  kind_known x =
+      either_kind (λ r b. r ≡ Ok x → b ≡ true) (λ _. refl) (λ _. refl) (λ _. refl)
+      (λ e. let f : ◌≡◌ {A = Result Kind Refusal} (Err Refusal.JournalKind) (Ok x) = e in absurd (cc))
 
-  -- its length
-  pub length_at : is_kind k ≡ true → length (record_bytes (record_at j i)) ≡ suc (body_length k)
-  unfolding record_at record_bytes body_length le
-  length_at w =
-      cases (eqb k 1) (λ e. rw e refl)
-      (λ e. rw e (cases (eqb k 2) (λ f. rw f refl)
-      (λ f. rw f (cases (eqb k 3) (λ g. rw g refl) (λ g. absurd (true≢false (sym w ∙ rw (e, f, g))))))))
+  pub kind_unknown : (r : Refusal) → kind_of k ≡ Err r → (is_kind k ≡ false) × (Refusal.JournalKind ≡ r)
+  kind_unknown r =
+      either_kind (λ q b. q ≡ Err r → (b ≡ false) × (Refusal.JournalKind ≡ r))
+      (λ e. let f : ◌≡◌ {A = Result Kind Refusal} (Ok Kind.Ceiling) (Err r) = e in absurd (cc))
+      (λ e. let f : ◌≡◌ {A = Result Kind Refusal} (Ok Kind.Sender) (Err r) = e in absurd (cc))
+      (λ e. let f : ◌≡◌ {A = Result Kind Refusal} (Ok Kind.KeyNumber) (Err r) = e in absurd (cc))
+      (λ e. let f : ◌≡◌ {A = Result Kind Refusal} (Err Refusal.JournalKind) (Err r) = e in (refl, (cc)))
 
-  -- ---- where no complete record stands
-
-  -- the journal ends there, or its last record is incomplete: no kind that is not known, and no record
-  pub ends_there : whole_at j i ≡ 0 → (leb (length j) i || is_kind k) ≡ true → (unknown_kind (drop i j) ≡ false) × (records (drop i j) ≡ [])
-  unfolding kinds_from some_unknown records_from
-  ends_there z e =
-      cases (leb (length j) i)
-      (λ f. let n = drop_of_length-le j (leb-true (length j) i f) in (rw n refl, rw n refl))
-      (λ f. let n = drop-cons j i 0 (leb-false (length j) i f) in
-      let kind : is_kind k ≡ true = (rw f at e) in
-      let short : length (drop (suc i) j) < body_length k = rw (length-drop (suc i) j) (short-by kind (leb-false (length j) i f)) in
-      (ap unknown_kind n ∙ unknown_short k (drop (suc i) j) kind short, ap records n ∙ records_short k (drop (suc i) j) kind short))
-    where
-      short-by : is_kind k ≡ true → i < length j → length j - suc i < body_length k
-      short-by kind l =
-          cases (ltb (i + body_length k) (length j))
-          (λ f. absurd (omega (arith, z, whole_given (kind_body k kind) (ltb-true (i + body_length k) (length j) f))))
-          (λ f. omega (arith, l, ltb-false (i + body_length k) (length j) f))
-
-  pub unknown_there : (leb (length j) i || is_kind k) ≡ false → unknown_kind (drop i j) ≡ true
-  unknown_there e =
-      let f = or_false (leb (length j) i) (is_kind k) e in
-      ap unknown_kind (drop-cons j i 0 (leb-false (length j) i f.0)) ∙ unknown_here k (drop (suc i) j) f.1
-
--- what a length w that was read there says, if it is not 0
-pub whole_told : (j : List ℕ) (i w : ℕ) → w ≡ whole_at j i → (w ≡ 0 → ⊥)
-    → (whole_at j i ≡ 0 → ⊥) × ((i + body_length (get_or j i 0) < length j) × ((i < i + w) × (i + w ≤ length j)))
-whole_told j i w e h =
-    let some : whole_at j i ≡ 0 → ⊥ = λ z. h (e ∙ z) in
-    let inv = whole_inv j i some in
-    (some, (inv.1.0, (omega (arith, h), omega (arith, e, inv.1.0, inv.1.1))))
+  pub byte_is : (x : Kind) → kind_of k ≡ Ok x → byte_of x ≡ k
+  byte_is x e =
+      cases (eqb k 1) (λ a. let f : ◌≡◌ {A = Result Kind Refusal} (Ok Kind.Ceiling) (Ok x) = (rw a at e) in let g : Kind.Ceiling ≡ x = (cc) in rw (← g) (sym (eqb-true k 1 a)))
+      (λ a. cases (eqb k 2) (λ b. let f : ◌≡◌ {A = Result Kind Refusal} (Ok Kind.Sender) (Ok x) = (rw (a, b) at e) in let g : Kind.Sender ≡ x = (cc) in rw (← g) (sym (eqb-true k 2 b)))
+      (λ b. cases (eqb k 3) (λ d. let f : ◌≡◌ {A = Result Kind Refusal} (Ok Kind.KeyNumber) (Ok x) = (rw (a, b, d) at e) in let g : Kind.KeyNumber ≡ x = (cc) in rw (← g) (sym (eqb-true k 3 d)))
+      (λ d. let f : ◌≡◌ {A = Result Kind Refusal} (Err Refusal.JournalKind) (Ok x) = (rw (a, b, d) at e) in absurd (cc))))

@@ -5,10 +5,9 @@ use Rattle.std.specs.Prelude.{ℕ, ◌%◌, Bool, true, false, cond, List, [], �
 use Rattle.octets.specs.Refusals.{unless}
 use Rattle.octets.specs.Writing.{Run}
 use Rattle.senders.specs.declared.SenderRecord.{SenderRecord}
-use Rattle.journal.specs.declared.{Recovered.Recovered, NextCounter.NextCounter}
 use Rattle.journal.specs.Format.{complete_length}
-use Rattle.journal.specs.Recovery.{recover_answer}
-use Rattle.journal.specs.Writing.{write_record, next_counter}
+use Rattle.journal.specs.Recovery.{Recovered, recover_answer}
+use Rattle.journal.specs.Writing.{write_record, NextCounter, next_counter}
 use Rattle.journal.specs.Shrinking.{shrink}
 
 -- ---- a gateway

@@ -1,12 +1,13 @@
 -- What recovery takes from a journal (document 02, 6): the largest ceiling, or 0; each sender once, by first appearance, with its last
 -- counter; the last key number, or none; and the length of the complete records. It fills the list of senders anew.
 -- Assumes nothing.
-use Rattle.std.specs.Prelude.{ℕ, zero, suc, cond, List, [], ◌∷◌, eqb, ltb, length, Option, Some, None}
-use Rattle.octets.specs.Refusals.{unless, on, first_of}
+use Rattle.std.specs.Prelude.{ℕ, zero, suc, cond, List, [], ◌∷◌, eqb, ltb, length, Option, Some, None, Result, Ok, Err}
+use Rattle.octets.specs.declared.refusals.Refusal.{Refusal}
+use Rattle.octets.specs.Refusals.{unless, on, first_of, number_of}
 use Rattle.senders.specs.declared.SenderRecord.{SenderRecord}
 use Rattle.senders.specs.Records.{record_of, free_record}
 use Rattle.senders.specs.Senders.{counted_places, counted}
-use Rattle.journal.specs.declared.{format.JournalRecord.JournalRecord, Recovered.Recovered}
+use Rattle.journal.specs.declared.{format.JournalRecord.JournalRecord, Recovery.Recovery}
 use Rattle.journal.specs.Format.{records, unknown_kind, complete_length}
 
 -- ---- the state that records make
@@ -74,11 +75,24 @@ anew (suc n) ss [] = []
 anew (suc n) [] (x ∷ l) = free_record ∷ anew n [] l
 anew (suc n) (s ∷ ss) (x ∷ l) = s ∷ anew n ss l
 
+-- what recovery answers: a refusal's number alone; or 0, the largest ceiling (0 if none), the last key number or none, and the
+-- length of the complete records
+pub record Recovered : Type 0 where
+  pub refusal : ℕ
+  pub ceiling : ℕ
+  pub key_number : Option ℕ
+  pub complete : ℕ
+
 abbrev pub recover_given : List ℕ → Recovered
 recover_given j = record { refusal = 0; ceiling = (state_of j).ceiling; key_number = (state_of j).key_number; complete = complete_length j }
 
 abbrev pub recover_nothing : ℕ → Recovered
 recover_nothing n = record { refusal = n; ceiling = 0; key_number = None; complete = 0 }
+
+-- recovery's answer, of the code's
+abbrev pub told_recovered : Result Recovery Refusal → Recovered
+told_recovered (Ok r) = record { refusal = 0; ceiling = r.ceiling; key_number = r.key_number; complete = r.complete }
+told_recovered (Err r) = recover_nothing (number_of r)
 
 -- for the journal and the list's places
 unfoldable pub recover_answer : List ℕ → ℕ → Recovered

@@ -1,10 +1,11 @@
 -- Writing the next record of a journal, and the next outgoing counter (document 02, 6).
 -- Assumes nothing.
-use Rattle.std.specs.Prelude.{ℕ, suc, Bool, false, cond, not, ◌||◌, List, [], ◌∷◌, eqb, leb, ltb, length}
-use Rattle.octets.specs.Refusals.{unless, on, first_of}
+use Rattle.std.specs.Prelude.{ℕ, suc, Bool, false, cond, not, ◌||◌, List, [], ◌∷◌, eqb, leb, ltb, length, Result, Ok, Err}
+use Rattle.octets.specs.declared.refusals.Refusal.{Refusal}
+use Rattle.octets.specs.Refusals.{unless, on, first_of, number_of}
 use Rattle.octets.specs.Writing.{Run, written}
 use Rattle.senders.specs.Senders.{counted_places}
-use Rattle.journal.specs.declared.{format.JournalRecord.JournalRecord, NextCounter.NextCounter}
+use Rattle.journal.specs.declared.format.JournalRecord.{JournalRecord}
 use Rattle.journal.specs.Format.{is_kind, record_bytes, records, unknown_kind}
 use Rattle.journal.specs.Recovery.{applied, state_of}
 
@@ -39,11 +40,21 @@ unfoldable pub next_refusal : List ℕ → ℕ → ℕ
 next_refusal j last =
     first_of (on 25 (unknown_kind j) ∷ on 26 (leb 0xFFFFFFFE last) ∷ on 27 (not (some_ceiling (suc last) (records j))) ∷ [])
 
+-- what asking for the next counter answers: a refusal's number alone, or 0 and the counter
+pub record NextCounter : Type 0 where
+  pub refusal : ℕ
+  pub counter : ℕ
+
 abbrev pub next_given : ℕ → NextCounter
 next_given last = record { refusal = 0; counter = suc last }
 
 abbrev pub next_nothing : ℕ → NextCounter
 next_nothing n = record { refusal = n; counter = 0 }
+
+-- that answer, of the code's
+abbrev pub told_next : Result ℕ Refusal → NextCounter
+told_next (Ok n) = record { refusal = 0; counter = n }
+told_next (Err r) = next_nothing (number_of r)
 
 unfoldable pub next_counter : List ℕ → ℕ → NextCounter
 next_counter j last = unless (next_refusal j last) (next_given last) (next_nothing (next_refusal j last))

@@ -1,26 +1,77 @@
 // A record of the journal: one kind byte and a body of the length that the kind fixes.
-ghost use Rattle.std.specs.Prelude.{◌≡◌, true, ◌+◌, ◌≤◌, ◌<◌, length, get_or};
+ghost use Rattle.std.specs.Prelude.{◌≡◌, ◌+◌, ◌≤◌, length, drop, MatchOption};
 ghost use Rattle.octets.specs.Strings.{over};
-ghost use Rattle.journal.specs.declared.format.JournalRecord.{JournalRecord};
-ghost use Rattle.journal.specs.Format.{is_kind, body_length, record_at, record_bytes};
+ghost use Rattle.journal.specs.Format.{body_length, record_bytes};
 ghost use Rattle.journal.specs.Writing.{record_of_kind};
-ghost use Rattle.journal.specs.Scan.{whole_at};
+ghost use Rattle.journal.specs.Scan.{kind_of, byte_of, kind_in, first_record};
 
+use octets::refusals::Refusal;
 use octets::{byte_at, put_u8, put_u32, put_u64, read_u32, read_u64};
 
-// The kinds.
-pub const CEILING: u8 = 1;
+// The kinds, by their bytes.
+#[derive(Clone, Copy)]
+pub enum Kind {
+    Ceiling = 1,
+    Sender = 2,
+    KeyNumber = 3,
+}
 
-pub const SENDER: u8 = 2;
+impl TryFrom<u8> for Kind {
+    type Error = Refusal;
 
-pub const KEY_NUMBER: u8 = 3;
+    ghost try_from_gives = { λ byte kind. kind ≡ kind_of byte };
 
-// The length of a record of each kind.
-pub const CEILING_LENGTH: usize = 5;
+    fn try_from(byte: u8) -> Result<Kind, Refusal> {
+        match byte {
+            1 => Ok(Kind::Ceiling),
+            2 => Ok(Kind::Sender),
+            3 => Ok(Kind::KeyNumber),
+            _ => Err(Refusal::JournalKind),
+        }
+    }
+}
 
-pub const SENDER_LENGTH: usize = 13;
+impl Kind {
+    // Its byte.
+    pub fn byte(self) -> u8
+        ensures { result ≡ byte_of self }
+    {
+        self as u8
+    }
 
-pub const KEY_NUMBER_LENGTH: usize = 2;
+    // The length of the body that it fixes.
+    #[tactic(auto, unfolding(crate::specs::Format::body_length))]
+    pub fn body_length(self) -> usize
+        ensures length { result ≡ body_length (byte_of self) }
+        ensures bound { result ≤ 12 }
+    {
+        match self {
+            Kind::Ceiling => 4,
+            Kind::Sender => 12,
+            Kind::KeyNumber => 1,
+        }
+    }
+
+    // The length of a record, the kind byte counted.
+    pub fn length(self) -> usize
+        ensures length { result ≡ 1 + body_length (byte_of self) }
+        ensures bound { result ≤ 13 }
+    {
+        1 + self.body_length()
+    }
+
+    // The record of a kind, by those of the values that it takes.
+    #[tactic(auto, unfolding(crate::specs::Writing::record_of_kind))]
+    pub fn record(self, sender: u64, counter: u32, key_number: u8) -> JournalRecord
+        ensures { result ≡ record_of_kind (byte_of self) sender counter key_number }
+    {
+        match self {
+            Kind::Ceiling => JournalRecord::Ceiling(counter),
+            Kind::Sender => JournalRecord::Sender(sender, counter),
+            Kind::KeyNumber => JournalRecord::KeyNumber(key_number),
+        }
+    }
+}
 
 // A ceiling; a sender, its first wire byte lowest, and its counter; an active key number.
 #[derive(Clone, Copy)]
@@ -30,131 +81,58 @@ pub enum JournalRecord {
     KeyNumber(u8),
 }
 
-// Whether a byte is a kind.
-pub fn is_kind(kind: u8) -> bool
-    ensures { result ≡ is_kind kind }
-{
-    if kind == CEILING {
-        return true;
+impl JournalRecord {
+    // Its kind.
+    pub fn kind(self) -> Kind
+        ensures { result ≡ kind_in self }
+    {
+        match self {
+            JournalRecord::Ceiling(_) => Kind::Ceiling,
+            JournalRecord::Sender(_, _) => Kind::Sender,
+            JournalRecord::KeyNumber(_) => Kind::KeyNumber,
+        }
     }
-    if kind == SENDER {
-        return true;
-    }
-    kind == KEY_NUMBER
-}
 
-// The length of the body that a kind fixes, or 0 if it is none.
-#[tactic(auto, unfolding(crate::specs::Format::body_length))]
-pub fn body_length(kind: u8) -> usize
-    ensures { (result ≡ body_length kind) × (result ≤ 12) }
-{
-    if kind == CEILING {
-        return 4;
+    // Its length.
+    #[tactic(auto, unfolding(crate::specs::Format::record_bytes, crate::specs::Format::body_length, octets::specs::Numbers::le))]
+    pub fn length(self) -> usize
+        ensures length { result ≡ length (record_bytes self) }
+        ensures bound { result ≤ 13 }
+    {
+        self.kind().length()
     }
-    if kind == SENDER {
-        return 12;
-    }
-    if kind == KEY_NUMBER {
-        return 1;
-    }
-    0
-}
 
-// The length of the record at place i, or 0 if no complete one of a known kind stands there.
-#[tactic(auto, unfolding(crate::specs::Scan::whole_at, crate::specs::Format::body_length))]
-pub fn whole_at(journal: &[u8], i: usize) -> usize
-    ensures { result ≡ whole_at journal.now i }
-{
-    if journal.len() <= i {
-        return 0;
+    // The record at the front and the bytes behind it, if a complete one of a known kind stands there.
+    #[tactic(auto, unfolding(crate::specs::Scan::first_record, crate::specs::Format::record_at, crate::specs::Format::body_length, crate::specs::Format::record_bytes, octets::specs::Numbers::le))]
+    pub fn read(bytes: &[u8]) -> Option<(JournalRecord, &[u8])>
+        ensures { MatchOption result (first_record bytes.now ≡ None) (λ p. (first_record bytes.now ≡ Some p.0) × (p.1.now ≡ drop (length (record_bytes p.0)) bytes.now)) }
+    {
+        let kind = Kind::try_from(*bytes.first()?).ok()?;
+        let behind = bytes.get(kind.length()..)?;
+        let record = match kind {
+            Kind::Ceiling => JournalRecord::Ceiling(read_u32(bytes, 1)),
+            Kind::Sender => JournalRecord::Sender(read_u64(bytes, 1), read_u32(bytes, 9)),
+            Kind::KeyNumber => JournalRecord::KeyNumber(byte_at(bytes, 1)),
+        };
+        Some((record, behind))
     }
-    let body = body_length(journal[i]);
-    if body == 0 {
-        return 0;
-    }
-    if journal.len() - i <= body {
-        return 0;
-    }
-    body + 1
-}
 
-// The complete record at place i.
-#[tactic(auto, unfolding(crate::specs::Format::record_at, crate::specs::Format::body_length))]
-pub fn record_at(journal: &[u8], i: usize) -> JournalRecord
-    requires { i + body_length (get_or journal.now i 0) < length journal.now }
-    ensures { result ≡ record_at journal.now i }
-{
-    let kind = byte_at(journal, i);
-    if kind == CEILING {
-        return JournalRecord::Ceiling(read_u32(journal, i + 1));
-    }
-    if kind == SENDER {
-        return JournalRecord::Sender(read_u64(journal, i + 1), read_u32(journal, i + 9));
-    }
-    JournalRecord::KeyNumber(byte_at(journal, i + 1))
-}
-
-// The record of a kind, by those of the values that it takes.
-#[tactic(auto, unfolding(crate::specs::Writing::record_of_kind))]
-pub fn record_of_kind(kind: u8, sender: u64, counter: u32, key_number: u8) -> JournalRecord
-    ensures { result ≡ record_of_kind kind sender counter key_number }
-{
-    if kind == CEILING {
-        return JournalRecord::Ceiling(counter);
-    }
-    if kind == SENDER {
-        return JournalRecord::Sender(sender, counter);
-    }
-    JournalRecord::KeyNumber(key_number)
-}
-
-// The length of a record.
-#[tactic(auto, unfolding(crate::specs::Format::record_bytes, octets::specs::Numbers::le))]
-pub fn record_length(r: JournalRecord) -> usize
-    ensures { result ≡ length (record_bytes r) }
-{
-    match r {
-        JournalRecord::Ceiling(_) => CEILING_LENGTH,
-        JournalRecord::Sender(_, _) => SENDER_LENGTH,
-        JournalRecord::KeyNumber(_) => KEY_NUMBER_LENGTH,
-    }
-}
-
-// Write a record at a place of the output, a function for each kind.
-pub fn put_ceiling(out: &mut [u8], at: usize, ceiling: u32)
-    requires { at + 5 ≤ length out.old }
-    ensures { out.new ≡ over out.old at (record_bytes (JournalRecord.Ceiling ceiling)) }
-{
-    put_u8(out, at, CEILING);
-    put_u32(out, at + 1, ceiling);
-}
-
-pub fn put_sender(out: &mut [u8], at: usize, sender: u64, counter: u32)
-    requires { at + 13 ≤ length out.old }
-    ensures { out.new ≡ over out.old at (record_bytes (JournalRecord.Sender sender counter)) }
-{
-    put_u8(out, at, SENDER);
-    put_u64(out, at + 1, sender);
-    put_u32(out, at + 9, counter);
-}
-
-pub fn put_key_number(out: &mut [u8], at: usize, key_number: u8)
-    requires { at + 2 ≤ length out.old }
-    ensures { out.new ≡ over out.old at (record_bytes (JournalRecord.KeyNumber key_number)) }
-{
-    put_u8(out, at, KEY_NUMBER);
-    put_u8(out, at + 1, key_number);
-}
-
-// Write a record to the front of the output.
-#[tactic(auto, unfolding(crate::specs::Format::record_bytes, octets::specs::Numbers::le))]
-pub fn put_record(out: &mut [u8], r: JournalRecord)
-    requires { length (record_bytes r) ≤ length out.old }
-    ensures { out.new ≡ over out.old 0 (record_bytes r) }
-{
-    match r {
-        JournalRecord::Ceiling(ceiling) => put_ceiling(out, 0, ceiling),
-        JournalRecord::Sender(sender, counter) => put_sender(out, 0, sender, counter),
-        JournalRecord::KeyNumber(key_number) => put_key_number(out, 0, key_number),
+    // Write it at place i, and give the place behind it.
+    #[tactic(auto, unfolding(crate::specs::Format::record_bytes, octets::specs::Numbers::le))]
+    pub fn put(self, out: &mut [u8], i: usize) -> usize
+        requires { i + length (record_bytes self) ≤ length out.old }
+        ensures place { result ≡ i + length (record_bytes self) }
+        ensures out { out.new ≡ over out.old i (record_bytes self) }
+    {
+        put_u8(out, i, self.kind().byte());
+        match self {
+            JournalRecord::Ceiling(ceiling) => put_u32(out, i + 1, ceiling),
+            JournalRecord::Sender(sender, counter) => {
+                put_u64(out, i + 1, sender);
+                put_u32(out, i + 9, counter);
+            }
+            JournalRecord::KeyNumber(key_number) => put_u8(out, i + 1, key_number),
+        }
+        i + self.length()
     }
 }

@@ -1,107 +1,71 @@
 // The shrunk journal, from what a pass gathered and the sorted senders.
-ghost use Rattle.std.specs.Prelude.{◌≡◌, ◌+◌, ◌*◌, ◌≤◌, length};
+ghost use Rattle.std.specs.Prelude.{◌≡◌, ◌+◌, ◌≤◌, length};
+ghost use Rattle.std.specs.Option.{option_to_list};
 ghost use Rattle.octets.specs.Strings.{over};
 ghost use Rattle.journal.specs.Format.{bytes_of};
-ghost use Rattle.journal.specs.Shrinking.{key_number_records, ceiling_records, sender_records};
-ghost use Rattle.journal.specs.Scan.{table_of, front_length, shrunk_length_by, shrink_refusal_by, shrunk_by};
+ghost use Rattle.journal.specs.Shrinking.{key_number_records, ceiling_records};
+ghost use Rattle.journal.specs.Scan.{shrunk_of};
 
-use crate::OptionKeyNumber;
-use crate::format::{
-    CEILING_LENGTH, KEY_NUMBER_LENGTH, SENDER_LENGTH, put_ceiling, put_key_number, put_sender,
-};
-use crate::scan::Scanned;
-use octets::refusals;
-use senders::COUNTED;
+use crate::Recovery;
+use crate::format::{JournalRecord, Kind};
+use senders::SenderRecord;
 
-// The length of the ceiling's record, or 0 if it is left out.
-#[tactic(auto, unfolding(crate::specs::Shrinking::ceiling_records, crate::specs::Format::record_bytes, octets::specs::Numbers::le))]
-fn ceiling_length(ceiling: u32) -> usize
-    ensures { result ≡ length (bytes_of (ceiling_records ceiling)) }
+// The key number's record, if there is one.
+#[tactic(auto, unfolding(crate::specs::Shrinking::key_number_records))]
+fn key_number_record(found: Recovery) -> Option<JournalRecord>
+    ensures { option_to_list result ≡ key_number_records found.key_number }
 {
-    if ceiling == 0 {
-        return 0;
-    }
-    CEILING_LENGTH
+    found.key_number.map(JournalRecord::KeyNumber)
 }
 
-// The length of the records before the senders.
-fn front_length(key_number: OptionKeyNumber, ceiling: u32) -> usize
-    ensures { (result ≡ front_length key_number ceiling) × (result ≤ 7) }
+// The ceiling's record, if it is above 0.
+#[tactic(auto, unfolding(crate::specs::Shrinking::ceiling_records))]
+fn ceiling_record(found: Recovery) -> Option<JournalRecord>
+    ensures { option_to_list result ≡ ceiling_records found.ceiling }
 {
-    let length = ceiling_length(ceiling);
-    match key_number {
-        OptionKeyNumber::Absent => length,
-        OptionKeyNumber::Present(_) => length + KEY_NUMBER_LENGTH,
-    }
+    (found.ceiling != 0).then_some(JournalRecord::Ceiling(found.ceiling))
 }
 
-// The refusal of shrinking, by what a pass gathered and the room in the output.
-#[tactic(auto, unfolding(crate::specs::Scan::shrink_refusal_by, crate::specs::Scan::shrunk_length_by, octets::specs::Refusals::first_of))]
-pub fn shrink_refusal(scanned: Scanned, room: usize) -> u8
-    ensures { result ≡ shrink_refusal_by scanned room }
+// The length of a record, or 0 if there is none.
+fn length_of(record: Option<JournalRecord>) -> usize
+    ensures length { result ≡ length (bytes_of (option_to_list «record»)) }
+    ensures bound { result ≤ 13 }
 {
-    if !scanned.known {
-        return refusals::JOURNAL_KIND;
-    }
-    if COUNTED < scanned.senders {
-        return refusals::NO_PLACE;
-    }
-    let key_number = scanned.key_number;
-    let front = front_length(key_number, scanned.ceiling);
-    if room < front + SENDER_LENGTH * scanned.senders {
-        return refusals::NO_ROOM;
-    }
-    0
+    record.map_or(0, |r| r.length())
 }
 
-// Write the key number's record at a place, if there is one, and give the place behind it.
-#[tactic(auto, unfolding(crate::specs::Shrinking::key_number_records, crate::specs::Format::record_bytes, octets::specs::Numbers::le))]
-fn put_known_key_number(out: &mut [u8], at: usize, key_number: OptionKeyNumber) -> usize
-    requires { at + length (bytes_of (key_number_records key_number)) ≤ length out.old }
-    ensures { (result ≡ at + length (bytes_of (key_number_records key_number))) × (out.new ≡ over out.old at (bytes_of (key_number_records key_number))) }
+// Write a record at place i, if there is one, and give the place behind it.
+#[tactic(auto, using(octets::proofs::Strings::over_nil))]
+fn put_some(record: Option<JournalRecord>, out: &mut [u8], i: usize) -> usize
+    requires { i + length (bytes_of (option_to_list «record»)) ≤ length out.old }
+    ensures place { result ≡ i + length (bytes_of (option_to_list «record»)) }
+    ensures out { out.new ≡ over out.old i (bytes_of (option_to_list «record»)) }
 {
-    match key_number {
-        OptionKeyNumber::Absent => at,
-        OptionKeyNumber::Present(k) => {
-            put_key_number(out, at, k);
-            at + KEY_NUMBER_LENGTH
-        }
+    match record {
+        Some(r) => r.put(out, i),
+        None => i,
     }
 }
 
-// Write the ceiling's record at a place, if it is above 0, and give the place behind it.
-#[tactic(auto, unfolding(crate::specs::Shrinking::ceiling_records, crate::specs::Format::record_bytes, octets::specs::Numbers::le))]
-fn put_some_ceiling(out: &mut [u8], at: usize, ceiling: u32) -> usize
-    requires { at + length (bytes_of (ceiling_records ceiling)) ≤ length out.old }
-    ensures { (result ≡ at + length (bytes_of (ceiling_records ceiling))) × (out.new ≡ over out.old at (bytes_of (ceiling_records ceiling))) }
+// The length of the shrunk journal.
+pub fn shrunk_length(found: Recovery, senders: &[SenderRecord]) -> usize
+    requires { length senders.now ≤ 64 }
+    ensures { result ≡ length (bytes_of (shrunk_of found senders.now)) }
 {
-    if ceiling == 0 {
-        return at;
-    }
-    put_ceiling(out, at, ceiling);
-    at + CEILING_LENGTH
-}
-
-// Write the records of the first n senders from a place on.
-fn put_senders(out: &mut [u8], at: usize, addresses: &[u64], counters: &[u32], n: usize)
-    requires { (at + 13 * n ≤ length out.old) × ((n ≤ length addresses.now) × (n ≤ length counters.now)) }
-    ensures { out.new ≡ over out.old at (bytes_of (sender_records (table_of n addresses.now counters.now))) }
-{
-    let mut i = 0;
-    while i < n {
-        put_sender(out, at + SENDER_LENGTH * i, addresses[i], counters[i]);
-        i += 1;
-    }
+    let front = length_of(key_number_record(found)) + length_of(ceiling_record(found));
+    front + Kind::Sender.length() * senders.len()
 }
 
 // Write the shrunk journal to the front of the output, and give its length.
-pub fn put_shrunk(out: &mut [u8], scanned: Scanned, addresses: &[u64], counters: &[u32]) -> usize
-    requires { (shrunk_length_by scanned ≤ length out.old) × ((scanned.senders ≤ length addresses.now) × (scanned.senders ≤ length counters.now)) }
-    ensures { (result ≡ shrunk_length_by scanned) × (out.new ≡ over out.old 0 (shrunk_by scanned (table_of scanned.senders addresses.now counters.now))) }
+pub fn put_shrunk(found: Recovery, senders: &[SenderRecord], out: &mut [u8]) -> usize
+    requires { length (bytes_of (shrunk_of found senders.now)) ≤ length out.old }
+    ensures length { result ≡ length (bytes_of (shrunk_of found senders.now)) }
+    ensures out { out.new ≡ over out.old 0 (bytes_of (shrunk_of found senders.now)) }
 {
-    let key_number = scanned.key_number;
-    let ceiling_at = put_known_key_number(out, 0, key_number);
-    let senders_at = put_some_ceiling(out, ceiling_at, scanned.ceiling);
-    put_senders(out, senders_at, addresses, counters, scanned.senders);
-    senders_at + SENDER_LENGTH * scanned.senders
+    let behind = put_some(key_number_record(found), out, 0);
+    let mut at = put_some(ceiling_record(found), out, behind);
+    for r in senders {
+        at = JournalRecord::Sender(r.address, r.counter).put(out, at);
+    }
+    at
 }

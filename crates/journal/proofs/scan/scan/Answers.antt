@@ -1,63 +1,53 @@
--- `scan` meets its contract. Assumes nothing.
-use mathlib.Core.Path.{refl, sym, ◌∙◌}
-use native.Mathlib.Omega.{arith}
-use Rattle.journal.proofs.Whole.{whole_told}
-use Rattle.journal.proofs.Passing.{reached_none, reached_next, reached_all}
+-- `scan` meets its contract: a turn goes behind the record at the front, and the pass stops where there is none. Assumes nothing.
+use Rattle.std.proofs.Common.{◌≡◌, sym, ◌∙◌, true, ◌<◌, length, get_or, Err, arith}
+use Rattle.std.proofs.lemmas.Result.{err_from_is_err_and}
+use Rattle.journal.specs.Format.{is_kind}
+use Rattle.journal.proofs.Passing.{reached_none, reached_ceiling, reached_sender, reached_key_number, reached_end, senders_end, reached_unknown}
+use Rattle.journal.proofs.Whole.{front_shorter, front_none, front_unknown, kind_known, kind_unknown}
 use Rattle.journal.proofs.scan.scan.Goals as goal
+use Rattle.journal.proofs.scan.scan.Goals.{in_default-rest, in-len1-up+in_ok-try_from}
 
-pub loop-whole-init : goal.loop-whole-init
-loop-whole-init c =
-    let a = c.args in
-    (c.whole_at-whole.ensures, (refl, (refl, reached_none a.journal.now a.room a.addresses.now a.counters.now)))
+pub loop-record-init : goal.loop-record-init
+loop-record-init g c = reached_none c.args.journal.now g.row.N _ c.requires
 
-pub record_at-r-requires : goal.record_at-r-requires
-record_at-r-requires c =
-    let l = c.loop-whole in
-    let a = c.args in
-    (whole_told a.journal.now l.at l.whole l.invariant.0 c.loop-whole-test.true).1.0
+pub loop-record-smaller-in-Ceiling : goal.loop-record-smaller-in-Ceiling
+loop-record-smaller-in-Ceiling g c = front_shorter _ _ _ c.in-Some.ensures
 
-pub keep_record-senders-requires : goal.keep_record-senders-requires
-keep_record-senders-requires c =
-    let l = c.loop-whole in
-    (omega (arith, c.requires.0, l.invariant.1.0), omega (arith, c.requires.1, l.invariant.1.1.0))
+pub loop-record-preserved-in-Ceiling : goal.loop-record-preserved-in-Ceiling
+loop-record-preserved-in-Ceiling g c =
+    reached_ceiling _ _ _ _ _ _ c.loop-record.invariant c.in-Some.record _ c.in-Some.ensures c.in-Ceiling.c _ c.in-Ceiling.is c.max-ceiling.ensures
 
-pub overflow_add-at : goal.overflow_add-at
-overflow_add-at c =
-    let l = c.loop-whole in
-    let told = whole_told c.args.journal.now l.at l.whole l.invariant.0 c.loop-whole-test.true in
-    record { fits = omega (arith, told.1.1.1) }
+pub loop-record-smaller-in-Sender : goal.loop-record-smaller-in-Sender
+loop-record-smaller-in-Sender g c = front_shorter _ _ _ c.in-Some.ensures
 
-pub loop-whole-smaller : goal.loop-whole-smaller
-loop-whole-smaller c =
-    let l = c.loop-whole in
-    let told = whole_told c.args.journal.now l.at l.whole l.invariant.0 c.loop-whole-test.true in
-    omega (arith, told.1.1.0, told.1.1.1)
+pub loop-record-preserved-in-Sender : goal.loop-record-preserved-in-Sender
+loop-record-preserved-in-Sender g c =
+    reached_sender _ _ _ _ _ _ c.loop-record.invariant c.in-Some.record _ c.in-Some.ensures c.in-Sender.sender c.in-Sender.counter _ c.in-Sender.is c.keep.ensures
 
-pub loop-whole-preserved : goal.loop-whole-preserved
-loop-whole-preserved c =
-    let l = c.loop-whole in
-    let a = c.args in (
-      c.whole_at-whole-in-loop-whole.ensures,
-      (
-        c.keep_record-senders.auto.addresses ∙ l.invariant.1.0,
-        (
-          c.keep_record-senders.auto.counters ∙ l.invariant.1.1.0,
-          reached_next a.journal.now a.room l.at l.ceiling l.key_number l.senders l.addresses l.counters l.invariant.1.1.1
-              l.whole l.invariant.0 c.loop-whole-test.true _ c.record_at-r.ensures _ c.ceiling_after-ceiling.ensures
-              _ c.key_number_after-key_number.ensures _ _ _ c.keep_record-senders.ensures,
-        ),
-      ),
-    )
+pub loop-record-smaller : goal.loop-record-smaller
+loop-record-smaller g c = front_shorter _ _ _ c.in-Some.ensures
 
-pub shape_of-addresses : goal.shape_of-addresses
-shape_of-addresses c = c.loop-whole.invariant.1.0
+pub loop-record-preserved : goal.loop-record-preserved
+loop-record-preserved g c =
+    reached_key_number _ _ _ _ _ _ c.loop-record.invariant c.in-Some.record _ c.in-Some.ensures c.in-KeyNumber.k c.in-KeyNumber.is
 
-pub shape_of-counters : goal.shape_of-counters
-shape_of-counters c = c.loop-whole.invariant.1.1.0
+pub returns-in_err-try_from-clause-answer : goal.returns-in_err-try_from-clause-answer
+returns-in_err-try_from-clause-answer g c =
+    let rest = c.loop-record.rest.now in
+    let p = err_from_is_err_and c.from_residual.result c.from_residual.ensures.1 in
+    let e : c.try_from.result ≡ Err c.in_err-try_from.field-0.0 = c.in_err-try_from.was in
+    let k = kind_unknown (get_or rest 0 0) c.in_err-try_from.field-0.0 (sym c.try_from.ensures ∙ e) in
+    rw (p.1, p.2, ← k.1) (reached_unknown _ _ rest _ _ _ c.loop-record.invariant (front_unknown rest c.in-len1-up.len_at_least k.0))
 
 pub returns : goal.returns
-returns c =
-    let l = c.loop-whole in
-    let a = c.args in
-    reached_all a.journal.now a.room l.at l.ceiling l.key_number l.senders l.addresses l.counters c.ends_known.result
-    l.invariant.1.1.1 (sym l.invariant.0 ∙ c.loop-whole-test.false) c.ends_known.ensures
+returns g c =
+    let rest = c.loop-record.rest.now in
+    let known : 0 < length rest → is_kind (get_or rest 0 0) ≡ true = λ h. elim c.if-rest-lt1.branch [
+      | in_default-rest w ↦ absurd (omega (arith, h, w.in_default-rest.len_below))
+      | in-len1-up+in_ok-try_from w ↦ kind_known (get_or rest 0 0) w.in_ok-try_from.field-0 (sym w.try_from.ensures ∙ w.in_ok-try_from.was)
+    ] in
+    let q = front_none rest c.in_default.ensures known in
+    record {
+      answer = reached_end _ _ rest _ _ _ c.loop-record.invariant q.0 q.1;
+      senders = senders_end _ _ rest _ _ _ c.loop-record.invariant q.0 q.1;
+    }

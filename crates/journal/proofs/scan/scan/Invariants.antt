@@ -1,17 +1,12 @@
--- The loop's invariant: what was gathered, with the records from this place on applied, is the journal's state.
--- The measure is what is left of the journal. Assumes nothing.
-use mathlib.Core.Path.{◌≡◌}
-use Prim.Native.Nat.{◌-◌}
-use lib.ListN.{length}
-use Rattle.journal.specs.Scan.{whole_at}
+-- What was gathered, with the records still to come applied, is the journal's state. The measure is what is left of the journal.
+-- Assumes nothing.
+use Rattle.std.proofs.Common.{length}
+use Rattle.journal.specs.Scan.{held}
 use Rattle.journal.proofs.Passing.{Reached}
 use Rattle.journal.proofs.scan.scan.Given as goal
 
-abbrev pub invariant-loop-whole : goal.invariant-loop-whole
-invariant-loop-whole l = (l.whole ≡ whole_at l.journal l.at)
-    × ((length l.addresses ≡ length l.initial.addresses)
-    × ((length l.counters ≡ length l.initial.counters)
-    × Reached l.journal l.room l.at l.ceiling l.key_number l.senders l.addresses l.counters))
+abbrev pub invariant-loop-record : goal.invariant-loop-record
+invariant-loop-record g l = Reached l.journal g.row.N l.rest l.ceiling l.key_number (held l.table.count l.table.places)
 
-abbrev pub decreases-loop-whole : goal.decreases-loop-whole
-decreases-loop-whole l = length l.journal - l.at
+abbrev pub decreases-loop-record : goal.decreases-loop-record
+decreases-loop-record g l = length l.rest

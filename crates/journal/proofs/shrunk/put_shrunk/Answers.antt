@@ -1,36 +1,23 @@
--- `put_shrunk` meets its contract: the three parts end to end. Assumes nothing.
-use native.Mathlib.Omega.{arith}
-use Rattle.octets.proofs.Strings.{over_three}
-use Rattle.journal.specs.Scan.{front_length, shrunk_length_by, shrunk_by}
+-- `put_shrunk` meets its contract: the records before the senders, and then one sender's behind the other. Assumes nothing.
+use Rattle.std.proofs.Common.{arith}
+use Rattle.senders.specs.Records.{free_record}
+use Rattle.journal.proofs.ShrunkBytes.{first_put, first_next, first_within}
 use Rattle.journal.proofs.shrunk.put_shrunk.Goals as goal
 
-pub put_known_key_number-ceiling_at-requires : goal.put_known_key_number-ceiling_at-requires
-unfolding shrunk_length_by front_length
-put_known_key_number-ceiling_at-requires c = omega (arith, c.requires.0)
+pub loop-r-init : goal.loop-r-init
+loop-r-init c =
+    let p = first_put c.args.found c.args.senders.now c.args.out.now _ _ _ _ _ _ c.key_number_record.ensures c.ceiling_record.ensures
+    c.put_some-behind.ensures.place c.put_some-behind.ensures.out c.put_some-at.ensures.place c.put_some-at.ensures.out in
+    record { place = p.0; out = p.1 }
 
-pub put_some_ceiling-senders_at-requires : goal.put_some_ceiling-senders_at-requires
-unfolding shrunk_length_by front_length
-put_some_ceiling-senders_at-requires c =
-    omega (arith, c.requires.0, c.put_known_key_number-ceiling_at.ensures.0)
+pub put-at-requires : goal.put-at-requires
+put-at-requires c =
+    let l = c.loop-r in
+    omega (arith, l.invariant.place, c.requires, first_within c.args.found c.args.senders.now l.r-index c.loop-r-test.true free_record, l.auto.out)
 
-pub put_senders-requires : goal.put_senders-requires
-unfolding shrunk_length_by front_length
-put_senders-requires c = (
-  omega (arith, c.requires.0, c.put_known_key_number-ceiling_at.ensures.0, c.put_some_ceiling-senders_at.ensures.0),
-  c.requires.1,
-)
-
-pub overflow_add-result : goal.overflow_add-result
-unfolding shrunk_length_by front_length
-overflow_add-result c =
-    omega (arith, c.requires.0, c.put_known_key_number-ceiling_at.ensures.0, c.put_some_ceiling-senders_at.ensures.0)
-
-pub returns : goal.returns
-unfolding shrunk_length_by front_length shrunk_by
-returns c =
-    let a = c.args in
-    let at = c.put_known_key_number-ceiling_at.ensures.0 in
-    let behind = c.put_some_ceiling-senders_at.ensures.0 in (
-      omega (arith, at, behind),
-      over_three a.out.now _ _ _ 0 _ _ _ _ _ (omega arith) at behind c.put_known_key_number-ceiling_at.ensures.1 c.put_some_ceiling-senders_at.ensures.1 c.put_senders.ensures,
-    )
+pub loop-r-preserved : goal.loop-r-preserved
+loop-r-preserved c =
+    let l = c.loop-r in
+    let p = first_next c.args.found c.args.senders.now l.r-index c.loop-r-test.true free_record c.args.out.now l.out _ l.at _
+    l.invariant.place l.invariant.out c.put-at.ensures.place c.put-at.ensures.out in
+    record { place = p.0; out = p.1 }
