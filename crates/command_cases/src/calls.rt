@@ -1,27 +1,26 @@
 // The calls of a case, by the letter that its line begins with (data/commands.txt says which words follow).
 
-use casefile::fields::{field, whole};
-use casefile::lines::{Line, shown};
+use casefile::fields::{exact, field};
 use casefile::{file, outputs, words};
 use command_records::COMMAND_RECORD_SIZE;
-use commands::{NwkCommandIdCode, NwkCommandRead, NwkCommandWithLists};
-use octets::Written;
+use commands::NwkCommandWithLists;
+use octets::refusals::Refusal;
+
+// The number that an answer gives, 0 where it is no refusal.
+fn number<T: Copy>(answer: Result<T, Refusal>) -> u8 {
+    answer.err().map_or(0, |refusal| refusal.number())
+}
 
 // Word k of the line is the number and the bytes behind it.
 fn is_answer(line: &[u8], k: usize, number: u8, bytes: &[u8]) -> bool {
     let mut expected = [0u8; 160];
-    let f = field(line, k, &mut expected);
-    if !f.good {
+    let Ok(n) = field(line, k, &mut expected) else {
         return false;
+    };
+    match expected[..n].split_first() {
+        Some((&first, rest)) => first == number && check::same(rest, bytes),
+        None => false,
     }
-    let n = f.n;
-    if n == 0 {
-        return false;
-    }
-    if expected[0] != number {
-        return false;
-    }
-    check::same(&expected[1..n], bytes)
 }
 
 // Where a command's own list stands in its record; the record's end for a command that has none.
@@ -36,139 +35,99 @@ fn list_at(id: u8) -> usize {
     }
 }
 
-// Puts word k, the own list of the command with this identifier, at its place in the record.
-fn put_list(line: &[u8], k: usize, id: u8, record: &mut [u8]) -> bool {
-    let at = file::within(list_at(id), record);
-    let f = field(line, k, &mut record[at..]);
-    f.good
+// The record of the fields and the list that words 3 and 4 say, behind the refusal number.
+fn record_said(line: &[u8]) -> Option<(u8, [u8; 535])> {
+    let mut fields = [0u8; 26];
+    if field(line, 3, &mut fields).ok()? < 2 {
+        return None;
+    }
+    let mut record = [0u8; 535];
+    octets::copy_at(&mut record, 0, &fields[1..]);
+    let at = file::within(list_at(fields[1]), &record);
+    field(line, 4, &mut record[at..]).ok()?;
+    Some((fields[0], record))
 }
 
 // What was read has the refusal number and the fields of word 3, and the list of word 4: every byte of its record.
-fn is_record(line: &[u8], read: NwkCommandRead, record: &[u8]) -> bool {
-    let mut fields = [0u8; 26];
-    let f = field(line, 3, &mut fields);
-    if !f.good {
+fn is_record(line: &[u8], refusal: u8, record: &[u8]) -> bool {
+    let Some(said) = record_said(line) else {
         return false;
-    }
-    if f.n < 2 {
-        return false;
-    }
-    if fields[0] != read.refusal {
-        return false;
-    }
-    let mut expected = [0u8; 535];
-    octets::copy_at(&mut expected, 0, &fields[1..]);
-    if put_list(line, 4, fields[1], &mut expected) {
-        return check::same(&expected, record);
-    }
-    false
-}
-
-// Writes the command into the first bytes of the output, as many as there is room.
-fn write_into(command: NwkCommandWithLists, room: u8, out: &mut [u8]) -> Written {
-    let r = file::within(room as usize, out);
-    command_writer::serialize(command, &mut out[..r])
-}
-
-// The output holds the bytes of word k behind the refusal number, so many of them, and the rest is as it was.
-fn is_left(line: &[u8], k: usize, answer: Written, out: &[u8]) -> bool {
-    let n = file::within(answer.length, out);
-    if !outputs::untouched(&out[n..]) {
-        return false;
-    }
-    is_answer(line, k, answer.refusal, &out[..n])
+    };
+    let expected = said.1;
+    said.0 == refusal && check::same(&expected, record)
 }
 
 // Writing a record into so many bytes gives word k: the refusal number, then the bytes written. The rest stays.
 fn is_written(line: &[u8], k: usize, record: &[u8], room: u8) -> bool {
-    let given = command_records::read_record(record);
-    if given.refusal != 0 {
-        return is_answer(line, k, given.refusal, b"");
-    }
-    let command = given.command;
-    let mut out = [0xA5u8; 160];
-    let answer = write_into(command, room, &mut out);
-    is_left(line, k, answer, &out)
+    let command = match command_records::read_record(record) {
+        Ok(command) => command,
+        Err(refusal) => return is_answer(line, k, refusal.number(), b""),
+    };
+    let mut out = [outputs::FILLER; 160];
+    let r = file::within(usize::from(room), &out);
+    let answer = command_writer::serialize(command, &mut out[..r]);
+    let n = file::within(answer.unwrap_or(0), &out);
+    outputs::untouched(&out[n..]) && is_answer(line, k, number(answer), &out[..n])
 }
 
 // The command that word 2 of the line holds, read by the codec.
-fn read_input(line: &[u8]) -> NwkCommandRead {
+fn read_input(line: &[u8]) -> Option<Result<NwkCommandWithLists, Refusal>> {
     let mut input = [0u8; 160];
-    let f = field(line, 2, &mut input);
-    let n = f.n;
-    command_reader::from_bytes(&input[..n])
+    let n = field(line, 2, &mut input).ok()?;
+    Some(command_reader::from_bytes(&input[..n]))
+}
+
+// The record of what was read; beside a refusal that of an unparsed command without bytes.
+fn record_of(read: Result<NwkCommandWithLists, Refusal>) -> [u8; 535] {
+    let mut record = [0u8; 535];
+    if let Ok(command) = read {
+        command_records::put_command(&mut record, command);
+    }
+    record
 }
 
 // `R name input fields list written`: reading the input gives the record, and writing the record gives the bytes.
-fn read_case(line: &[u8]) -> bool {
-    let read = read_input(line);
-    let command = read.command;
-    let mut record = [0u8; 535];
-    command_records::put_command(&mut record, command);
-    if !is_record(line, read, &record) {
-        return false;
-    }
-    is_written(line, 5, &record, 160)
+fn read_case(line: &[u8]) -> Option<bool> {
+    let read = read_input(line)?;
+    let record = record_of(read);
+    Some(is_record(line, number(read), &record) && is_written(line, 5, &record, 160))
 }
 
 // `W name input place value room written`: the record of the input, with one byte changed, is written so.
-fn write_case(line: &[u8]) -> Line {
-    let mut place = [0u8; 2];
-    let mut value = [0u8; 1];
-    let mut room = [0u8; 1];
-    let p = field(line, 3, &mut place);
-    let v = field(line, 4, &mut value);
-    let r = field(line, 5, &mut room);
-    let good = is_whole(line, 6) && whole(p, 2) && whole(v, 1) && whole(r, 1);
-    shown(
-        good,
-        is_changed(line, place[0], place[1], value[0], room[0]),
-    )
-}
-
-// The record of the input, with the byte at a place changed, is written as word 6 says.
-fn is_changed(line: &[u8], high: u8, low: u8, value: u8, room: u8) -> bool {
-    let at = (high as usize) * 256 + (low as usize);
-    if at >= COMMAND_RECORD_SIZE {
-        return false;
+fn write_case(line: &[u8]) -> Option<bool> {
+    let place = exact::<2>(line, 3)?;
+    let [value] = exact::<1>(line, 4)?;
+    let [room] = exact::<1>(line, 5)?;
+    let mut record = record_of(read_input(line)?);
+    let at = usize::from(u16::from_be_bytes(place));
+    if COMMAND_RECORD_SIZE <= at {
+        return Some(false);
     }
-    let read = read_input(line);
-    let command = read.command;
-    let mut record = [0u8; 535];
-    command_records::put_command(&mut record, command);
     record[at] = value;
-    is_written(line, 6, &record, room)
+    Some(is_written(line, 6, &record, room))
 }
 
 // `S name code seconds`: the refusal number and the seconds of a timeout code.
-fn seconds_case(line: &[u8]) -> Line {
-    let mut code = [0u8; 1];
-    let c = field(line, 2, &mut code);
-    let answer = commands::codes::timeout_seconds(code[0]);
-    let mut seconds = [0u8; 4];
-    octets::put_u32(&mut seconds, 0, answer.seconds);
-    let good = is_whole(line, 3) && whole(c, 1);
-    shown(good, is_answer(line, 3, answer.refusal, &seconds))
+fn seconds_case(line: &[u8]) -> Option<bool> {
+    let [code] = exact::<1>(line, 2)?;
+    let answer = commands::codes::timeout_seconds(code);
+    let seconds = answer.unwrap_or(0).to_le_bytes();
+    Some(is_answer(line, 3, number(answer), &seconds))
 }
 
 // `I name input id`: the command identifier, 00 where it is unknown.
-fn id_case(line: &[u8]) -> bool {
-    let read = read_input(line);
-    let command = read.command;
-    let NwkCommandIdCode::Known(id) = command.command_id() else {
-        return is_answer(line, 3, 0, b"");
+fn id_case(line: &[u8]) -> Option<bool> {
+    let id = match read_input(line)? {
+        Ok(command) => command.command_id(),
+        Err(_) => None,
     };
-    is_answer(line, 3, id.code(), b"")
+    Some(is_answer(line, 3, id.map_or(0, |id| id.code()), b""))
 }
 
 // Word k of the line is well formed, or lies behind the last.
 fn is_word(line: &[u8], k: usize, last: usize) -> bool {
-    if k > last {
-        return true;
-    }
     let mut bytes = [0u8; 160];
-    let f = field(line, k, &mut bytes);
-    f.good
+    last < k || field(line, k, &mut bytes).is_ok()
 }
 
 // The case has a name, each word from 2 to the last is well formed, and there is none behind it.
@@ -182,13 +141,22 @@ fn is_whole(line: &[u8], last: usize) -> bool {
         && is_word(line, 6, last)
 }
 
-// What the case of a line shows.
-pub fn case(line: &[u8]) -> Line {
-    match words::letter(line) {
-        b'R' => shown(is_whole(line, 5), read_case(line)),
+// Whether the case of a line agrees, by its letter.
+pub fn agrees(line: &[u8]) -> Option<bool> {
+    let letter = words::letter(line);
+    let last = match letter {
+        b'R' => 5,
+        b'W' => 6,
+        b'S' | b'I' => 3,
+        _ => return None,
+    };
+    if !is_whole(line, last) {
+        return None;
+    }
+    match letter {
+        b'R' => read_case(line),
         b'W' => write_case(line),
         b'S' => seconds_case(line),
-        b'I' => shown(is_whole(line, 3), id_case(line)),
-        _ => Line::Damaged,
+        _ => id_case(line),
     }
 }

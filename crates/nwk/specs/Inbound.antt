@@ -3,8 +3,8 @@
 use Rattle.std.specs.Prelude.{ℕ, ◌+◌, ◌^◌, List, Option, Some, None}
 use Rattle.octets.specs.Refusals.{unless}
 use Rattle.types.specs.Keys.{key, key_bytes}
-use Rattle.senders.specs.declared.{SenderRecord.SenderRecord, Asked.Asked, Noted.Noted}
-use Rattle.senders.specs.Senders.{inbound_network_key}
+use Rattle.senders.specs.declared.SenderRecord.{SenderRecord}
+use Rattle.senders.specs.Senders.{Asked, Noted, inbound_network_key}
 use Rattle.nwk.specs.Answer.{answer, answer_by}
 
 -- ---- asking: the active key is two numbers

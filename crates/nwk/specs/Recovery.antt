@@ -1,9 +1,10 @@
 -- What the C functions over a journal answer (document 02, 6 and 7).
 -- Assumes nothing.
 use Rattle.std.specs.Prelude.{ℕ, ◌+◌, ◌*◌, ◌^◌, Option, Some, None}
-use Rattle.octets.specs.declared.Written.{Written}
+use Rattle.octets.specs.Writing.{Written}
 use Rattle.octets.specs.Refusals.{unless}
-use Rattle.journal.specs.declared.{Recovered.Recovered, NextCounter.NextCounter}
+use Rattle.journal.specs.Recovery.{Recovered}
+use Rattle.journal.specs.Writing.{NextCounter}
 use Rattle.nwk.specs.Answer.{answer}
 
 -- ---- recovery

@@ -5,21 +5,8 @@ ghost use Rattle.nwk.specs.Answer.{answer};
 ghost use Rattle.nwk.specs.Inbound.{asked, asked_answer, key_left, noted_answer};
 
 use crate::answer::answer;
-use senders::{Asked, Noted, OptionCounter, SenderRecord};
+use senders::SenderRecord;
 use types::Key;
-
-// Leave the key where asking gave one, and the answer.
-fn give_key(asked: Asked, key: &mut [u8; 16]) -> u64
-    ensures { (result ≡ asked_answer asked) × (key.new ≡ key_left asked key.old) }
-{
-    if asked.refusal != 0 {
-        return answer(asked.refusal, 0);
-    }
-    let active = asked.key;
-    let bytes = active.0;
-    *key = bytes;
-    answer(0, 16)
-}
 
 // The active key for a frame of this sender, key sequence number and counter; refusals 22 and 23. The list is left as it was.
 pub fn nwk_inbound_network_key(
@@ -34,30 +21,25 @@ pub fn nwk_inbound_network_key(
 ) -> u64
     ensures { (result ≡ asked_answer (asked key_first key_second active list.old sender key_sequence_number frame_counter)) × ((key.new ≡ key_left (asked key_first key_second active list.old sender key_sequence_number frame_counter) key.old) × (list.new ≡ list.old)) }
 {
-    let active_key = Key::from_halves(key_first, key_second);
-    let asked = senders::inbound_network_key(
-        active_key,
+    match senders::inbound_network_key(
+        Key::from_halves(key_first, key_second),
         active,
         list,
         sender,
         key_sequence_number,
         frame_counter,
-    );
-    give_key(asked, key)
-}
-
-// The answer of noting: the earlier counter in the length's place and bit 41 set, or the refusal alone.
-fn noted_answer(noted: Noted) -> u64
-    ensures { result ≡ noted_answer noted }
-{
-    let earlier = noted.earlier;
-    match earlier {
-        OptionCounter::Absent => answer(noted.refusal, 0),
-        OptionCounter::Present(counter) => counter as u64 + 0x200_0000_0000,
+    ) {
+        Ok(active_key) => {
+            let bytes = active_key.0;
+            *key = bytes;
+            answer(Ok(16))
+        }
+        Err(refusal) => answer(Err(refusal)),
     }
 }
 
-// Note a sender's counter, over its first record or in the first free place; refusal 24.
+// Note a sender's counter, over its first record or in the first free place; refusal 24. The earlier counter is in the length's place,
+// with bit 41 set.
 pub fn nwk_note_inbound_frame_counter(
     list: &mut [SenderRecord],
     sender: u64,
@@ -65,8 +47,11 @@ pub fn nwk_note_inbound_frame_counter(
 ) -> u64
     ensures { (result ≡ noted_answer (note sender frame_counter list.old).answer) × (list.new ≡ (note sender frame_counter list.old).list) }
 {
-    let noted = senders::note(list, sender, frame_counter);
-    noted_answer(noted)
+    match senders::note(list, sender, frame_counter) {
+        Ok(Some(earlier)) => u64::from(earlier) + 0x200_0000_0000,
+        Ok(None) => answer(Ok(0)),
+        Err(refusal) => answer(Err(refusal)),
+    }
 }
 
 // Forget a sender: every counted place that names it is left free, all zeros. Nothing is refused.
@@ -74,5 +59,5 @@ pub fn nwk_forget_sender(list: &mut [SenderRecord], sender: u64) -> u64
     ensures { (result ≡ answer 0 0) × (list.new ≡ forget sender list.old) }
 {
     senders::forget(list, sender);
-    answer(0, 0)
+    answer(Ok(0))
 }
