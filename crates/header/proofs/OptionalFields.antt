@@ -1,6 +1,7 @@
 -- The fields that may be missing: how long their bytes are, reading them from those bytes, and the bytes of what was read.
 -- Assumes nothing.
 use Rattle.std.specs.Prelude.{Option, Some, None}
+use Rattle.std.specs.Bool.{then_some}
 use mathlib.Core.Path.{◌≡◌, refl, sym, ap, ◌∙◌}
 use mathlib.Core.Bool.{Bool, true, false, cond}
 use mathlib.Core.List.{List, [], ◌∷◌, ◌++◌, append_assoc}
@@ -52,6 +53,11 @@ pub ieee_read : (f : List ℕ) (b : Bool) (i : ℕ) → Below 256 f → i + 8 * 
 ieee_read f true i u h = le_le_at 8 f i u h
 ieee_read f false i u h = refl
 
+-- what the code makes of a presence bit
+pub ieee_when : (b : Bool) (x : ℕ) → then_some b x ≡ ieee_if b x
+ieee_when true x = refl
+ieee_when false x = refl
+
 pub ieee_has : (b : Bool) (x : ℕ) → has_ieee (ieee_if b x) ≡ b
 ieee_has true x = refl
 ieee_has false x = refl
@@ -71,6 +77,10 @@ pub multicast_read : (f : List ℕ) (b : Bool) (i : ℕ) → Below 256 f → i +
     → multicast_bytes (multicast_if b (get_or f i 0)) ≡ take (bit b) (drop i f)
 multicast_read f true i u h = byte_read f i u (omega arith)
 multicast_read f false i u h = refl
+
+pub multicast_when : (b : Bool) (x : ℕ) → then_some b x ≡ multicast_if b x
+multicast_when true x = refl
+multicast_when false x = refl
 
 pub multicast_has : (b : Bool) (x : ℕ) → has_multicast (multicast_if b x) ≡ b
 multicast_has true x = refl
@@ -125,9 +135,13 @@ relays_more o i j rs h =
 
 -- ---- the source route
 
-pub route_length : (o : NwkSourceRoute) (rs : List Nwk) → length (route_bytes o rs) ≡ cond (has_route o) (2 + 2 * relay_count o) 0
-route_length NwkSourceRoute.Absent rs = refl
-route_length (NwkSourceRoute.Present n i) rs = simp (length-append, length_le, relay_length) (omega arith)
+pub route_length : (o : Option NwkSourceRoute) (rs : List Nwk) → length (route_bytes o rs) ≡ cond (has_route o) (2 + 2 * relay_count o) 0
+route_length None rs = refl
+route_length (Some r) rs = simp (length-append, length_le, relay_length) (omega arith)
+
+pub route_when : (b : Bool) (r : NwkSourceRoute) → then_some b r ≡ route_if b r.relay_count r.relay_index
+route_when true r = refl
+route_when false r = refl
 
 pub route_has : (b : Bool) (n i : ℕ) → has_route (route_if b n i) ≡ b
 route_has true n i = refl
@@ -137,23 +151,23 @@ pub route_count : (b : Bool) (n i : ℕ) → relay_count (route_if b n i) ≡ co
 route_count true n i = refl
 route_count false n i = refl
 
-pub route_back : (o : NwkSourceRoute) (rs : List Nwk) (r : List ℕ) → RouteFits o
+pub route_back : (o : Option NwkSourceRoute) (rs : List Nwk) (r : List ℕ) → RouteFits o
     → route_if (has_route o) (get_or (route_bytes o rs ++ r) 0 0) (get_or (route_bytes o rs ++ r) 1 0) ≡ o
-route_back NwkSourceRoute.Absent rs r h = refl
-route_back (NwkSourceRoute.Present n i) rs r h = rw (le_byte n h.0, le_byte i h.1) refl
+route_back None rs r h = refl
+route_back (Some o) rs r h = rw (le_byte o.relay_count h.0, le_byte o.relay_index h.1) refl
 
-pub route_relays : (o : NwkSourceRoute) (rs : List Nwk) (r : List ℕ) (i : ℕ) → RouteFits o → RelaysFit rs → i < relay_count o
+pub route_relays : (o : Option NwkSourceRoute) (rs : List Nwk) (r : List ℕ) (i : ℕ) → RouteFits o → RelaysFit rs → i < relay_count o
     → nwk (le_at 2 (route_bytes o rs ++ r) (2 + 2 * i)) ≡ get_or rs i no_nwk
-route_relays NwkSourceRoute.Absent rs r i h b l = absurd (omega arith)
-route_relays (NwkSourceRoute.Present n k) rs r i h b l =
-    rw (le_byte n h.0, le_byte k h.1)
-    (ap nwk (le_at_behind 2 (n ∷ k ∷ []) (relay_bytes n rs ++ r) (2 * i)) ∙ relay_at_lem n rs r i b l)
+route_relays None rs r i h b l = absurd (omega arith)
+route_relays (Some o) rs r i h b l =
+    rw (le_byte o.relay_count h.0, le_byte o.relay_index h.1)
+    (ap nwk (le_at_behind 2 (o.relay_count ∷ o.relay_index ∷ []) (relay_bytes o.relay_count rs ++ r) (2 * i)) ∙ relay_at_lem o.relay_count rs r i b l)
 
 -- relays that agree below the count make the same source route
-pub route_same : (o : NwkSourceRoute) (rs ss : List Nwk) → ((i : ℕ) → i < relay_count o → get_or rs i no_nwk ≡ get_or ss i no_nwk)
+pub route_same : (o : Option NwkSourceRoute) (rs ss : List Nwk) → ((i : ℕ) → i < relay_count o → get_or rs i no_nwk ≡ get_or ss i no_nwk)
     → route_bytes o rs ≡ route_bytes o ss
-route_same NwkSourceRoute.Absent rs ss h = refl
-route_same (NwkSourceRoute.Present n i) rs ss h = ap (λ (l : List ℕ). le 1 n ++ (le 1 i ++ l)) (relay_same n rs ss h)
+route_same None rs ss h = refl
+route_same (Some o) rs ss h = ap (λ (l : List ℕ). le 1 o.relay_count ++ (le 1 o.relay_index ++ l)) (relay_same o.relay_count rs ss h)
 
 -- the bytes of a source route read from place p, its relays being those behind
 pub route_read : (f : List ℕ) (b : Bool) (p : ℕ) (rs : List Nwk) → Below 256 f

@@ -10,11 +10,11 @@ use Rattle.octets.specs.Writing.{Run, written, written_bytes}
 use Rattle.octets.proofs.Writing.{write_accepted, written_number, bytes_written_lem}
 use Rattle.octets.proofs.Conditions.{unless_either}
 use Rattle.types.specs.Optional.{has_ieee}
-use Rattle.header.specs.declared.{nwk.NwkHeader.NwkHeader, nwk.HeaderRead.HeaderRead, auxiliary.NwkAuxHeader.NwkAuxHeader, auxiliary.AuxRead.AuxRead}
+use Rattle.header.specs.declared.{nwk.NwkHeader.NwkHeader, auxiliary.NwkAuxHeader.NwkAuxHeader}
 use Rattle.header.specs.Optional.{has_multicast, has_route}
-use Rattle.header.specs.Reading.{header_refusal, header_given, header_refused, blank_header, read_header}
+use Rattle.header.specs.Reading.{HeaderRead, header_refusal, header_given, header_refused, blank_header, read_header}
 use Rattle.header.specs.Writing.{header_bytes, header_write_refusal, write_header}
-use Rattle.header.specs.Auxiliary.{aux_refusal, aux_given, aux_refused, blank_aux, read_aux}
+use Rattle.header.specs.Auxiliary.{AuxRead, aux_refusal, aux_given, aux_refused, blank_aux, read_aux}
 use Rattle.header.specs.Same.{Agrees, AuxAgrees, agrees, aux_agrees, cleared}
 use Rattle.header.specs.PresenceBits.{Disagrees, TestsSay, ReadingAgrees, WrittenReadsBack}
 use Rattle.header.specs.PresenceBits.Disagrees.{bit8, bit10, bit11, bit12}

@@ -1,6 +1,7 @@
 -- Reading undoes writing: a header that writing accepts, with any bytes behind it, is read back, the places past the relay
 -- count cleared. Each field is found behind the bytes before it.
 -- Assumes nothing.
+use Rattle.std.specs.Prelude.{Option}
 use mathlib.Core.Path.{◌≡◌, refl, sym, ap, ◌∙◌}
 use mathlib.Core.Bool.{Bool, true, false, cond}
 use mathlib.Core.List.{List, [], ◌∷◌, ◌++◌, append_assoc}
@@ -40,6 +41,13 @@ get_or_at₀ p s i e = ap (λ (k : ℕ). get_or (p ++ s) k 0) (sym (add-zero (le
 pub fixed_length : (h : NwkHeader) → length (fixed_bytes h) ≡ 8
 unfolding fixed_bytes
 fixed_length h = simp (length-append, length_le)
+
+pub header_length : (h : NwkHeader)
+    → length (header_bytes h)
+    ≡ 8 + (length (ieee_bytes h.destination_ieee) + length (ieee_bytes h.source_ieee) + length (multicast_bytes h.multicast_control)
+    + length (route_bytes h.source_route h.relays))
+unfolding header_bytes optional_bytes
+header_length h = simp (length-append, fixed_length) (omega arith)
 
 -- ---- the bytes in front of each field that may be missing
 
@@ -301,4 +309,4 @@ same_bytes h k s =
     λ i.
     (le 2 (control_word (s.control i)) ++ (le 2 (s.destination i).0 ++ (le 2 (s.source i).0 ++ (le 1 (s.radius i) ++ le 1 (s.sequence i)))))
     ++ (ieee_bytes (s.destination_ieee i) ++ (ieee_bytes (s.source_ieee i) ++ (multicast_bytes (s.multicast i)
-    ++ (route_same h.source_route h.relays k.relays s.relays ∙ ap (λ (o : NwkSourceRoute). route_bytes o k.relays) s.route) i)))
+    ++ (route_same h.source_route h.relays k.relays s.relays ∙ ap (λ (o : Option NwkSourceRoute). route_bytes o k.relays) s.route) i)))

@@ -11,10 +11,10 @@ use Rattle.octets.specs.Strings.{Below}
 use Rattle.octets.specs.Fields.{bit, fields}
 use Rattle.octets.proofs.Strings.{length_tab}
 use Rattle.octets.proofs.Conditions.{accepted, answer_number, unless_either}
-use Rattle.header.specs.declared.{auxiliary.NwkSecurityLevel.NwkSecurityLevel, control.NwkFrameControl.NwkFrameControl, nwk.HeaderRead.HeaderRead, auxiliary.AuxRead.AuxRead}
-use Rattle.header.specs.Reading.{control, relays_of, header_by, header_refusal, header_given, header_refused, read_header}
+use Rattle.header.specs.declared.{auxiliary.NwkSecurityLevel.NwkSecurityLevel, control.NwkFrameControl.NwkFrameControl}
+use Rattle.header.specs.Reading.{HeaderRead, control, relays_of, header_by, header_refusal, header_given, header_refused, read_header}
 use Rattle.header.specs.Writing.{header_bytes}
-use Rattle.header.specs.Auxiliary.{security, key_sequence_at, aux_refusal, aux_by, aux_given, aux_refused, read_aux, aux_bytes}
+use Rattle.header.specs.Auxiliary.{AuxRead, security, key_sequence_at, aux_refusal, aux_by, aux_given, aux_refused, read_aux, aux_bytes}
 use Rattle.header.specs.AuxiliaryControl.{level_of, security_of}
 use Rattle.header.specs.Same.{AuxAgrees, HeaderFits, AuxFits}
 use Rattle.header.proofs.Codes.{bit_lt}

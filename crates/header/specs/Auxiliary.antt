@@ -1,11 +1,12 @@
 -- The auxiliary header (Zigbee Specification 4.5.1): reading with the refusals 1, 9, 10 and 11, and writing with those
 -- that it can meet, of which there is 18 alone.
 -- Assumes nothing.
-use Rattle.std.specs.Prelude.{ℕ, ◌+◌, ◌*◌, List, [], ◌∷◌, ◌++◌, length, get_or, ltb}
+use Rattle.std.specs.Prelude.{ℕ, ◌+◌, ◌*◌, List, [], ◌∷◌, ◌++◌, length, get_or, ltb, Result, Ok, Err}
 use Rattle.octets.specs.Numbers.{le, le_at}
-use Rattle.octets.specs.Refusals.{unless, on, first_of}
+use Rattle.octets.specs.declared.refusals.Refusal.{Refusal}
+use Rattle.octets.specs.Refusals.{unless, on, first_of, number_of}
 use Rattle.octets.specs.Writing.{Run, written}
-use Rattle.header.specs.declared.{auxiliary.NwkSecurityHeaderControlField.NwkSecurityHeaderControlField, auxiliary.NwkAuxHeader.NwkAuxHeader, auxiliary.AuxRead.AuxRead}
+use Rattle.header.specs.declared.{auxiliary.NwkSecurityHeaderControlField.NwkSecurityHeaderControlField, auxiliary.NwkAuxHeader.NwkAuxHeader}
 use Rattle.types.specs.Optional.{ieee_if, ieee_bytes}
 use Rattle.octets.specs.Fields.{bit}
 use Rattle.header.specs.AuxiliaryControl.{security_byte, security_of}
@@ -41,12 +42,23 @@ aux_by f c =
 unfoldable pub blank_aux : NwkAuxHeader
 blank_aux = aux_by [] (security_of 0)
 
--- what reading answers: the record and its length in bytes, or a refusal's number alone
+-- what reading answers: a refusal's number with length 0 and a blank header, or 0, the header's length in bytes and the record
+pub record AuxRead : Type 0 where
+  pub refusal : ℕ
+  pub length : ℕ
+  pub aux : NwkAuxHeader
+
+-- the record and its length, or a refusal's number alone
 abbrev pub aux_given : List ℕ → AuxRead
 aux_given f = record { refusal = 0; length = key_sequence_at (security f) + 1; aux = aux_by f (security f) }
 
 abbrev pub aux_refused : ℕ → AuxRead
 aux_refused n = record { refusal = n; length = 0; aux = blank_aux }
+
+-- the same, of the code's answer
+abbrev pub told_aux : Result (NwkAuxHeader × ℕ) Refusal → AuxRead
+told_aux (Ok (a, n)) = record { refusal = 0; length = n; aux = a }
+told_aux (Err r) = aux_refused (number_of r)
 
 unfoldable pub read_aux : List ℕ → AuxRead
 read_aux f = unless (aux_refusal f) (aux_given f) (aux_refused (aux_refusal f))

@@ -22,24 +22,24 @@ multicast_bytes (Some x) = le 1 x
 
 -- ---- the source route
 
-abbrev pub has_route : NwkSourceRoute → Bool
-has_route NwkSourceRoute.Absent = false
-has_route (NwkSourceRoute.Present n i) = true
+abbrev pub has_route : Option NwkSourceRoute → Bool
+has_route None = false
+has_route (Some r) = true
 
-abbrev pub route_if : Bool → ℕ → ℕ → NwkSourceRoute
-route_if true n i = NwkSourceRoute.Present n i
-route_if false n i = NwkSourceRoute.Absent
+abbrev pub route_if : Bool → ℕ → ℕ → Option NwkSourceRoute
+route_if true n i = Some (record { relay_count = n; relay_index = i })
+route_if false n i = None
 
 -- how many relays there are
-abbrev pub relay_count : NwkSourceRoute → ℕ
-relay_count NwkSourceRoute.Absent = 0
-relay_count (NwkSourceRoute.Present n i) = n
+abbrev pub relay_count : Option NwkSourceRoute → ℕ
+relay_count None = 0
+relay_count (Some r) = r.relay_count
 
 -- the first n relays
 unfoldable pub relay_bytes : ℕ → List Nwk → List ℕ
 relay_bytes zero rs = []
 relay_bytes (suc n) rs = relay_bytes n rs ++ le 2 (get_or rs n no_nwk).0
 
-abbrev pub route_bytes : NwkSourceRoute → List Nwk → List ℕ
-route_bytes NwkSourceRoute.Absent rs = []
-route_bytes (NwkSourceRoute.Present n i) rs = le 1 n ++ (le 1 i ++ relay_bytes n rs)
+abbrev pub route_bytes : Option NwkSourceRoute → List Nwk → List ℕ
+route_bytes None rs = []
+route_bytes (Some r) rs = le 1 r.relay_count ++ (le 1 r.relay_index ++ relay_bytes r.relay_count rs)

@@ -4,9 +4,9 @@
 use Rattle.std.specs.Prelude.{◌≡◌, true, List, ◌++◌, ◌↔◌, ℕ, ◌≤◌, length}
 use Rattle.octets.specs.Writing.{written_bytes}
 use Rattle.types.specs.Optional.{has_ieee}
-use Rattle.header.specs.declared.{nwk.NwkHeader.NwkHeader, nwk.HeaderRead.HeaderRead, auxiliary.NwkAuxHeader.NwkAuxHeader}
+use Rattle.header.specs.declared.{nwk.NwkHeader.NwkHeader, auxiliary.NwkAuxHeader.NwkAuxHeader}
 use Rattle.header.specs.Optional.{has_multicast, has_route}
-use Rattle.header.specs.Reading.{read_header}
+use Rattle.header.specs.Reading.{HeaderRead, read_header}
 use Rattle.header.specs.Writing.{write_header}
 use Rattle.header.specs.Auxiliary.{read_aux}
 use Rattle.header.specs.Same.{Agrees, AuxAgrees, agrees, aux_agrees, SameHeader, HeaderFits}

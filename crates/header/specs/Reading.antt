@@ -1,11 +1,12 @@
 -- Reading a NWK header (Zigbee Specification 3.3.1): where each field stands, the refusals in document 01's order, the
 -- record, and where the header ends. Every definition is total on every byte string: a byte past the end counts 0.
 -- Assumes nothing.
-use Rattle.std.specs.Prelude.{ℕ, ◌+◌, ◌*◌, ◌/◌, ◌%◌, cond, List, [], ◌∷◌, length, get_or, eqb, ltb}
+use Rattle.std.specs.Prelude.{ℕ, ◌+◌, ◌*◌, ◌/◌, ◌%◌, cond, List, [], ◌∷◌, length, get_or, eqb, ltb, Result, Ok, Err}
 use Rattle.octets.specs.Strings.{tab}
 use Rattle.octets.specs.Numbers.{le_at}
-use Rattle.octets.specs.Refusals.{unless, Condition, on, first_of}
-use Rattle.header.specs.declared.{control.NwkFrameControl.NwkFrameControl, nwk.NwkHeader.NwkHeader, nwk.HeaderRead.HeaderRead}
+use Rattle.octets.specs.declared.refusals.Refusal.{Refusal}
+use Rattle.octets.specs.Refusals.{unless, Condition, on, first_of, number_of}
+use Rattle.header.specs.declared.{control.NwkFrameControl.NwkFrameControl, nwk.NwkHeader.NwkHeader}
 use Rattle.header.specs.Optional.{multicast_if, route_if}
 use Rattle.types.specs.declared.Nwk.{Nwk}
 use Rattle.types.specs.Addresses.{nwk, no_nwk}
@@ -82,12 +83,23 @@ header_by f c =
 unfoldable pub blank_header : NwkHeader
 blank_header = header_by [] (control_of 0)
 
--- what reading answers: the record and where the header ends, or a refusal's number alone
+-- what reading answers: a refusal's number with length 0 and a blank header, or 0, where the header ends and the record
+pub record HeaderRead : Type 0 where
+  pub refusal : ℕ
+  pub length : ℕ
+  pub header : NwkHeader
+
+-- the record and where the header ends, or a refusal's number alone
 abbrev pub header_given : List ℕ → HeaderRead
 header_given f = record { refusal = 0; length = header_end f (control f); header = header_by f (control f) }
 
 abbrev pub header_refused : ℕ → HeaderRead
 header_refused n = record { refusal = n; length = 0; header = blank_header }
+
+-- the same, of the code's answer
+abbrev pub told_header : Result (NwkHeader × ℕ) Refusal → HeaderRead
+told_header (Ok (h, n)) = record { refusal = 0; length = n; header = h }
+told_header (Err r) = header_refused (number_of r)
 
 unfoldable pub read_header : List ℕ → HeaderRead
 read_header f = unless (header_refusal f) (header_given f) (header_refused (header_refusal f))

@@ -71,9 +71,9 @@ abbrev pub MulticastFits : Option ℕ → Type 0
 MulticastFits None = Unit {0}
 MulticastFits (Some x) = x < 2 ^ 8
 
-abbrev pub RouteFits : NwkSourceRoute → Type 0
-RouteFits NwkSourceRoute.Absent = Unit {0}
-RouteFits (NwkSourceRoute.Present n i) = (n < 2 ^ 8) × (i < 2 ^ 8)
+abbrev pub RouteFits : Option NwkSourceRoute → Type 0
+RouteFits None = Unit {0}
+RouteFits (Some r) = (r.relay_count < 2 ^ 8) × (r.relay_index < 2 ^ 8)
 
 abbrev pub RelaysFit : List Nwk → Type 0
 RelaysFit rs = (i : ℕ) → (get_or rs i no_nwk).0 < 2 ^ 16

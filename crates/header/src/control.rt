@@ -6,23 +6,23 @@ ghost use Rattle.header.specs.Control.{control_sizes, control_values, type_code,
 use octets::bit_of;
 
 // The frame's type; the code 2 is not declared.
-#[derive(Clone, Copy)]
+#[derive(Clone, Copy, PartialEq, Eq)]
 pub enum NwkFrameType {
-    Data,
-    Command,
-    Interpan,
+    Data = 0,
+    Command = 1,
+    Interpan = 3,
 }
 
 // Route discovery; the code 3 is not declared.
-#[derive(Clone, Copy)]
+#[derive(Clone, Copy, PartialEq, Eq)]
 pub enum NwkRouteDiscovery {
-    Suppress,
-    Enable,
-    WithMulticast,
+    Suppress = 0,
+    Enable = 1,
+    WithMulticast = 2,
 }
 
 // The frame control field, bits 0 to 15 in this order.
-#[derive(Clone, Copy)]
+#[derive(Clone, Copy, PartialEq, Eq)]
 pub struct NwkFrameControl {
     pub frame_type: NwkFrameType,
     pub protocol_version: u8,
@@ -41,24 +41,18 @@ impl NwkFrameType {
     pub fn code(self) -> u16
         ensures { (result ≡ type_code self) × (result < 4) }
     {
-        match self {
-            NwkFrameType::Data => 0,
-            NwkFrameType::Command => 1,
-            NwkFrameType::Interpan => 3,
-        }
+        self as u16
     }
 
     // The type of a code that is not 2.
     pub fn from_code(code: u16) -> NwkFrameType
         ensures { result ≡ type_of code }
     {
-        if code == 0 {
-            return NwkFrameType::Data;
+        match code {
+            0 => NwkFrameType::Data,
+            1 => NwkFrameType::Command,
+            _ => NwkFrameType::Interpan,
         }
-        if code == 1 {
-            return NwkFrameType::Command;
-        }
-        NwkFrameType::Interpan
     }
 }
 
@@ -67,29 +61,24 @@ impl NwkRouteDiscovery {
     pub fn code(self) -> u16
         ensures { (result ≡ discovery_code self) × (result < 4) }
     {
-        match self {
-            NwkRouteDiscovery::Suppress => 0,
-            NwkRouteDiscovery::Enable => 1,
-            NwkRouteDiscovery::WithMulticast => 2,
-        }
+        self as u16
     }
 
     // The discovery of a code that is not 3.
     pub fn from_code(code: u16) -> NwkRouteDiscovery
         ensures { result ≡ discovery_of code }
     {
-        if code == 0 {
-            return NwkRouteDiscovery::Suppress;
+        match code {
+            0 => NwkRouteDiscovery::Suppress,
+            1 => NwkRouteDiscovery::Enable,
+            _ => NwkRouteDiscovery::WithMulticast,
         }
-        if code == 1 {
-            return NwkRouteDiscovery::Enable;
-        }
-        NwkRouteDiscovery::WithMulticast
     }
 }
 
 impl NwkFrameControl {
     // The field of 16 bits, lowest first.
+    #[tactic(auto, unfolding(crate::specs::Control::control_of, octets::specs::Fields::fields))]
     pub fn from_word(w: u16) -> NwkFrameControl
         ensures { result ≡ control_of w }
     {
@@ -117,6 +106,7 @@ impl NwkFrameControl {
     }
 
     // Bits 8 to 15, put together from the lowest.
+    #[tactic(auto, unfolding(octets::specs::Fields::packed))]
     fn flags(self) -> u8
         requires { self.reserved1 < 4 }
         ensures { (result ≡ packed (drop 3 control_sizes) (drop 3 (control_values self))) × (result < 256) }
@@ -130,14 +120,13 @@ impl NwkFrameControl {
     }
 
     // The field's 16 bits.
+    #[tactic(auto, unfolding(octets::specs::Fields::packed, crate::specs::Control::control_word))]
     pub fn word(self) -> u16
         requires { (self.protocol_version < 16) × (self.reserved1 < 4) }
         ensures { result ≡ control_word self }
     {
-        let frame_type = self.frame_type;
-        let discover_route = self.discover_route;
-        let discovery = discover_route.code() + (self.flags() as u16) * 4;
-        let version = (self.protocol_version as u16) + discovery * 16;
-        frame_type.code() + version * 4
+        let discovery = self.discover_route.code() + u16::from(self.flags()) * 4;
+        let version = u16::from(self.protocol_version) + discovery * 16;
+        self.frame_type.code() + version * 4
     }
 }

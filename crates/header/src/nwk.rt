@@ -1,18 +1,21 @@
 // The NWK header (Zigbee Specification 3.3.1).
-ghost use Rattle.std.specs.Prelude.{◌≡◌, false, ◌++◌, ◌∷◌, ◌+◌, ◌-◌, ◌≤◌, ◌<◌, length};
+ghost use Rattle.std.specs.Prelude.{◌≡◌, false, ◌++◌, ℕ, ◌+◌, ◌≤◌, ◌<◌, length, IfOk};
 ghost use Rattle.octets.specs.Strings.{over};
 ghost use Rattle.octets.specs.Numbers.{le};
-ghost use Rattle.octets.specs.Refusals.{by, first_of};
+ghost use Rattle.octets.specs.Refusals.{first_of, refused};
+ghost use Rattle.octets.specs.Writing.{told};
 ghost use Rattle.header.specs.Optional.{multicast_bytes, route_bytes, relay_count};
 ghost use Rattle.types.specs.Optional.{ieee_bytes};
-ghost use Rattle.header.specs.Reading.{optional_refusals, source_at, multicast_at, route_at, relays_announced, header_end, header_refusal, relays_of, header_by, blank_header, read_header};
+ghost use Rattle.header.specs.Reading.{optional_refusals, source_at, multicast_at, route_at, relays_announced, header_end, header_refusal, relays_of, header_by, blank_header, told_header, read_header};
 ghost use Rattle.header.specs.Same.{agrees};
-ghost use Rattle.header.specs.Writing.{header_bytes, bad_header, field_refusal, header_write_refusal, write_header};
+ghost use Rattle.header.specs.Writing.{fixed_bytes, header_bytes, bad_header, field_refusal, header_write_refusal, write_header};
 
 use crate::control::NwkFrameControl;
-use crate::optional::{NwkSourceRoute, OptionMulticast};
-use octets::{Written, bit_of, refusals};
-use types::{NO_NWK, Nwk, OptionEui64};
+use crate::optional;
+use crate::optional::NwkSourceRoute;
+use octets::bit_of;
+use octets::refusals::Refusal;
+use types::{NO_NWK, Nwk};
 
 // The largest MAC payload, and so the largest NWK frame.
 pub const MAX_MAC_PAYLOAD_SIZE: usize = 118;
@@ -41,101 +44,76 @@ pub struct NwkHeader {
     pub source: Nwk,
     pub radius: u8,
     pub sequence_number: u8,
-    pub destination_ieee: OptionEui64,
-    pub source_ieee: OptionEui64,
-    pub multicast_control: OptionMulticast,
-    pub source_route: NwkSourceRoute,
+    pub destination_ieee: Option<u64>,
+    pub source_ieee: Option<u64>,
+    pub multicast_control: Option<u8>,
+    pub source_route: Option<NwkSourceRoute>,
     pub relays: [Nwk; 54],
-}
-
-// What reading a header answers: a refusal's number with length 0 and a blank header, or 0, the header's length in
-// bytes and the header.
-#[derive(Clone, Copy)]
-pub struct HeaderRead {
-    pub refusal: u8,
-    pub length: usize,
-    pub header: NwkHeader,
 }
 
 // ---- reading
 
 // Where the source IEEE stands.
+#[tactic(auto, unfolding(crate::specs::Reading::source_at))]
 fn source_at(c: NwkFrameControl) -> usize
     ensures { (result ≡ source_at c) × (result ≤ 16) }
 {
-    8 + 8 * (bit_of(c.destination) as usize)
+    8 + 8 * usize::from(bit_of(c.destination))
 }
 
 // Where the multicast control stands.
+#[tactic(auto, unfolding(crate::specs::Reading::multicast_at))]
 fn multicast_at(c: NwkFrameControl) -> usize
     ensures { (result ≡ multicast_at c) × (result ≤ 24) }
 {
-    source_at(c) + 8 * (bit_of(c.extended_source) as usize)
+    source_at(c) + 8 * usize::from(bit_of(c.extended_source))
 }
 
 // Where the source route stands.
+#[tactic(auto, unfolding(crate::specs::Reading::route_at))]
 fn route_at(c: NwkFrameControl) -> usize
     ensures { (result ≡ route_at c) × (result ≤ 25) }
 {
-    multicast_at(c) + (bit_of(c.multicast) as usize)
+    multicast_at(c) + usize::from(bit_of(c.multicast))
 }
 
 // How many relays the frame announces.
+#[tactic(auto, unfolding(crate::specs::Reading::relays_announced))]
 fn relays_announced(f: &[u8], c: NwkFrameControl) -> usize
     ensures { (result ≡ relays_announced f.now c) × (result < 256) }
 {
     if c.source_route {
-        octets::byte_at(f, route_at(c)) as usize
+        usize::from(octets::byte_at(f, route_at(c)))
     } else {
         0
     }
 }
 
-// Where the header ends.
-fn header_end(f: &[u8], c: NwkFrameControl) -> usize
-    ensures { result ≡ header_end f.now c }
-{
-    if c.source_route {
-        route_at(c) + (2 + 2 * relays_announced(f, c))
-    } else {
-        route_at(c)
-    }
-}
-
-// The number given before, or the first of the refusals 5 to 8 that holds, or 0.
-fn optional_refusal(before: u8, f: &[u8], c: NwkFrameControl) -> u8
-    ensures { result ≡ first_of (by before ∷ optional_refusals f.now c) }
+// Where the header ends; refusals 5 to 8 where a field that the frame control announces ends past the bytes.
+#[tactic(auto, unfolding(crate::specs::Reading::optional_refusals, crate::specs::Reading::header_end, octets::specs::Refusals::first_of))]
+fn header_end(f: &[u8], c: NwkFrameControl) -> Result<usize, Refusal>
+    ensures number { refused result ≡ first_of (optional_refusals f.now c) }
+    ensures end { IfOk result (λ (n : ℕ). (n ≡ header_end f.now c) × (n ≤ length f.now)) }
 {
     let n = f.len();
-    let r = octets::refuse(before, refusals::DESTINATION_IEEE, n < source_at(c));
-    let r = octets::refuse(r, refusals::SOURCE_IEEE, n < multicast_at(c));
-    let r = octets::refuse(r, refusals::MULTICAST, n < route_at(c));
-    octets::refuse(r, refusals::SOURCE_ROUTE, n < header_end(f, c))
-}
-
-// The first of the refusals 1 to 8 that holds, or 0. The lengths are looked at first by themselves: behind them no read of a fixed
-// field needs to test its place again.
-fn header_refusal(f: &[u8]) -> u8
-    ensures { result ≡ header_refusal f.now }
-{
-    let n = f.len();
-    if MAX_MAC_PAYLOAD_SIZE < n {
-        return refusals::TOO_LONG;
+    if n < source_at(c) {
+        return Err(Refusal::DestinationIeee);
     }
-    if n < MIN_HEADER_OVERHEAD {
-        return refusals::SHORT_HEADER;
+    if n < multicast_at(c) {
+        return Err(Refusal::SourceIeee);
     }
-    let w = octets::read_u16(f, 0);
-    let r = octets::refuse(0, refusals::FRAME_TYPE, w % 4 == 2);
-    let r = octets::refuse(r, refusals::DISCOVERY, w / 64 % 4 == 3);
-    optional_refusal(r, f, NwkFrameControl::from_word(w))
-}
-
-// How many of n relays have a place.
-fn placed(n: usize) -> usize
-    ensures { result ≡ n - (n - 54) }
-{
-    if n < 54 { n } else { 54 }
+    let route = route_at(c);
+    if n < route {
+        return Err(Refusal::Multicast);
+    }
+    if !c.source_route {
+        return Ok(route);
+    }
+    let end = route + 2 + 2 * relays_announced(f, c);
+    if n < end {
+        return Err(Refusal::SourceRoute);
+    }
+    Ok(end)
 }
 
 // The relays at their places, and 0 past their count.
@@ -143,19 +121,17 @@ fn relays_of(f: &[u8], c: NwkFrameControl) -> [Nwk; 54]
     ensures { result ≡ relays_of f.now c }
 {
     let announced = relays_announced(f, c);
-    let n = placed(announced);
     let first = route_at(c) + 2;
     let mut relays = [NO_NWK; 54];
-    let mut i = 0;
-    while i < n {
+    for i in 0..announced.min(54) {
         relays[i] = Nwk(octets::read_u16(f, first + 2 * i));
-        i += 1;
     }
     relays
 }
 
 impl NwkHeader {
     // The header of zeros that stands beside a refusal.
+    #[tactic(auto, unfolding(crate::specs::Reading::blank_header, crate::specs::Reading::header_by, crate::specs::Reading::relays_of, crate::specs::Reading::relays_announced, crate::specs::Reading::route_at, crate::specs::Reading::multicast_at, crate::specs::Reading::source_at, crate::specs::Control::control_of, octets::specs::Fields::fields, octets::specs::Strings::tab, octets::specs::Numbers::le_at))]
     pub fn blank() -> NwkHeader
         ensures { result ≡ blank_header }
     {
@@ -165,15 +141,16 @@ impl NwkHeader {
             source: Nwk(0),
             radius: 0,
             sequence_number: 0,
-            destination_ieee: OptionEui64::Absent,
-            source_ieee: OptionEui64::Absent,
-            multicast_control: OptionMulticast::Absent,
-            source_route: NwkSourceRoute::Absent,
+            destination_ieee: None,
+            source_ieee: None,
+            multicast_control: None,
+            source_route: None,
             relays: [NO_NWK; 54],
         }
     }
 
     // The fields at their places.
+    #[tactic(auto, unfolding(crate::specs::Reading::header_by), using(crate::proofs::OptionalFields::ieee_when, crate::proofs::OptionalFields::multicast_when, crate::proofs::OptionalFields::route_when))]
     fn fields(f: &[u8], c: NwkFrameControl) -> NwkHeader
         ensures { result ≡ header_by f.now c }
     {
@@ -184,186 +161,140 @@ impl NwkHeader {
             source: Nwk(octets::read_u16(f, 4)),
             radius: octets::byte_at(f, 6),
             sequence_number: octets::byte_at(f, 7),
-            destination_ieee: OptionEui64::when(c.destination, octets::read_u64(f, 8)),
-            source_ieee: OptionEui64::when(c.extended_source, octets::read_u64(f, source_at(c))),
-            multicast_control: OptionMulticast::when(
-                c.multicast,
-                octets::byte_at(f, multicast_at(c)),
-            ),
-            source_route: NwkSourceRoute::when(
-                c.source_route,
-                octets::byte_at(f, route),
-                octets::byte_at(f, route + 1),
-            ),
+            destination_ieee: c.destination.then_some(octets::read_u64(f, 8)),
+            source_ieee: c
+                .extended_source
+                .then_some(octets::read_u64(f, source_at(c))),
+            multicast_control: c.multicast.then_some(octets::byte_at(f, multicast_at(c))),
+            source_route: c.source_route.then_some(NwkSourceRoute {
+                relay_count: octets::byte_at(f, route),
+                relay_index: octets::byte_at(f, route + 1),
+            }),
             relays: relays_of(f, c),
         }
     }
 
-    // Read a header from the front of the bytes; refusals 1 to 8.
-    pub fn deserialize(bytes: &[u8]) -> HeaderRead
-        ensures { result ≡ read_header bytes.now }
+    // Read a header from the front of the bytes, and how many it takes; refusals 1 to 8.
+    #[tactic(auto, unfolding(crate::specs::Reading::read_header, crate::specs::Reading::header_refusal, octets::specs::Refusals::first_of, octets::specs::Refusals::unless))]
+    pub fn deserialize(bytes: &[u8]) -> Result<(NwkHeader, usize), Refusal>
+        ensures answer { told_header result ≡ read_header bytes.now }
+        ensures within { IfOk result (λ (r : NwkHeader × ℕ). r.1 ≤ length bytes.now) }
     {
-        let refusal = header_refusal(bytes);
-        if refusal != 0 {
-            return HeaderRead {
-                refusal,
-                length: 0,
-                header: NwkHeader::blank(),
-            };
+        if MAX_MAC_PAYLOAD_SIZE < bytes.len() {
+            return Err(Refusal::TooLong);
         }
-        let c = NwkFrameControl::from_word(octets::read_u16(bytes, 0));
-        HeaderRead {
-            refusal: 0,
-            length: header_end(bytes, c),
-            header: NwkHeader::fields(bytes, c),
+        if bytes.len() < MIN_HEADER_OVERHEAD {
+            return Err(Refusal::ShortHeader);
         }
+        let word = octets::read_u16(bytes, 0);
+        if word % 4 == 2 {
+            return Err(Refusal::FrameType);
+        }
+        if word / 64 % 4 == 3 {
+            return Err(Refusal::Discovery);
+        }
+        let control = NwkFrameControl::from_word(word);
+        let end = header_end(bytes, control)?;
+        Ok((NwkHeader::fields(bytes, control), end))
     }
 
     // How many bytes the header takes.
+    #[tactic(auto, using(crate::proofs::ReadBack::header_length))]
     pub fn size(self) -> usize
         ensures { (result ≡ length (header_bytes self)) × (result < 1024) }
     {
-        let destination_ieee = self.destination_ieee;
-        let source_ieee = self.source_ieee;
-        let multicast_control = self.multicast_control;
-        let source_route = self.source_route;
-        let relays = self.relays;
-        let ieees = destination_ieee.size() + source_ieee.size();
-        MIN_HEADER_OVERHEAD + (ieees + (multicast_control.size() + source_route.size(relays)))
+        MIN_HEADER_OVERHEAD
+            + (types::ieee_size(self.destination_ieee)
+                + types::ieee_size(self.source_ieee)
+                + optional::multicast_size(self.multicast_control)
+                + optional::route_size(self.source_route, self.relays))
     }
 
     // Whether a field exceeds its bits, or the relays their places.
+    #[tactic(auto, unfolding(crate::specs::Writing::bad_header, crate::specs::Writing::bad_control))]
     fn is_bad(self) -> bool
         ensures { result ≡ bad_header self }
     {
-        let source_route = self.source_route;
-        let version = 15 < self.frame_control.protocol_version;
-        let reserved = 3 < self.frame_control.reserved1;
-        octets::either(
-            octets::either(version, reserved),
-            MAX_RELAYS < source_route.count(),
-        )
+        15 < self.frame_control.protocol_version
+            || 3 < self.frame_control.reserved1
+            || MAX_RELAYS < optional::relay_count(self.source_route)
     }
 
     // Whether each of bits 11, 12, 8 and 10 is set exactly when its field is present.
+    #[tactic(auto, unfolding(crate::specs::Same::agrees))]
     fn agrees(self) -> bool
         ensures { result ≡ agrees self }
     {
-        let destination_ieee = self.destination_ieee;
-        let source_ieee = self.source_ieee;
-        let multicast_control = self.multicast_control;
-        let source_route = self.source_route;
-        let destination = self.frame_control.destination == destination_ieee.is_present();
-        let source = self.frame_control.extended_source == source_ieee.is_present();
-        let multicast = self.frame_control.multicast == multicast_control.is_present();
-        let route = self.frame_control.source_route == source_route.is_present();
-        octets::both(
-            octets::both(destination, source),
-            octets::both(multicast, route),
-        )
+        self.frame_control.destination == self.destination_ieee.is_some()
+            && self.frame_control.extended_source == self.source_ieee.is_some()
+            && self.frame_control.multicast == self.multicast_control.is_some()
+            && self.frame_control.source_route == self.source_route.is_some()
     }
 
     // The refusal of the fields: 13 where one exceeds its bits or the relays exceed their places, then 28 where a presence bit
-    // disagrees with its field, else 0.
-    pub fn field_refusal(self) -> u8
-        ensures { result ≡ field_refusal self }
+    // disagrees with its field.
+    #[tactic(auto, unfolding(crate::specs::Writing::field_refusal, octets::specs::Refusals::first_of))]
+    pub fn check_fields(self) -> Result<(), Refusal>
+        ensures { refused result ≡ field_refusal self }
     {
-        let r = octets::refuse(0, refusals::FIELD, self.is_bad());
-        octets::refuse(r, refusals::PRESENCE_BITS, !self.agrees())
+        if self.is_bad() {
+            return Err(Refusal::Field);
+        }
+        if !self.agrees() {
+            return Err(Refusal::PresenceBits);
+        }
+        Ok(())
     }
 
-    // The first of the refusals 13, 28, 17 and 18 that holds when the output has the room given, or 0.
-    fn write_refusal(self, room: usize) -> u8
-        ensures { result ≡ header_write_refusal self room }
+    // The first of the refusals 13, 28, 17 and 18 that holds when the output has the room given.
+    #[tactic(auto, unfolding(crate::specs::Writing::header_write_refusal, octets::specs::Refusals::first_of, octets::specs::Refusals::unless))]
+    fn check_write(self, room: usize) -> Result<(), Refusal>
+        ensures { refused result ≡ header_write_refusal self room }
     {
-        let size = self.size();
-        let r = self.field_refusal();
-        let r = octets::refuse(r, refusals::LENGTH, MAX_MAC_PAYLOAD_SIZE < size);
-        octets::refuse(r, refusals::NO_ROOM, room < size)
+        self.check_fields()?;
+        if MAX_MAC_PAYLOAD_SIZE < self.size() {
+            return Err(Refusal::Length);
+        }
+        if room < self.size() {
+            return Err(Refusal::NoRoom);
+        }
+        Ok(())
     }
 
     // Write the header to the front of an output that has room for it.
+    #[tactic(auto, unfolding(crate::specs::Writing::header_bytes, crate::specs::Writing::optional_bytes, crate::specs::Writing::bad_header), using(crate::proofs::ReadBack::header_length, crate::proofs::ReadBack::fixed_length, octets::proofs::Strings::over_over))]
     pub fn put(self, out: &mut [u8])
         requires { (bad_header self ≡ false) × (length (header_bytes self) ≤ length out.old) }
         ensures { out.new ≡ over out.old 0 (header_bytes self) }
     {
-        let frame_control = self.frame_control;
-        let destination_ieee = self.destination_ieee;
-        let source_ieee = self.source_ieee;
-        let multicast_control = self.multicast_control;
-        let source_route = self.source_route;
-        let relays = self.relays;
-        put_fixed(
-            out,
-            frame_control.word(),
-            self.destination.0,
-            self.source.0,
-            self.radius,
-            self.sequence_number,
-        );
-        put_optional(
-            out,
-            destination_ieee,
-            source_ieee,
-            multicast_control,
-            source_route,
-            relays,
-        );
+        self.put_fixed(out);
+        let source_at = types::put_ieee(self.destination_ieee, out, 8);
+        let multicast_at = types::put_ieee(self.source_ieee, out, source_at);
+        let route_at = optional::put_multicast(self.multicast_control, out, multicast_at);
+        optional::put_route(self.source_route, self.relays, out, route_at);
     }
 
-    // Write the header to the front of the output; refusals 13, 28, 17 and 18, which change nothing.
-    pub fn serialize(self, out: &mut [u8]) -> Written
-        ensures answer { result ≡ (write_header self out.old).answer }
+    // Write the header to the front of the output, and give its length; refusals 13, 28, 17 and 18, which change nothing.
+    #[tactic(auto, unfolding(crate::specs::Writing::write_header, octets::specs::Writing::written, octets::specs::Refusals::unless))]
+    pub fn serialize(self, out: &mut [u8]) -> Result<usize, Refusal>
+        ensures answer { told result ≡ (write_header self out.old).answer }
         ensures buffer { out.new ≡ (write_header self out.old).out }
     {
-        let refusal = self.write_refusal(out.len());
-        if refusal != 0 {
-            return Written { refusal, length: 0 };
-        }
+        self.check_write(out.len())?;
         self.put(out);
-        Written {
-            refusal: 0,
-            length: self.size(),
-        }
+        Ok(self.size())
     }
-}
 
-// ---- the writers' parts
-
-// Frame control and the two addresses, at the front.
-fn put_addresses(out: &mut [u8], word: u16, destination: u16, source: u16)
-    requires { 6 ≤ length out.old }
-    ensures { out.new ≡ over out.old 0 (le 2 word ++ (le 2 destination ++ le 2 source)) }
-{
-    octets::put_u16(out, 0, word);
-    octets::put_u16(out, 2, destination);
-    octets::put_u16(out, 4, source);
-}
-
-// The eight bytes that every header has, at the front.
-fn put_fixed(out: &mut [u8], word: u16, destination: u16, source: u16, radius: u8, sequence: u8)
-    requires { 8 ≤ length out.old }
-    ensures { out.new ≡ over out.old 0 (le 2 word ++ (le 2 destination ++ (le 2 source ++ (le 1 radius ++ le 1 sequence)))) }
-{
-    put_addresses(out, word, destination, source);
-    octets::put_u8(out, 6, radius);
-    octets::put_u8(out, 7, sequence);
-}
-
-// The fields that may be missing, behind the eight bytes that every header has.
-fn put_optional(
-    out: &mut [u8],
-    destination: OptionEui64,
-    source: OptionEui64,
-    multicast: OptionMulticast,
-    route: NwkSourceRoute,
-    relays: [Nwk; 54],
-)
-    requires { (8 + length (ieee_bytes destination ++ (ieee_bytes source ++ (multicast_bytes multicast ++ route_bytes route relays))) ≤ length out.old) × (relay_count route ≤ 54) }
-    ensures { out.new ≡ over out.old 8 (ieee_bytes destination ++ (ieee_bytes source ++ (multicast_bytes multicast ++ route_bytes route relays))) }
-{
-    let source_at = destination.put(out, 8);
-    let multicast_at = source.put(out, source_at);
-    let route_at = multicast.put(out, multicast_at);
-    route.put(relays, out, route_at);
+    // Write the eight bytes that every header has at the front.
+    #[tactic(auto, unfolding(crate::specs::Writing::fixed_bytes, crate::specs::Writing::bad_header, crate::specs::Writing::bad_control), using(octets::proofs::Numbers::length_le, octets::proofs::Strings::over_over))]
+    fn put_fixed(self, out: &mut [u8])
+        requires { (bad_header self ≡ false) × (8 ≤ length out.old) }
+        ensures { out.new ≡ over out.old 0 (fixed_bytes self) }
+    {
+        octets::put_u16(out, 0, self.frame_control.word());
+        octets::put_u16(out, 2, self.destination.0);
+        octets::put_u16(out, 4, self.source.0);
+        octets::put_u8(out, 6, self.radius);
+        octets::put_u8(out, 7, self.sequence_number);
+    }
 }

@@ -6,8 +6,8 @@ ghost use Rattle.header.specs.Same.{IeeeFits, MulticastFits, RouteFits, RelaysFi
 
 use crate::auxiliary::NwkAuxHeader;
 use crate::nwk::NwkHeader;
-use crate::optional::{NwkSourceRoute, OptionMulticast};
-use types::{Nwk, OptionEui64};
+use crate::optional::NwkSourceRoute;
+use types::Nwk;
 
 // The number of a slice's bytes.
 fn count8(s: &[u8]) -> usize {
@@ -38,42 +38,30 @@ pub fn relays_fit(relays: [Nwk; 54])
 }
 
 // Every optional long address is within its range.
-pub fn ieee_fits(o: OptionEui64)
-    ensures { IeeeFits o }
+pub fn ieee_fits(ieee: Option<u64>)
+    ensures { IeeeFits ieee }
 {
-    match o {
-        OptionEui64::Absent => {}
-        OptionEui64::Present(x) => {
-            let _y = x;
-        }
+    if let Some(x) = ieee {
+        let _y = x;
     }
 }
 
 // Every optional multicast control is within its range.
-pub fn multicast_fits(o: OptionMulticast)
-    ensures { MulticastFits o }
+pub fn multicast_fits(control: Option<u8>)
+    ensures { MulticastFits control }
 {
-    match o {
-        OptionMulticast::Absent => {}
-        OptionMulticast::Present(x) => {
-            let _y = x;
-        }
+    if let Some(x) = control {
+        let _y = x;
     }
 }
 
 // Every optional source route is within its range.
-pub fn route_fits(o: NwkSourceRoute)
-    ensures { RouteFits o }
+pub fn route_fits(route: Option<NwkSourceRoute>)
+    ensures { RouteFits route }
 {
-    match o {
-        NwkSourceRoute::Absent => {}
-        NwkSourceRoute::Present {
-            relay_count,
-            relay_index,
-        } => {
-            let _y = relay_count;
-            let _z = relay_index;
-        }
+    if let Some(route) = route {
+        let _count = route.relay_count;
+        let _index = route.relay_index;
     }
 }
 
@@ -81,22 +69,16 @@ pub fn route_fits(o: NwkSourceRoute)
 pub fn header_fits(h: NwkHeader)
     ensures { HeaderFits h }
 {
-    let destination_ieee = h.destination_ieee;
-    let source_ieee = h.source_ieee;
-    let multicast_control = h.multicast_control;
-    let source_route = h.source_route;
-    let relays = h.relays;
-    ieee_fits(destination_ieee);
-    ieee_fits(source_ieee);
-    multicast_fits(multicast_control);
-    route_fits(source_route);
-    relays_fit(relays);
+    ieee_fits(h.destination_ieee);
+    ieee_fits(h.source_ieee);
+    multicast_fits(h.multicast_control);
+    route_fits(h.source_route);
+    relays_fit(h.relays);
 }
 
 // Every auxiliary header is within its types' ranges.
 pub fn aux_fits(a: NwkAuxHeader)
     ensures { AuxFits a }
 {
-    let extended_source = a.extended_source;
-    ieee_fits(extended_source);
+    ieee_fits(a.extended_source);
 }

@@ -25,16 +25,15 @@ left f b d n (suc m) e h =
 
 pub loop-i-init : goal.loop-i-init
 unfolding tab
-loop-i-init c = (omega arith, refl, refl)
+loop-i-init c = (refl, refl)
 
 pub loop-i-preserved : goal.loop-i-preserved
 loop-i-preserved c =
     let l = c.loop-i in
     let count = c.relays_announced-announced.result in
     let below : l.i < 54 = omega arith in (
-      omega arith,
-      simp length-set l.invariant.1,
-      fill_turn _ l.i _ l.relays _ below (rw (lt-ltb l.i count (omega arith)) (ap nwk c.read_u16.ensures)) l.invariant.2,
+      simp length-set l.invariant.0,
+      fill_turn _ l.i _ l.relays _ below (rw (lt-ltb l.i count (omega arith)) (ap nwk c.read_u16.ensures)) l.invariant.1,
     )
 
 pub returns : goal.returns
@@ -42,6 +41,6 @@ unfolding relays_of
 returns c =
     let l = c.loop-i in
     let count = c.relays_announced-announced in
-    l.invariant.2 ∙ left _ _ no_nwk l.i (54 - l.i) (omega arith)
+    l.invariant.1 ∙ left _ _ no_nwk l.i (54 - l.i) (omega arith)
     (λ k p q. rw (le-ltb k count.result (omega arith)) (sym (get_or-replicate 54 k no_nwk no_nwk q)))
     ∙ rw (count.ensures.0, c.route_at-first.ensures.0) refl

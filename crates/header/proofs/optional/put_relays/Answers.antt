@@ -1,37 +1,10 @@
--- `put_relays` meets its contract. Assumes nothing.
-use mathlib.Core.Path.{◌≡◌, refl, sym, ap, ◌∙◌}
-use native.Mathlib.Omega.{arith}
-use Rattle.octets.specs.Strings.{over}
-use Rattle.octets.proofs.Strings.{over_nil}
-use Rattle.header.specs.Optional.{relay_bytes}
+-- `put_relays` meets its contract: the relay written is the one at its place. Assumes nothing.
+use Rattle.std.proofs.Common.{arith, length-take, get_or-take}
 use Rattle.header.proofs.OptionalFields.{relay_length, relays_more}
 use Rattle.header.proofs.optional.put_relays.Goals as goal
 
-pub loop-j-init : goal.loop-j-init
-unfolding relay_bytes
-loop-j-init c = (omega arith, refl, sym (over_nil c.args.out.now c.args.i))
-
-pub overflow_add-i : goal.overflow_add-i
-overflow_add-i c = omega (arith, relay_length c.args.n c.args.relays)
-
 pub put_u16-requires : goal.put_u16-requires
-put_u16-requires c = omega (arith, relay_length c.args.n c.args.relays, c.requires)
+put_u16-requires c = grind (arith, relay_length, length-take)
 
 pub loop-j-preserved : goal.loop-j-preserved
-loop-j-preserved c =
-    let put = c.put_u16 in
-    let a = c.args in
-    let l = c.loop-j in (
-      omega arith,
-      put.auto.out ∙ l.invariant.1,
-      put.ensures ∙ rw l.invariant.2 (relays_more a.out.now a.i l.j a.relays (omega (arith, c.requires, relay_length a.n a.relays))),
-    )
-
-pub returns : goal.returns
-returns c =
-    let a = c.args in
-    let done : c.loop-j.j ≡ a.n = omega arith in
-    c.loop-j.invariant.2 ∙ ap (λ k. over a.out.now a.i (relay_bytes k a.relays)) done
-
-pub shape_of-out : goal.shape_of-out
-shape_of-out c = c.loop-j.invariant.1
+loop-j-preserved c = grind (arith, relay_length, relays_more, length-take, get_or-take)
