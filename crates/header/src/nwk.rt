@@ -53,80 +53,119 @@ pub struct NwkHeader {
 
 // ---- reading
 
-// Where the source IEEE stands.
-#[tactic(auto, unfolding(crate::specs::Reading::source_at))]
-fn source_at(c: NwkFrameControl) -> usize
-    ensures { (result ≡ source_at c) × (result ≤ 16) }
-{
-    8 + 8 * usize::from(bit_of(c.destination))
-}
+impl NwkFrameControl {
+    // Where the source IEEE stands.
+    #[tactic(auto, unfolding(crate::specs::Reading::source_at))]
+    fn source_at(self) -> usize
+        ensures { (result ≡ source_at self) × (result ≤ 16) }
+    {
+        8 + 8 * usize::from(bit_of(self.destination))
+    }
 
-// Where the multicast control stands.
-#[tactic(auto, unfolding(crate::specs::Reading::multicast_at))]
-fn multicast_at(c: NwkFrameControl) -> usize
-    ensures { (result ≡ multicast_at c) × (result ≤ 24) }
-{
-    source_at(c) + 8 * usize::from(bit_of(c.extended_source))
-}
+    // Where the multicast control stands.
+    #[tactic(auto, unfolding(crate::specs::Reading::multicast_at))]
+    fn multicast_at(self) -> usize
+        ensures { (result ≡ multicast_at self) × (result ≤ 24) }
+    {
+        self.source_at() + 8 * usize::from(bit_of(self.extended_source))
+    }
 
-// Where the source route stands.
-#[tactic(auto, unfolding(crate::specs::Reading::route_at))]
-fn route_at(c: NwkFrameControl) -> usize
-    ensures { (result ≡ route_at c) × (result ≤ 25) }
-{
-    multicast_at(c) + usize::from(bit_of(c.multicast))
-}
-
-// How many relays the frame announces.
-#[tactic(auto, unfolding(crate::specs::Reading::relays_announced))]
-fn relays_announced(f: &[u8], c: NwkFrameControl) -> usize
-    ensures { (result ≡ relays_announced f.now c) × (result < 256) }
-{
-    if c.source_route {
-        usize::from(octets::byte_at(f, route_at(c)))
-    } else {
-        0
+    // Where the source route stands.
+    #[tactic(auto, unfolding(crate::specs::Reading::route_at))]
+    fn route_at(self) -> usize
+        ensures { (result ≡ route_at self) × (result ≤ 25) }
+    {
+        self.multicast_at() + usize::from(bit_of(self.multicast))
     }
 }
 
-// Where the header ends; refusals 5 to 8 where a field that the frame control announces ends past the bytes.
-#[tactic(auto, unfolding(crate::specs::Reading::optional_refusals, crate::specs::Reading::header_end, octets::specs::Refusals::first_of))]
-fn header_end(f: &[u8], c: NwkFrameControl) -> Result<usize, Refusal>
-    ensures number { refused result ≡ first_of (optional_refusals f.now c) }
-    ensures end { IfOk result (λ (n : ℕ). (n ≡ header_end f.now c) × (n ≤ length f.now)) }
-{
-    let n = f.len();
-    if n < source_at(c) {
-        return Err(Refusal::DestinationIeee);
-    }
-    if n < multicast_at(c) {
-        return Err(Refusal::SourceIeee);
-    }
-    let route = route_at(c);
-    if n < route {
-        return Err(Refusal::Multicast);
-    }
-    if !c.source_route {
-        return Ok(route);
-    }
-    let end = route + 2 + 2 * relays_announced(f, c);
-    if n < end {
-        return Err(Refusal::SourceRoute);
-    }
-    Ok(end)
+// A header's bytes, and the frame control that they begin with.
+#[derive(Clone, Copy)]
+struct HeaderBytes<'a> {
+    bytes: &'a [u8],
+    control: NwkFrameControl,
 }
 
-// The relays at their places, and 0 past their count.
-fn relays_of(f: &[u8], c: NwkFrameControl) -> [Nwk; 54]
-    ensures { result ≡ relays_of f.now c }
-{
-    let announced = relays_announced(f, c);
-    let first = route_at(c) + 2;
-    let mut relays = [NO_NWK; 54];
-    for i in 0..announced.min(54) {
-        relays[i] = Nwk(octets::read_u16(f, first + 2 * i));
+impl<'a> HeaderBytes<'a> {
+    // How many relays the frame announces.
+    #[tactic(auto, unfolding(crate::specs::Reading::relays_announced))]
+    fn relays_announced(self) -> usize
+        ensures { (result ≡ relays_announced self.entry.bytes.now self.entry.control) × (result < 256) }
+    {
+        if self.control.source_route {
+            usize::from(octets::byte_at(self.bytes, self.control.route_at()))
+        } else {
+            0
+        }
     }
-    relays
+
+    // Where the header ends; refusals 5 to 8 where a field that the frame control announces ends past the bytes.
+    #[tactic(auto, unfolding(crate::specs::Reading::optional_refusals, crate::specs::Reading::header_end, octets::specs::Refusals::first_of))]
+    fn end(self) -> Result<usize, Refusal>
+        ensures number { refused result ≡ first_of (optional_refusals self.entry.bytes.now self.entry.control) }
+        ensures end { IfOk result (λ (n : ℕ). (n ≡ header_end self.entry.bytes.now self.entry.control) × (n ≤ length self.entry.bytes.now)) }
+    {
+        let n = self.bytes.len();
+        if n < self.control.source_at() {
+            return Err(Refusal::DestinationIeee);
+        }
+        if n < self.control.multicast_at() {
+            return Err(Refusal::SourceIeee);
+        }
+        let route = self.control.route_at();
+        if n < route {
+            return Err(Refusal::Multicast);
+        }
+        if !self.control.source_route {
+            return Ok(route);
+        }
+        let end = route + 2 + 2 * self.relays_announced();
+        if n < end {
+            return Err(Refusal::SourceRoute);
+        }
+        Ok(end)
+    }
+
+    // The relays at their places, and 0 past their count.
+    fn relays(self) -> [Nwk; 54]
+        ensures { result ≡ relays_of self.entry.bytes.now self.entry.control }
+    {
+        let announced = self.relays_announced();
+        let first = self.control.route_at() + 2;
+        let mut relays = [NO_NWK; 54];
+        for i in 0..announced.min(54) {
+            relays[i] = Nwk(octets::read_u16(self.bytes, first + 2 * i));
+        }
+        relays
+    }
+
+    // The header whose fields stand at their places.
+    #[tactic(auto, unfolding(crate::specs::Reading::header_by), using(crate::proofs::OptionalFields::ieee_when, crate::proofs::OptionalFields::multicast_when, crate::proofs::OptionalFields::route_when))]
+    fn header(self) -> NwkHeader
+        ensures { result ≡ header_by self.entry.bytes.now self.entry.control }
+    {
+        let HeaderBytes { bytes, control } = self;
+        let route = control.route_at();
+        NwkHeader {
+            frame_control: control,
+            destination: Nwk(octets::read_u16(bytes, 2)),
+            source: Nwk(octets::read_u16(bytes, 4)),
+            radius: octets::byte_at(bytes, 6),
+            sequence_number: octets::byte_at(bytes, 7),
+            destination_ieee: control.destination.then_some(octets::read_u64(bytes, 8)),
+            source_ieee: control
+                .extended_source
+                .then_some(octets::read_u64(bytes, control.source_at())),
+            multicast_control: control
+                .multicast
+                .then_some(octets::byte_at(bytes, control.multicast_at())),
+            source_route: control.source_route.then_some(NwkSourceRoute {
+                relay_count: octets::byte_at(bytes, route),
+                relay_index: octets::byte_at(bytes, route + 1),
+            }),
+            relays: self.relays(),
+        }
+    }
 }
 
 impl NwkHeader {
@@ -146,31 +185,6 @@ impl NwkHeader {
             multicast_control: None,
             source_route: None,
             relays: [NO_NWK; 54],
-        }
-    }
-
-    // The fields at their places.
-    #[tactic(auto, unfolding(crate::specs::Reading::header_by), using(crate::proofs::OptionalFields::ieee_when, crate::proofs::OptionalFields::multicast_when, crate::proofs::OptionalFields::route_when))]
-    fn fields(f: &[u8], c: NwkFrameControl) -> NwkHeader
-        ensures { result ≡ header_by f.now c }
-    {
-        let route = route_at(c);
-        NwkHeader {
-            frame_control: c,
-            destination: Nwk(octets::read_u16(f, 2)),
-            source: Nwk(octets::read_u16(f, 4)),
-            radius: octets::byte_at(f, 6),
-            sequence_number: octets::byte_at(f, 7),
-            destination_ieee: c.destination.then_some(octets::read_u64(f, 8)),
-            source_ieee: c
-                .extended_source
-                .then_some(octets::read_u64(f, source_at(c))),
-            multicast_control: c.multicast.then_some(octets::byte_at(f, multicast_at(c))),
-            source_route: c.source_route.then_some(NwkSourceRoute {
-                relay_count: octets::byte_at(f, route),
-                relay_index: octets::byte_at(f, route + 1),
-            }),
-            relays: relays_of(f, c),
         }
     }
 
@@ -194,8 +208,9 @@ impl NwkHeader {
             return Err(Refusal::Discovery);
         }
         let control = NwkFrameControl::from_word(word);
-        let end = header_end(bytes, control)?;
-        Ok((NwkHeader::fields(bytes, control), end))
+        let header = HeaderBytes { bytes, control };
+        let end = header.end()?;
+        Ok((header.header(), end))
     }
 
     // How many bytes the header takes.
