@@ -37,7 +37,7 @@ fn column(a: [u8; 4], k: [u8; 4]) -> [u8; 4]
     ensures { result ≡ xor_word (mix_column (sub_word a)) k }
 {
     let behind = field::turned(a[2], 2) ^ field::turned(a[3], 1);
-    let mixed = field::turned(a[0], 0) ^ (field::turned(a[1], 3) ^ behind);
+    let mixed = field::entry(a[0]) ^ (field::turned(a[1], 3) ^ behind);
     octets::bytes_of(mixed ^ words::number(k))
 }
 

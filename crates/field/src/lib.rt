@@ -4,7 +4,7 @@
 ghost use Rattle.std.specs.Prelude.{◌≡◌, ◌≤◌};
 ghost use Rattle.octets.specs.Numbers.{le};
 ghost use Rattle.field.specs.SBox.{sbox, s_box_table};
-ghost use Rattle.field.specs.Multiples.{turned, round_table};
+ghost use Rattle.field.specs.Multiples.{multiples, turned, round_table};
 
 // The S-box (FIPS 197, 5.1.1).
 pub fn s_box() -> &'static [u8; 256]
@@ -25,10 +25,18 @@ pub fn substitute(x: u8) -> u8
 pub fn round_table() -> &'static [u32; 512]
     ensures { result.now ≡ round_table }
 {
-    &ROUND_TABLE
+    &ROUND_TABLE.words
 }
 
-// The multiples of what the byte `x` is substituted by, as the bytes of one word, turned by some bytes: so many of the first stand last.
+// The multiples of what the byte `x` is substituted by, as the bytes of one word. Turned by none it would be the same, but slower: the
+// compiler would add it to the other three of a column one behind the other.
+pub fn entry(x: u8) -> u32
+    ensures { le 4 result ≡ multiples (sbox x) }
+{
+    round_table()[2 * usize::from(x)]
+}
+
+// The same turned by some bytes: so many of the first stand last.
 pub fn turned(x: u8, by: u32) -> u32
     requires { by ≤ 4 }
     ensures { le 4 result ≡ turned by (sbox x) }
@@ -59,10 +67,17 @@ static S_BOX: [u8; 256] = [
     0x8c, 0xa1, 0x89, 0x0d, 0xbf, 0xe6, 0x42, 0x68, 0x41, 0x99, 0x2d, 0x0f, 0xb0, 0x54, 0xbb, 0x16,
 ];
 
+// The words of the table of the rounds. The empty array has them begin at a multiple of eight bytes, so that no entry lies across two lines
+// of the cache, which would take 6 % longer.
+struct RoundTable {
+    words: [u32; 512],
+    aligned: [u64; 0],
+}
+
 // For each byte its substitute's product with {02}, the substitute twice and its product with {03}, the first byte lowest, and the same
 // once more.
 #[rattlefmt::skip]
-static ROUND_TABLE: [u32; 512] = [
+static ROUND_TABLE: RoundTable = RoundTable { aligned: [], words: [
     0xa56363c6, 0xa56363c6, 0x847c7cf8, 0x847c7cf8, 0x997777ee, 0x997777ee, 0x8d7b7bf6, 0x8d7b7bf6,
     0x0df2f2ff, 0x0df2f2ff, 0xbd6b6bd6, 0xbd6b6bd6, 0xb16f6fde, 0xb16f6fde, 0x54c5c591, 0x54c5c591,
     0x50303060, 0x50303060, 0x03010102, 0x03010102, 0xa96767ce, 0xa96767ce, 0x7d2b2b56, 0x7d2b2b56,
@@ -127,4 +142,4 @@ static ROUND_TABLE: [u32; 512] = [
     0xdabfbf65, 0xdabfbf65, 0x31e6e6d7, 0x31e6e6d7, 0xc6424284, 0xc6424284, 0xb86868d0, 0xb86868d0,
     0xc3414182, 0xc3414182, 0xb0999929, 0xb0999929, 0x772d2d5a, 0x772d2d5a, 0x110f0f1e, 0x110f0f1e,
     0xcbb0b07b, 0xcbb0b07b, 0xfc5454a8, 0xfc5454a8, 0xd6bbbb6d, 0xd6bbbb6d, 0x3a16162c, 0x3a16162c,
-];
+] };
