@@ -5,7 +5,6 @@ mod Chains
 mod Streams
 pub mod Tags
 pub mod RoundKeys
-mod Answers
 pub mod ZeroFill
 pub mod Opening
 pub mod BlockCounts

@@ -15,6 +15,7 @@ use Rattle.octets.proofs.Strings.{tab_ext, fill_turn, over_front, over_then, tak
 use Rattle.octets.proofs.Xor.{length_xored}
 use Rattle.octets.proofs.Words.{bytes_xor}
 use Rattle.ccm.specs.Formatting.{blocks_of}
+use Rattle.ccm.proofs.Opening.{length_counter_mode}
 use Rattle.ccm.specs.Counters.{counter_block, key_block, key_stream, stream_for, counter_mode}
 
 -- n bytes are at most as many as their blocks hold
@@ -66,10 +67,6 @@ module _ (ciph : List ℕ → List ℕ) (nonce : List ℕ) (sixteen : (b : List 
   pub stream_taken : (o s : List ℕ) (m : ℕ) → s ≡ over o 0 (key_stream ciph nonce m).bytes → take (m * 16) s ≡ (key_stream ciph nonce m).bytes
   stream_taken o s m e = (λ i. take (sym (length_stream m) i) (e i)) ∙ take_over o (key_stream ciph nonce m).bytes
 
-  -- for as many blocks as some bytes fill
-  pub stream_of : (s : List ℕ) (m n : ℕ) → m ≡ n → take (m * 16) s ≡ (key_stream ciph nonce m).bytes → take (n * 16) s ≡ (key_stream ciph nonce n).bytes
-  stream_of s m n e h = rw (← e) h
-
   -- counter mode by an array that begins with the key stream
   pub mode_by : (d s : List ℕ) → take (blocks_of (length d) * 16) s ≡ (key_stream ciph nonce (blocks_of (length d))).bytes → xored (length d) d s ≡ counter_mode ciph nonce d
   unfolding counter_mode stream_for
@@ -77,3 +74,9 @@ module _ (ciph : List ℕ → List ℕ) (nonce : List ℕ) (sixteen : (b : List 
       let m : ℕ = blocks_of (length d) * 16 in
       let h : length d ≤ m = blocks_hold (length d) in
       xored_same (length d) d s _ (sym (take-take (length d) m s h) ∙ ap (take (length d)) e)
+
+-- what counter mode left at the front of an array
+pub mode_taken : (ciph : List ℕ → List ℕ) (nonce d o p : List ℕ) → p ≡ over o 0 (counter_mode ciph nonce d) → take (length d) p ≡ counter_mode ciph nonce d
+mode_taken ciph nonce d o p h =
+    ap (take (length d)) h ∙ ap (λ (n : ℕ). take n (over o 0 (counter_mode ciph nonce d))) (sym (length_counter_mode ciph nonce d))
+    ∙ take_over o (counter_mode ciph nonce d)

@@ -25,6 +25,7 @@ pub fn key_block(keys: &RoundKeys, nonce: [u8; 13], i: usize) -> [u8; 16]
 }
 
 // S_1 to S_m, one behind the other.
+#[tactic(auto, unfolding(crate::specs::Counters::key_stream), using(crate::proofs::Streams::stream_more, crate::proofs::Streams::stream_taken, aes::proofs::Block::length_cipher, octets::proofs::Strings::over_nil))]
 fn key_stream(keys: &RoundKeys, nonce: [u8; 13], m: usize) -> [u8; 128]
     requires { m ≤ 8 }
     ensures { take (m * 16) result ≡ (key_stream (cipher keys.now) nonce m).bytes }
@@ -38,6 +39,7 @@ fn key_stream(keys: &RoundKeys, nonce: [u8; 13], m: usize) -> [u8; 128]
 }
 
 // The bytes d, each exclusive or the byte of s at its place, at the front of the output.
+#[tactic(auto, unfolding(octets::specs::Strings::tab, octets::specs::Strings::xored), using(crate::proofs::Streams::mask_more, crate::proofs::Streams::masked_all))]
 pub fn mask(d: &[u8], s: &[u8], out: &mut [u8])
     requires { (length d.now ≤ length s.now) × (length d.now ≤ length out.old) }
     ensures { out.new ≡ over out.old 0 (xored (length d.now) d.now s.now) }
@@ -48,6 +50,7 @@ pub fn mask(d: &[u8], s: &[u8], out: &mut [u8])
 }
 
 // The bytes d, exclusive or as many of the key stream, at the front of the output.
+#[tactic(auto, using(crate::proofs::Streams::mode_by, aes::proofs::Block::length_cipher))]
 pub fn counter_mode(keys: &RoundKeys, nonce: [u8; 13], d: &[u8], out: &mut [u8])
     requires { (length d.now ≤ 127) × (length d.now ≤ length out.old) }
     ensures { out.new ≡ over out.old 0 (counter_mode (cipher keys.now) nonce d.now) }

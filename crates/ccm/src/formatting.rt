@@ -87,6 +87,7 @@ fn two_bytes(x: usize) -> [u8; 2]
 }
 
 // A block of a first byte, the nonce and a two-byte number.
+#[tactic(auto, unfolding(crate::specs::Formatting::two_bytes, octets::specs::Strings::tab, octets::specs::Numbers::bytes_of), using(crate::proofs::Blocks::headed_bytes))]
 pub fn with_nonce(first: u8, nonce: [u8; 13], x: usize) -> [u32; 4]
     ensures { bytes_of result ≡ headed first nonce x }
 {
@@ -109,6 +110,7 @@ pub fn blocks_of(n: usize) -> usize
 }
 
 // The number of four bytes from place p on.
+#[tactic(auto, using(octets::proofs::Numbers::le_at_four))]
 fn word_at(s: &[u8], p: usize) -> u32
     requires { p + 4 ≤ length s.now }
     ensures { result ≡ le_at 4 s.now p }

@@ -49,6 +49,7 @@ pub fn expand(key: [u8; 16]) -> RoundKeys
 
 // Generation-encryption (SP 800-38C, 6.1), for a caller that has checked level and lengths: the ciphertext goes to the front of
 // the output, the MIC is given in 16 places.
+#[tactic(auto, unfolding(crate::specs::Generation::generation_encryption), using(crate::proofs::RoundKeys::cipher_is))]
 pub fn seal(
     level: Level,
     key: [u8; 16],
@@ -74,6 +75,7 @@ pub fn seal(
 
 // Decryption-verification (SP 800-38C, 6.2) under any round keys, for a caller that has checked level and lengths: whether the
 // MIC is the one computed; only then the payload goes to the front of the output.
+#[tactic(auto, unfolding(crate::specs::Verification::decryption_verification, crate::specs::Operations::given_if), using(crate::proofs::Streams::mode_taken))]
 pub fn open_under(
     level: Level,
     keys: &RoundKeys,
@@ -105,7 +107,7 @@ pub fn open_under(
 
 // Seals a payload: refusals 29, 1 and 18, else the ciphertext in the output, given by its length, and the MIC, at the front of 16 places
 // of which the rest are 0.
-#[tactic(auto, unfolding(crate::specs::Operations::encrypt_ccm, octets::specs::Refusals::unless), using(crate::proofs::Answers::within, crate::proofs::Opening::length_ciphertext))]
+#[tactic(auto, unfolding(crate::specs::Operations::encrypt_ccm, octets::specs::Refusals::unless), using(crate::proofs::Runs::within, crate::proofs::Opening::length_ciphertext))]
 pub fn encrypt_ccm(
     level: Level,
     key: [u8; 16],
@@ -123,7 +125,7 @@ pub fn encrypt_ccm(
 }
 
 // Opens a ciphertext with its MIC: refusals 29, 1, 18 and 19, else the payload in the output, given by its length.
-#[tactic(auto, unfolding(crate::specs::Operations::decrypt_ccm, crate::specs::Operations::open_refusal, crate::specs::Operations::given_if, octets::specs::Writing::written, octets::specs::Refusals::first_of, octets::specs::Refusals::unless), using(crate::proofs::Answers::within, crate::proofs::RoundKeys::opened_under_lem, crate::proofs::Opening::length_payload))]
+#[tactic(auto, unfolding(crate::specs::Operations::decrypt_ccm, crate::specs::Operations::open_refusal, crate::specs::Operations::given_if, octets::specs::Writing::written, octets::specs::Refusals::first_of, octets::specs::Refusals::unless), using(crate::proofs::Runs::within, crate::proofs::RoundKeys::opened_under_lem, crate::proofs::Opening::length_payload))]
 pub fn decrypt_ccm(
     level: Level,
     key: [u8; 16],
@@ -159,6 +161,7 @@ fn check_split(level: Level, n: usize) -> Result<(), Refusal>
 }
 
 // The bytes from place n on, at the front of 16 places; the rest are 0.
+#[tactic(auto, unfolding(crate::specs::Operations::in_places))]
 fn places_from(s: &[u8], n: usize) -> [u8; 16]
     requires { (n ≤ length s.now) × (length (drop n s.now) ≤ 16) }
     ensures { result ≡ in_places (drop n s.now) }

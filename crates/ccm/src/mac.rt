@@ -15,6 +15,7 @@ use crate::formatting::{InputData, block_at};
 use aes::RoundKeys;
 
 // Y_i of B_i and Y_(i - 1): the cipher of their exclusive or.
+#[tactic(auto, using(crate::proofs::Streams::xored_words))]
 fn chained(keys: &RoundKeys, b: [u32; 4], y: [u32; 4]) -> [u32; 4]
     ensures { bytes_of result ≡ cipher keys.now (xored 16 (bytes_of b) (bytes_of y)) }
 {
@@ -22,6 +23,7 @@ fn chained(keys: &RoundKeys, b: [u32; 4], y: [u32; 4]) -> [u32; 4]
 }
 
 // Y_last: the chain over the blocks of the input, from the first to the one whose number is given.
+#[tactic(auto, unfolding(crate::specs::Mac::chain), using(crate::proofs::Chains::chain_next))]
 fn chain_over(keys: &RoundKeys, formatted: &[u8], last: usize) -> [u32; 4]
     requires { (last < 65535) × (last * 16 + 16 ≤ length formatted.now) }
     ensures { bytes_of result ≡ (chain (cipher keys.now) (block_at formatted.now) last).block }
@@ -35,6 +37,7 @@ fn chain_over(keys: &RoundKeys, formatted: &[u8], last: usize) -> [u32; 4]
 }
 
 // Y_r: the chain over the whole formatted input.
+#[tactic(auto, unfolding(crate::specs::Mac::mac_chain), using(crate::proofs::Chains::chain_same))]
 pub fn cbc_mac(keys: &RoundKeys, input: &InputData) -> [u32; 4]
     ensures { bytes_of result ≡ (mac_chain input.now.t (cipher keys.now) input.now.nonce input.now.auth.now input.now.payload.now).block }
 {
@@ -42,6 +45,7 @@ pub fn cbc_mac(keys: &RoundKeys, input: &InputData) -> [u32; 4]
 }
 
 // The tag of the payload, t bytes masked by S_0, at the front of 16 places; the rest are 0.
+#[tactic(auto, unfolding(crate::specs::Mac::mac, crate::specs::Generation::encrypted_tag, crate::specs::Operations::in_places))]
 pub fn encrypted_tag(keys: &RoundKeys, input: &InputData) -> [u8; 16]
     ensures { result ≡ in_places (encrypted_tag input.now.t (cipher keys.now) input.now.nonce input.now.auth.now input.now.payload.now) }
 {
@@ -53,6 +57,7 @@ pub fn encrypted_tag(keys: &RoundKeys, input: &InputData) -> [u8; 16]
 }
 
 // Whether the first n bytes are the same. Every byte is read, and there is no branch on one.
+#[tactic(auto, unfolding(crate::specs::Verification::same_bytes), using(crate::proofs::Tags::same_next))]
 fn same_bytes(u: &[u8], v: &[u8], n: usize) -> bool
     ensures { result ≡ same_bytes n u.now v.now }
 {
@@ -64,6 +69,7 @@ fn same_bytes(u: &[u8], v: &[u8], n: usize) -> bool
 }
 
 // Whether the MIC is the tag of the payload in its first t places. The other places are not read.
+#[tactic(auto, unfolding(crate::specs::Generation::encrypted_tag, crate::specs::Verification::tag_valid), using(crate::proofs::Opening::same_masked, crate::proofs::Tags::same_places, octets::proofs::Xor::length_xored))]
 pub fn tag_valid(keys: &RoundKeys, input: &InputData, mic: [u8; 16]) -> bool
     ensures { result ≡ tag_valid input.now.t (cipher keys.now) input.now.nonce input.now.auth.now input.now.payload.now (take input.now.t mic) }
 {

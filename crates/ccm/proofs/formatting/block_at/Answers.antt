@@ -5,5 +5,4 @@ use Rattle.ccm.proofs.formatting.block_at.Goals as goal
 
 pub returns : goal.returns
 unfolding block_at
-returns c =
-    block_words _ _ _ _ _ _ (λ i. (c.shared_slice_known-1.given i).fits) c.word_at.ensures c.word_at-2.ensures c.word_at-3.ensures c.word_at-4.ensures
+returns c = block_words _ _ _ _ _ _ (λ i. (c.type_inv.s i).fits) c.word_at.ensures c.word_at-2.ensures c.word_at-3.ensures c.word_at-4.ensures
