@@ -16,6 +16,7 @@ use state::State;
 pub type RoundKeys = [State; 11];
 
 // KeyExpansion (FIPS 197, 5.2).
+#[tactic(auto, unfolding(crate::specs::KeyExpansion::words_from, crate::specs::KeyExpansion::round_keys, crate::specs::KeyExpansion::key_expansion), using(crate::proofs::Schedule::words_next, crate::proofs::Schedule::round_keys_more))]
 pub fn key_expansion(key: [u8; 16]) -> RoundKeys
     ensures { result ≡ key_expansion key }
 {

@@ -33,6 +33,7 @@ fn shift_rows(s: State) -> State
 }
 
 // The bytes of a column substituted, then mixed (FIPS 197, 5.1.3), with the round key's word added.
+#[tactic(auto, unfolding(crate::specs::State::four, crate::specs::Words::sub_word), using(crate::proofs::Columns::le_xor_word, crate::proofs::Columns::mixed, crate::proofs::Columns::same_word, field::proofs::Bytes::sbox_byte))]
 fn column(a: [u8; 4], k: [u8; 4]) -> [u8; 4]
     ensures { result ≡ xor_word (mix_column (sub_word a)) k }
 {

@@ -14,6 +14,7 @@ pub fn s_box() -> &'static [u8; 256]
 }
 
 // What the byte `x` is substituted by, looked up in the S-box (FIPS 197, 5.1.1).
+#[tactic(auto, unfolding(crate::specs::SBox::s_box_table), using(crate::proofs::Computed::get_or_values))]
 pub fn substitute(x: u8) -> u8
     ensures { result ≡ sbox x }
 {
@@ -30,6 +31,7 @@ pub fn round_table() -> &'static [u32; 512]
 
 // The multiples of what the byte `x` is substituted by, as the bytes of one word. Turned by none it would be the same, but slower: the
 // compiler would add it to the other three of a column one behind the other.
+#[tactic(auto, using(crate::proofs::Entries::copies, crate::proofs::Entries::entry_bytes))]
 pub fn entry(x: u8) -> u32
     ensures { le 4 result ≡ multiples (sbox x) }
 {
@@ -37,6 +39,7 @@ pub fn entry(x: u8) -> u32
 }
 
 // The same turned by some bytes: so many of the first stand last.
+#[tactic(auto, using(crate::proofs::Entries::copies, crate::proofs::Entries::turned_entry))]
 pub fn turned(x: u8, by: u32) -> u32
     requires { by ≤ 4 }
     ensures { le 4 result ≡ turned by (sbox x) }
