@@ -16,20 +16,21 @@ use Rattle.octets.proofs.Conditions.{accepted, refused, accepted_by, refused_by,
 use Rattle.types.specs.declared.level.Level.{Level}
 use Rattle.types.specs.Levels.{is_other, tag_length}
 use Rattle.types.specs.Optional.{has_ieee}
-use Rattle.header.specs.declared.{auxiliary.AuxRead.AuxRead, nwk.HeaderRead.HeaderRead, nwk.NwkHeader.NwkHeader}
+use Rattle.header.specs.declared.{auxiliary.NwkAuxHeader.NwkAuxHeader, nwk.NwkHeader.NwkHeader}
 use Rattle.header.specs.Writing.{header_bytes}
 use Rattle.header.specs.Same.{AuxAgrees, aux_agrees}
 use Rattle.header.proofs.Writable.{FieldsGood, fields_good, fields_accepted, aux_test}
 use Rattle.ccm.specs.Verification.{Verified}
-use Rattle.frame.specs.declared.{FrameRead.FrameRead, Mark.Mark}
-use Rattle.frame.specs.Reading.{secured, frame_refusal, frame_refused, frame_given, frame_number, frame_by}
+use Rattle.frame.specs.Reading.{FrameRead, secured, frame_refusal, frame_refused, frame_given, frame_number, frame_by}
 use Rattle.frame.specs.Security.{is_absent, or_blank, ieee_of, nonce_ieee, no_ieee}
 use Rattle.frame.specs.Writing.{length_refusals, frame_write_refusal}
 use Rattle.frame.specs.Sealing as sealing
 use Rattle.frame.specs.Sealing.{sealed_length, headers_refusal, seal_refusals, seal_given, seal_refused, seal_nothing, seal_by}
 use Rattle.frame.specs.SealingLaw.{bytes_written}
 use Rattle.frame.specs.Marks.{Openable}
-use Rattle.frame.specs.Opening.{is_sealed, behind, verified, open_refusals, open_refusal, open_refused, Run, sealed_given, clear_given, open_given, open_nothing, open_by}
+use Rattle.frame.specs.Opening.{Mark, is_sealed, behind, verified, open_refusals, open_refusal, open_refused, Run, sealed_given, clear_given, open_given, open_nothing, open_by}
+use Rattle.header.specs.Auxiliary.{AuxRead}
+use Rattle.header.specs.Reading.{HeaderRead}
 
 -- ---- writing
 

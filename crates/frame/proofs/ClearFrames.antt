@@ -15,16 +15,16 @@ use borrow.Author.Tests.{ltb-false, le-ltb}
 use Rattle.octets.proofs.Conditions.{accepted}
 use Rattle.octets.specs.Writing.{written_bytes}
 use Rattle.octets.proofs.Writing.{written_number, bytes_written_lem}
-use Rattle.header.specs.declared.{auxiliary.AuxRead.AuxRead, control.NwkFrameControl.NwkFrameControl, nwk.HeaderRead.HeaderRead, nwk.NwkHeader.NwkHeader}
-use Rattle.header.specs.Reading.{read_header}
+use Rattle.header.specs.declared.{control.NwkFrameControl.NwkFrameControl, nwk.NwkHeader.NwkHeader}
+use Rattle.header.specs.Reading.{HeaderRead, read_header}
 use Rattle.header.specs.Same.{SameHeader, cleared, HeaderFits}
 use Rattle.header.specs.Writing.{header_bytes}
 use Rattle.header.proofs.ReadBack.{read_back, same_cleared}
-use Rattle.frame.specs.declared.FrameRead.{FrameRead}
-use Rattle.frame.specs.Reading.{secured, aux_if, aux_behind, frame_refused, frame_given, frame_number, frame_by, read_frame}
+use Rattle.frame.specs.Reading.{FrameRead, secured, aux_if, aux_behind, frame_refused, frame_given, frame_number, frame_by, read_frame}
 use Rattle.frame.specs.Writing.{frame_bytes, frame_write_refusal, write_frame}
 use Rattle.frame.specs.Opening.{is_sealed}
 use Rattle.frame.proofs.Accepted.{ClearWritable, clear_writable, frame_refusal_lem, Readable, readable, read_accepts, counts}
+use Rattle.header.specs.Auxiliary.{AuxRead}
 
 -- the frame whose header has been read, the security bit being off
 clear_frame : (f : List ℕ) (h : HeaderRead) (a : AuxRead) → secured h ≡ false → h.refusal ≡ 0 → length f - h.length ≤ 108

@@ -14,9 +14,9 @@ use Rattle.octets.specs.Strings.{over}
 use Rattle.octets.proofs.Conditions.{accepted}
 use Rattle.types.specs.declared.level.Level.{Level}
 use Rattle.types.specs.Levels.{is_other, tag_length}
-use Rattle.header.specs.declared.{auxiliary.NwkAuxHeader.NwkAuxHeader, auxiliary.AuxRead.AuxRead, control.NwkFrameControl.NwkFrameControl, nwk.HeaderRead.HeaderRead, nwk.NwkHeader.NwkHeader}
-use Rattle.header.specs.Reading.{read_header}
-use Rattle.header.specs.Auxiliary.{aux_bytes, read_aux}
+use Rattle.header.specs.declared.{auxiliary.NwkAuxHeader.NwkAuxHeader, control.NwkFrameControl.NwkFrameControl, nwk.NwkHeader.NwkHeader}
+use Rattle.header.specs.Reading.{HeaderRead, read_header}
+use Rattle.header.specs.Auxiliary.{AuxRead, aux_bytes, read_aux}
 use Rattle.header.specs.Writing.{header_bytes}
 use Rattle.header.specs.Same.{SameHeader, cleared, HeaderFits, AuxFits}
 use Rattle.header.proofs.ReadBack.{read_back as header_read_back, same_cleared}
@@ -24,11 +24,10 @@ use Rattle.header.proofs.AuxiliaryLaws.{aux_read_back}
 use Rattle.ccm.specs.Verification.{Verified}
 use Rattle.ccm.specs.Operations.{ciph_of, opened_by}
 use Rattle.ccm.proofs.Opening.{length_ciphertext, length_tag, opened_sealed}
-use Rattle.frame.specs.declared.{FrameRead.FrameRead, Mark.Mark}
-use Rattle.frame.specs.Reading.{secured, aux_if, aux_behind, frame_given, frame_number, frame_by, read_frame}
+use Rattle.frame.specs.Reading.{FrameRead, secured, aux_if, aux_behind, frame_given, frame_number, frame_by, read_frame}
 use Rattle.frame.specs.Security.{sent_level, at_level, or_blank, nonce_ieee, nonce, authenticated}
 use Rattle.frame.specs.Sealing.{generated, sealed_bytes, sealed_length}
-use Rattle.frame.specs.Opening.{behind, ciphertext_of, mic_of, verified, open_by}
+use Rattle.frame.specs.Opening.{Mark, behind, ciphertext_of, mic_of, verified, open_by}
 use Rattle.frame.specs.Marks.{Openable}
 use Rattle.frame.proofs.Levels.{level_agrees, level_fits, level_length, level_nonce, level_authenticated, level_ieee}
 use Rattle.frame.proofs.Accepted.{GoodHeaders, Readable, read_accepts, sealed_run}
@@ -76,7 +75,7 @@ module _ (l : Level) (key : List ℕ) (h : NwkHeader) (x : NwkAuxHeader) (p : Li
   sealed_length_lem =
       ap length in_three ∙ length-append (header_bytes h) _
       ∙ ap (λ (n : ℕ). length (header_bytes h) + n) (length-append (aux_bytes (at_level sent_level x)) sealed_part)
-      ∙ (λ i. length (header_bytes h) + (level_length sent_level sent_level x i + part_length i))
+      ∙ (λ i. length (header_bytes h) + (level_length sent_level x i + part_length i))
       ∙ omega arith
 
   -- ---- reading them

@@ -16,7 +16,7 @@ use Rattle.octets.proofs.Conditions.{none, gives, skip, stop_by, skip_by}
 use Rattle.types.specs.declared.level.Level.{Level}
 use Rattle.types.specs.Levels.{is_other}
 use Rattle.types.specs.Counters.{last_counter}
-use Rattle.header.specs.declared.nwk.NwkHeader.{NwkHeader}
+use Rattle.header.specs.declared.{auxiliary.NwkAuxHeader.NwkAuxHeader, nwk.NwkHeader.NwkHeader}
 use Rattle.header.specs.Reading.{read_header}
 use Rattle.header.specs.Auxiliary.{aux_by, blank_aux}
 use Rattle.header.specs.Writing.{field_refusal}

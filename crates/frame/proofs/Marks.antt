@@ -20,10 +20,9 @@ use Rattle.header.specs.Reading.{control, header_refusal, read_header, optional_
 use Rattle.header.specs.Auxiliary.{aux_refusal, read_aux}
 use Rattle.header.proofs.ReadFacts.{header_number, aux_number, read_control}
 use Rattle.ccm.specs.Operations.{ciph_of}
-use Rattle.frame.specs.declared.{FrameRead.FrameRead, Mark.Mark, FrameOpened.FrameOpened}
-use Rattle.frame.specs.Reading.{secured, aux_behind, frame_refusal, frame_number, frame_given, frame_by, read_frame}
+use Rattle.frame.specs.Reading.{FrameRead, secured, aux_behind, frame_refusal, frame_number, frame_given, frame_by, read_frame}
 use Rattle.frame.specs.Security.{or_blank, no_ieee}
-use Rattle.frame.specs.Opening.{is_sealed, last_of, behind, open_refusals, open_refusal, open_refused, Run, clear_given, open_with, open_frame, payload_in}
+use Rattle.frame.specs.Opening.{Mark, FrameOpened, is_sealed, last_of, behind, open_refusals, open_refusal, open_refused, Run, clear_given, open_with, open_frame, payload_in}
 use Rattle.frame.specs.Writing.{write_frame}
 use Rattle.frame.specs.Marks.{IsClear, ClearAccepted, ClearOnly, ccm_of, SealedAccepted, SealedOnly, SecuredNumbers, MarkedIfAccepted, PayloadOfClear, PayloadOfSealed, PayloadOfRefused, PayloadLength, NoFourteen, WrittenOpensClear}
 use Rattle.frame.proofs.Accepted.{frame_refusal_lem, readable, counts, run_either, sealed_run, clear_run, marked_sealed, marked_clear, marked, unmarked}

@@ -69,7 +69,7 @@ pub handed_level : HandedLevel
 unfolding seal_frame seal_refusal seal_refusals sealed_length sealed_bytes generated nonce authenticated headers_refusal aux_agrees at_level with_level
 handed_level l m key h a p o =
     ap (λ (n : ℕ). seal_by (first_of (on 29 (is_other l) ∷ by (headers_refusal h (Some a)) ∷ on 21 (eqb a.frame_counter last_counter)
-    ∷ length_refusals (length p) (length (header_bytes h) + n + tag_length l + length p) (length o))) (sealed_bytes l key h a p) o) (level_length m m a)
+    ∷ length_refusals (length p) (length (header_bytes h) + n + tag_length l + length p) (length o))) (sealed_bytes l key h a p) o) (level_length m a)
 
 -- ---- 29
 

@@ -1,13 +1,12 @@
 -- The address that the nonce used: a value of each claim in specs/NonceIeee.antt. A frame marked sealed has one of the two
 -- addresses, so the one that its nonce uses is there.
 -- Assumes nothing.
-use Rattle.std.specs.Prelude.{Option, Some, None}
+use Rattle.std.specs.Prelude.{Option, Some, None, ℕ}
 use mathlib.Core.Path.{◌≡◌, refl, sym, ap, ◌∙◌}
-use Rattle.header.specs.declared.nwk.NwkHeader.{NwkHeader}
-use Rattle.frame.specs.declared.FrameOpened.{FrameOpened}
+use Rattle.header.specs.declared.{auxiliary.NwkAuxHeader.NwkAuxHeader, nwk.NwkHeader.NwkHeader}
 use Rattle.frame.specs.Reading.{read_frame}
 use Rattle.frame.specs.Security.{at_level, or_blank, ieee_of, nonce}
-use Rattle.frame.specs.Opening.{verified, open_refused, Run}
+use Rattle.frame.specs.Opening.{FrameOpened, verified, open_refused, Run}
 use Rattle.frame.specs.SealingLaw.{level_zero, seal_then_open}
 use Rattle.frame.specs.NonceIeee.{address_of, SealedGivesAddress, ClearGivesNone, RefusedGivesNone, AddressComesBack}
 use Rattle.frame.proofs.Accepted.{ieee_there}

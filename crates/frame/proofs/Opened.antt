@@ -19,12 +19,11 @@ use Rattle.octets.proofs.Conditions.{accepted, refused, none, stop, skip, stop_b
 use Rattle.types.specs.declared.level.Level.{Level}
 use Rattle.types.specs.Levels.{is_other, tag_length}
 use Rattle.types.proofs.Levels.{tag_least}
-use Rattle.header.specs.declared.nwk.NwkHeader.{NwkHeader}
+use Rattle.header.specs.declared.{auxiliary.NwkAuxHeader.NwkAuxHeader, nwk.NwkHeader.NwkHeader}
 use Rattle.header.specs.Reading.{header_refusal, read_header}
 use Rattle.header.proofs.ReadFacts.{header_number, header_facts}
 use Rattle.ccm.specs.Verification.{Verified}
-use Rattle.frame.specs.declared.FrameRead.{FrameRead}
-use Rattle.frame.specs.Reading.{secured, aux_behind, frame_refusal, frame_given, frame_number, frame_by, read_frame}
+use Rattle.frame.specs.Reading.{FrameRead, secured, aux_behind, frame_refusal, frame_given, frame_number, frame_by, read_frame}
 use Rattle.frame.specs.Opening.{is_sealed, behind, verified, open_refusals, open_refusal, open_refused, Run, sealed_given, clear_given, open_given, open_nothing, open_by, open_with}
 use Rattle.frame.proofs.Accepted.{frame_refusal_lem, readable, open_number_lem, run_either}
 use Rattle.frame.proofs.SecondHalf.{payload_length}

@@ -22,8 +22,7 @@ use Rattle.header.specs.Same.{Agrees, AuxAgrees, agrees, aux_agrees}
 use Rattle.header.specs.PresenceBits.{Disagrees}
 use Rattle.header.proofs.WriteBack.{read_agrees}
 use Rattle.header.proofs.PresenceBits.{apart, header_disagrees, aux_disagrees, reading_agrees}
-use Rattle.frame.specs.declared.FrameRead.{FrameRead}
-use Rattle.frame.specs.Reading.{secured, aux_if, aux_behind, frame_refused, frame_given, frame_number, frame_by, read_frame}
+use Rattle.frame.specs.Reading.{FrameRead, secured, aux_if, aux_behind, frame_refused, frame_given, frame_number, frame_by, read_frame}
 use Rattle.frame.specs.Writing.{frame_bytes, length_refusals, frame_write_refusal, write_frame}
 use Rattle.frame.specs.Security.{is_absent, or_blank, no_ieee}
 use Rattle.frame.specs.Sealing.{sealed_bytes, headers_refusal, seal_refusals, seal_refusal, seal_by, seal_frame}

@@ -1,6 +1,8 @@
 -- The sealing law: a value of each of the two statements in specs/SealingLaw.antt.
 -- Assumes nothing.
-use Rattle.std.specs.Prelude.{Option, Some, None}
+use Rattle.std.specs.Prelude.{Option, Some, None, Result, Ok, Err}
+use Rattle.std.specs.Result.{result_unwrap_or}
+use Rattle.octets.specs.declared.refusals.Refusal.{Refusal}
 use mathlib.Core.Path.{◌≡◌, refl, sym, ap, ◌∙◌}
 use mathlib.Core.Bool.{Bool, true, false, true≢false}
 use mathlib.Core.List.{List, ◌∷◌}
@@ -15,23 +17,28 @@ use Rattle.octets.proofs.Conditions.{unless_either, stop_by}
 use Rattle.types.specs.declared.level.Level.{Level}
 use Rattle.types.specs.Levels.{is_other}
 use Rattle.types.specs.Counters.{last_counter}
-use Rattle.header.specs.declared.nwk.NwkHeader.{NwkHeader}
+use Rattle.header.specs.declared.{auxiliary.NwkAuxHeader.NwkAuxHeader, nwk.NwkHeader.NwkHeader}
 use Rattle.header.specs.Reading.{read_header}
 use Rattle.header.proofs.ReadBack.{same_cleared}
 use Rattle.ccm.specs.Operations.{ciph_of}
-use Rattle.frame.specs.declared.{FrameRead.FrameRead, Mark.Mark, FrameSealed.FrameSealed, FrameOpened.FrameOpened}
-use Rattle.frame.specs.Reading.{read_frame}
+use Rattle.frame.specs.Reading.{FrameRead, read_frame}
 use Rattle.frame.specs.Security.{or_blank}
 use Rattle.frame.specs.Sealing as sealing
-use Rattle.frame.specs.Sealing.{counter_of, headers_refusal, seal_refusals, seal_refusal, sealed_bytes, seal_given, seal_refused, seal_by, seal_frame}
+use Rattle.frame.specs.Sealing.{FrameSealed, counter_of, headers_refusal, seal_refusals, seal_refusal, sealed_bytes, seal_given, seal_refused, told_sealed, seal_by, seal_frame}
 use Rattle.frame.specs.Opening as opening
-use Rattle.frame.specs.Opening.{verified, open_refused, sealed_given, open_with, open_frame, payload_in}
+use Rattle.frame.specs.Opening.{Mark, FrameOpened, verified, open_refused, sealed_given, open_with, open_frame, payload_in}
 use Rattle.frame.specs.Marks.{Openable}
 use Rattle.frame.specs.SealingLaw.{InRange, FirstHalf, SecondHalf, seal_then_open, open_then_seal, Reopened, Resealed, bytes_written, payload_given}
 use Rattle.frame.proofs.Accepted.{Sealable, good_headers, sealable, seal_accepts, seal_accepted, seal_refused_lem, sealed_number, bytes_sealed_lem, run_either, sealed_run, marked_sealed}
 use Rattle.frame.proofs.ClearFrames.{clear_facts}
 use Rattle.frame.proofs.FirstHalf.{sealed_length_lem, reopened}
 use Rattle.frame.proofs.SecondHalf.{SecuredFacts, secured_facts, whole_read, sealable_again, frame_again}
+
+-- the length that the code's answer has
+pub length_told : (r : Result ℕ Refusal) → result_unwrap_or r 0 ≡ (told_sealed r).length
+unfolding seal_refused
+length_told (Ok n) = refl
+length_told (Err r) = refl
 
 pub seal_number : (l : Level) (key : List ℕ) (h : NwkHeader) (a : Option NwkAuxHeader) (p o : List ℕ)
     → (seal_frame l key h a p o).answer.refusal ≡ seal_refusal l h a (length p) (length o)

@@ -25,8 +25,7 @@ use Rattle.header.proofs.AuxiliaryLaws.{aux_length}
 use Rattle.header.proofs.PresenceBits.{reading_agrees}
 use Rattle.ccm.specs.Operations.{ciph_of}
 use Rattle.ccm.proofs.Opening.{length_payload, sealed_opened}
-use Rattle.frame.specs.declared.FrameRead.{FrameRead}
-use Rattle.frame.specs.Reading.{secured, aux_behind, frame_refused, frame_given, frame_number, frame_by, read_frame}
+use Rattle.frame.specs.Reading.{FrameRead, secured, aux_behind, frame_refused, frame_given, frame_number, frame_by, read_frame}
 use Rattle.frame.specs.Security.{sent_level, at_level, or_blank, no_ieee, nonce, authenticated}
 use Rattle.frame.specs.Sealing.{generated, sealed_bytes, sealed_length}
 use Rattle.frame.specs.Opening.{is_sealed, behind, ciphertext_of, mic_of, verified}

@@ -7,12 +7,11 @@ use Rattle.octets.specs.Refusals.{on, by, first_of}
 use Rattle.types.specs.declared.level.Level.{Level}
 use Rattle.types.specs.Levels.{is_other}
 use Rattle.types.specs.Counters.{last_counter}
-use Rattle.header.specs.declared.nwk.NwkHeader.{NwkHeader}
-use Rattle.frame.specs.declared.Mark.{Mark}
+use Rattle.header.specs.declared.{auxiliary.NwkAuxHeader.NwkAuxHeader, nwk.NwkHeader.NwkHeader}
 use Rattle.frame.specs.Security.{or_blank}
 use Rattle.frame.specs.Sealing as sealing
 use Rattle.frame.specs.Sealing.{sealed_bytes, headers_refusal, seal_refusals, counter_of, seal_nothing, seal_by, seal_frame}
-use Rattle.frame.specs.Opening.{open_frame}
+use Rattle.frame.specs.Opening.{Mark, open_frame}
 use Rattle.frame.specs.SealingLaw.{bytes_written, AuxOptionFits, InRange, Reopened, open_then_seal}
 
 -- sealing by its list without 21

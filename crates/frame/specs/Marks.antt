@@ -12,11 +12,10 @@ use Rattle.header.specs.Reading.{control}
 use Rattle.header.specs.Same.{SameHeader, HeaderFits}
 use Rattle.ccm.specs.Verification.{Verified}
 use Rattle.ccm.specs.Operations.{ciph_of}
-use Rattle.frame.specs.declared.{FrameRead.FrameRead, Mark.Mark}
-use Rattle.frame.specs.Reading.{read_frame}
+use Rattle.frame.specs.Reading.{FrameRead, read_frame}
 use Rattle.frame.specs.Security.{or_blank, no_ieee}
 use Rattle.frame.specs.Writing.{write_frame}
-use Rattle.frame.specs.Opening.{is_sealed, behind, verified, sealed_given, clear_given, open_frame, payload_in}
+use Rattle.frame.specs.Opening.{Mark, is_sealed, behind, verified, sealed_given, clear_given, open_frame, payload_in}
 
 -- the payload handed back of the frame f, opened under key into o
 abbrev pub handed_back : Level → List ℕ → List ℕ → List ℕ → List ℕ

@@ -16,8 +16,7 @@ use Rattle.header.specs.Writing.{header_bytes}
 use Rattle.ccm.specs.Generation.{Generated}
 use Rattle.ccm.specs.Verification.{Verified, decryption_verification}
 use Rattle.ccm.specs.Operations.{ciph_of, sealed_by}
-use Rattle.frame.specs.declared.FrameRead.{FrameRead}
-use Rattle.frame.specs.Reading.{read_frame}
+use Rattle.frame.specs.Reading.{FrameRead, read_frame}
 use Rattle.frame.specs.Writing.{length_refusals}
 use Rattle.frame.specs.Security.{sent_level, at_level, or_blank, ieee_of, no_ieee, nonce, authenticated}
 use Rattle.frame.specs.Sealing as sealing

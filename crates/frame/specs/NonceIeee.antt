@@ -9,11 +9,10 @@ use Rattle.types.specs.Levels.{tag_length}
 use Rattle.header.specs.declared.{auxiliary.NwkAuxHeader.NwkAuxHeader, nwk.NwkHeader.NwkHeader}
 use Rattle.header.specs.AuxiliaryControl.{security_byte, with_level}
 use Rattle.ccm.specs.Operations.{opened_by}
-use Rattle.frame.specs.declared.Mark.{Mark}
 use Rattle.frame.specs.Reading.{read_frame}
 use Rattle.frame.specs.Security.{field_level, or_blank, ieee_of, authenticated}
 use Rattle.frame.specs.Sealing.{seal_frame}
-use Rattle.frame.specs.Opening.{behind, ciphertext_of, mic_of, open_frame}
+use Rattle.frame.specs.Opening.{Mark, behind, ciphertext_of, mic_of, open_frame}
 use Rattle.frame.specs.SealingLaw.{InRange, seal_then_open}
 use Rattle.frame.specs.Marks.{ccm_of}
 

@@ -2,17 +2,19 @@
 -- the frame. A frame whose security bit is off is clear: its payload is a part of the frame, and the output stays
 -- (document 02, 3).
 -- Assumes nothing.
-use Rattle.std.specs.Prelude.{ℕ, ◌-◌, Bool, cond, not, ◌&&◌, List, [], ◌∷◌, length, take, drop, ltb, Option, None}
+use Rattle.std.specs.Prelude.{ℕ, ◌-◌, Bool, cond, not, ◌&&◌, List, [], ◌∷◌, length, take, drop, ltb, Option, Some, None, Result, Ok, Err}
 use Rattle.octets.specs.Strings.{over}
-use Rattle.octets.specs.Refusals.{unless, Condition, on, by, first_of}
-use Rattle.header.specs.declared.nwk.NwkHeader.{NwkHeader}
+use Rattle.octets.specs.declared.refusals.Refusal.{Refusal}
+use Rattle.octets.specs.Refusals.{unless, Condition, on, by, first_of, number_of}
+use Rattle.header.specs.declared.{nwk.NwkHeader.NwkHeader, auxiliary.NwkAuxHeader.NwkAuxHeader}
 use Rattle.header.specs.Reading.{blank_header}
 use Rattle.types.specs.declared.level.Level.{Level}
 use Rattle.types.specs.Levels.{is_other, tag_length}
 use Rattle.ccm.specs.Verification.{Verified, decryption_verification}
 use Rattle.ccm.specs.Operations.{ciph_of, ciph_under}
-use Rattle.frame.specs.declared.{FrameRead.FrameRead, Mark.Mark, FrameOpened.FrameOpened}
-use Rattle.frame.specs.Reading.{read_frame}
+use Rattle.frame.specs.declared.OpenedFrame.{OpenedFrame}
+use Rattle.frame.specs.declared.Mark as code
+use Rattle.frame.specs.Reading.{FrameRead, read_frame}
 use Rattle.frame.specs.Security.{or_blank, nonce_ieee, no_ieee, nonce, authenticated}
 
 -- the security bit: set in the header of a sealed frame, off in that of a clear one
@@ -57,10 +59,36 @@ open_refusal l ciph f r room =
     ∷ on 19 (is_sealed r.header && not (verified l ciph f r).valid)
     ∷ [])
 
+-- the mark of an answer: none beside a refusal; clear, where nothing authenticates the payload; or sealed, where CCM does
+pub data Mark : Type 0 where
+  Unmarked Clear Sealed : Mark
+
+-- the same, of the code's mark or none
+abbrev pub marked : Option code.Mark → Mark
+marked None = Mark.Unmarked
+marked (Some code.Mark.Clear) = Mark.Clear
+marked (Some code.Mark.Sealed) = Mark.Sealed
+
+-- what opening a frame answers: a refusal's number with no mark, length 0, no address and blank headers, or 0, the mark, the payload's
+-- length, the long address that the nonce used (none of a clear frame) and the two headers as read
+pub record FrameOpened : Type 0 where
+  pub refusal : ℕ
+  pub mark : Mark
+  pub length : ℕ
+  pub nonce_ieee : Option ℕ
+  pub header : NwkHeader
+  pub aux : Option NwkAuxHeader
+
 -- the number alone: no mark and no address stand beside a refusal
 unfoldable pub open_refused : ℕ → FrameOpened
 open_refused n =
     record { refusal = n; mark = Mark.Unmarked; length = 0; nonce_ieee = None; header = blank_header; aux = None }
+
+-- the answer that the code gives
+abbrev pub told_opened : Result OpenedFrame Refusal → FrameOpened
+told_opened (Ok o) =
+    record { refusal = 0; mark = marked (Some o.mark); length = o.length; nonce_ieee = o.nonce_ieee; header = o.header; aux = o.aux }
+told_opened (Err r) = open_refused (number_of r)
 
 -- what opening leaves: its answer, and the whole of the lent output
 pub record Run : Type 0 where

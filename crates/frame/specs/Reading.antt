@@ -1,12 +1,13 @@
 -- Reading a frame (Zigbee Specification 3.3.1; `EncryptedNwkFrame::from_bytes`): the header, the auxiliary header exactly if
 -- the security bit is set, and what is behind them. It uses the answers of reading the two headers.
 -- Assumes nothing.
-use Rattle.std.specs.Prelude.{ℕ, ◌+◌, ◌-◌, Bool, true, false, cond, not, ◌&&◌, List, [], ◌∷◌, length, drop, ltb, Option, Some, None}
-use Rattle.octets.specs.Refusals.{unless, on, by, first_of}
-use Rattle.header.specs.declared.{auxiliary.NwkAuxHeader.NwkAuxHeader, auxiliary.AuxRead.AuxRead, nwk.HeaderRead.HeaderRead, control.NwkFrameType.NwkFrameType}
-use Rattle.header.specs.Reading.{read_header, blank_header}
-use Rattle.header.specs.Auxiliary.{read_aux}
-use Rattle.frame.specs.declared.{FrameRead.FrameRead, NwkPayload.NwkPayload}
+use Rattle.std.specs.Prelude.{ℕ, ◌+◌, ◌-◌, Bool, true, false, cond, not, ◌&&◌, List, [], ◌∷◌, length, drop, ltb, Option, Some, None, Result, Ok, Err}
+use Rattle.octets.specs.declared.refusals.Refusal.{Refusal}
+use Rattle.octets.specs.Refusals.{unless, on, by, first_of, number_of}
+use Rattle.header.specs.declared.{auxiliary.NwkAuxHeader.NwkAuxHeader, control.NwkFrameType.NwkFrameType, nwk.NwkHeader.NwkHeader}
+use Rattle.header.specs.Reading.{HeaderRead, read_header, blank_header}
+use Rattle.header.specs.Auxiliary.{AuxRead, read_aux}
+use Rattle.frame.specs.declared.{Frame.Frame, NwkPayload.NwkPayload}
 
 -- the security bit, bit 9 of frame control
 abbrev pub secured : HeaderRead → Bool
@@ -27,9 +28,22 @@ unfoldable pub frame_refusal : ℕ → Bool → ℕ → ℕ → ℕ
 frame_refusal header is_secured aux payload =
     first_of (by header ∷ by (cond is_secured aux 0) ∷ on 12 (not is_secured && ltb 108 payload) ∷ [])
 
+-- what reading a frame answers: a refusal's number with length 0 and blank headers, or 0, how many bytes the two headers take and
+-- the headers
+pub record FrameRead : Type 0 where
+  pub refusal : ℕ
+  pub length : ℕ
+  pub header : NwkHeader
+  pub aux : Option NwkAuxHeader
+
 -- the number alone
 unfoldable pub frame_refused : ℕ → FrameRead
 frame_refused n = record { refusal = n; length = 0; header = blank_header; aux = None }
+
+-- the same, of the code's answer
+abbrev pub told_frame : Result Frame Refusal → FrameRead
+told_frame (Ok r) = record { refusal = 0; length = r.length; header = r.header; aux = r.aux }
+told_frame (Err r) = frame_refused (number_of r)
 
 -- the two headers and how many bytes they take
 abbrev pub frame_given : HeaderRead → AuxRead → FrameRead

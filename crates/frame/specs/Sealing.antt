@@ -1,8 +1,9 @@
 -- Sealing a frame at the network's level l (Zigbee Specification 4.3.1.1; `NwkFrame::serialize` with a key).
 -- Assumes nothing.
-use Rattle.std.specs.Prelude.{ℕ, ◌+◌, Bool, not, List, [], ◌∷◌, ◌++◌, length, eqb, Option}
+use Rattle.std.specs.Prelude.{ℕ, ◌+◌, Bool, not, List, [], ◌∷◌, ◌++◌, length, eqb, Option, Result, Ok, Err}
 use Rattle.octets.specs.Strings.{over}
-use Rattle.octets.specs.Refusals.{unless, Condition, on, by, first_of}
+use Rattle.octets.specs.declared.refusals.Refusal.{Refusal}
+use Rattle.octets.specs.Refusals.{unless, Condition, on, by, first_of, number_of}
 use Rattle.types.specs.declared.level.Level.{Level}
 use Rattle.types.specs.Counters.{last_counter}
 use Rattle.types.specs.Levels.{is_other, tag_length}
@@ -12,7 +13,6 @@ use Rattle.header.specs.Writing.{header_bytes, field_refusal}
 use Rattle.header.specs.Same.{aux_agrees}
 use Rattle.ccm.specs.Generation.{Generated}
 use Rattle.ccm.specs.Operations.{sealed_by}
-use Rattle.frame.specs.declared.FrameSealed.{FrameSealed}
 use Rattle.frame.specs.Writing.{length_refusals}
 use Rattle.frame.specs.Security.{sent_level, at_level, is_absent, or_blank, no_ieee, nonce, authenticated}
 
@@ -58,6 +58,11 @@ seal_refusal l h a n room = first_of (seal_refusals (eqb (counter_of a) last_cou
 
 -- ---- the run
 
+-- what sealing a frame answers: a refusal's number with length 0, or 0 and the frame's length
+pub record FrameSealed : Type 0 where
+  pub refusal : ℕ
+  pub length : ℕ
+
 -- what sealing leaves: its answer, and the whole of the lent output
 pub record Run : Type 0 where
   pub answer : FrameSealed
@@ -70,6 +75,11 @@ seal_given bs o = record { answer = record { refusal = 0; length = length bs }; 
 -- the number alone
 unfoldable pub seal_refused : ℕ → FrameSealed
 seal_refused n = record { refusal = n; length = 0 }
+
+-- the answer that the code gives
+abbrev pub told_sealed : Result ℕ Refusal → FrameSealed
+told_sealed (Ok n) = record { refusal = 0; length = n }
+told_sealed (Err r) = seal_refused (number_of r)
 
 -- refused by a number, nothing changed
 abbrev pub seal_nothing : ℕ → List ℕ → Run

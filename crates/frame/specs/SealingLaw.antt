@@ -16,15 +16,14 @@ use Rattle.std.specs.Prelude.{◌≡◌, ℕ, ◌≤◌, ◌/◌, ◌%◌, List,
 use Rattle.octets.specs.Strings.{Below}
 use Rattle.types.specs.declared.level.Level.{Level}
 use Rattle.types.specs.Counters.{last_counter}
-use Rattle.header.specs.declared.nwk.NwkHeader.{NwkHeader}
+use Rattle.header.specs.declared.{auxiliary.NwkAuxHeader.NwkAuxHeader, nwk.NwkHeader.NwkHeader}
 use Rattle.header.specs.Reading.{read_header}
 use Rattle.header.specs.Same.{SameHeader, HeaderFits, AuxFits}
-use Rattle.frame.specs.declared.Mark.{Mark}
 use Rattle.frame.specs.Security.{sent_level, at_level}
 use Rattle.frame.specs.Sealing as sealing
 use Rattle.frame.specs.Sealing.{counter_of, seal_frame}
 use Rattle.frame.specs.Opening as opening
-use Rattle.frame.specs.Opening.{open_frame}
+use Rattle.frame.specs.Opening.{Mark, open_frame}
 
 -- the bytes written, and the payload that opening a sealed frame gave: the output's first n bytes, n being the length given
 abbrev pub bytes_written : sealing.Run → List ℕ

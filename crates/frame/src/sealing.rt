@@ -1,61 +1,40 @@
 // Sealing a frame (Zigbee Specification 4.3.1.1).
-ghost use Rattle.std.specs.Prelude.{◌≡◌, false, ◌++◌, ◌+◌, ◌≤◌, ◌<◌, length};
+ghost use Rattle.std.specs.Prelude.{◌≡◌, false, ◌++◌, ◌+◌, ◌≤◌, length, IfOk, Some};
 ghost use Rattle.octets.specs.Strings.{over};
+ghost use Rattle.octets.specs.Refusals.{refused};
 ghost use Rattle.header.specs.Writing.{bad_header};
 ghost use Rattle.types.specs.Levels.{tag_length};
 ghost use Rattle.ccm.specs.Operations.{sealed_by};
-ghost use Rattle.frame.specs.Sealing.{sealed_length, sealed_bytes, headers_refusal, seal_refusal, seal_refused, seal_frame};
+ghost use Rattle.frame.specs.Sealing.{sealed_length, sealed_bytes, headers_refusal, told_sealed, seal_frame};
 
-use crate::{FrameSealed, OptionAuxHeader, length_refusal, security};
+use crate::security::Headers;
+use crate::{security, whole_length};
 use header::auxiliary::{NwkAuxHeader, NwkSecurityLevel};
 use header::nwk::NwkHeader;
-use octets::refusals;
+use octets::refusals::Refusal;
 use types::Key;
 use types::level::Level;
 
-// The frame's length, for n bytes of payload.
-fn sealed_length(level: Level, h: NwkHeader, aux: NwkAuxHeader, n: usize) -> usize
-    requires { n < 4096 }
-    ensures { result ≡ sealed_length level h aux n }
+// The two headers; refusals 13, 28, 14, 28 and 15. The first 28 is for the header's bits, bit 9 among them, the second for the extended
+// nonce bit.
+#[tactic(auto, unfolding(crate::specs::Sealing::headers_refusal, octets::specs::Refusals::first_of, octets::specs::Refusals::unless))]
+fn check_headers(h: NwkHeader, aux: Option<NwkAuxHeader>) -> Result<Headers, Refusal>
+    ensures number { refused result ≡ headers_refusal h aux }
+    ensures headers { IfOk result (λ (r : Headers). (r.header ≡ h) × (aux ≡ Some r.aux) × (bad_header h ≡ false)) }
 {
-    h.size() + aux.size() + level.tag_length() + n
-}
-
-// The first of the two headers' refusals, 13, 28, 14, 28 and 15, that holds, or 0. The first 28 is for the header's bits, bit 9
-// among them, the second for the extended nonce bit.
-fn headers_refusal(h: NwkHeader, aux: OptionAuxHeader) -> u8
-    ensures { result ≡ headers_refusal h aux }
-{
-    let present = aux.or_blank();
-    let agrees = present.agrees();
-    let no_ieee = security::no_ieee(h, present);
-    let r = h.field_refusal();
-    let r = octets::refuse(r, refusals::PRESENCE_BITS, !h.frame_control.security);
-    let r = octets::refuse(r, refusals::NO_AUXILIARY, aux.is_absent());
-    let r = octets::refuse(r, refusals::PRESENCE_BITS, !agrees);
-    octets::refuse(r, refusals::NO_IEEE, no_ieee)
-}
-
-// The first of the refusals 29, 13, 28, 14, 28, 15, 21, 17 and 18 that holds for n bytes of payload, or 0.
-fn seal_refusal(level: Level, h: NwkHeader, aux: OptionAuxHeader, n: usize, room: usize) -> u8
-    ensures { result ≡ seal_refusal level h aux n room }
-{
-    let present = aux.or_blank();
-    let front = h.size() + present.size() + level.tag_length();
-    let last = present.frame_counter == types::LAST_COUNTER;
-    let r = octets::refuse(0, refusals::LEVEL, level.is_other());
-    let r = octets::or_else(r, headers_refusal(h, aux));
-    let r = octets::refuse(r, refusals::LAST_COUNTER, last);
-    length_refusal(r, front, n, room)
-}
-
-impl FrameSealed {
-    // The answer of a refusal: its number alone.
-    fn refused(refusal: u8) -> FrameSealed
-        ensures { result ≡ seal_refused refusal }
-    {
-        FrameSealed { refusal, length: 0 }
+    h.check_fields()?;
+    if !h.frame_control.security {
+        return Err(Refusal::PresenceBits);
     }
+    let aux = aux.ok_or(Refusal::NoAuxiliary)?;
+    if !aux.agrees() {
+        return Err(Refusal::PresenceBits);
+    }
+    let headers = Headers { header: h, aux };
+    if headers.nonce_ieee().is_none() {
+        return Err(Refusal::NoIeee);
+    }
+    Ok(headers)
 }
 
 // Write ciphertext and MIC at the place start.
@@ -72,54 +51,54 @@ fn put_sealed(
     ensures { out.new ≡ over out.old start ((sealed_by (tag_length level) key nonce auth.now payload.now).ciphertext ++ (sealed_by (tag_length level) key nonce auth.now payload.now).tag) }
 {
     let mic = ccm::seal(level, key, nonce, auth, payload, &mut out[start..]);
-    let tag = level.tag_length();
-    octets::copy_at(out, start + payload.len(), &mic[..tag]);
+    octets::copy_at(out, start + payload.len(), &mic[..level.tag_length()]);
 }
 
 // Seal a frame that meets no refusal.
-fn seal_frame(
-    level: Level,
-    key: [u8; 16],
-    h: NwkHeader,
-    aux: NwkAuxHeader,
-    payload: &[u8],
-    out: &mut [u8],
-)
-    requires { (2 ≤ tag_length level) × (bad_header h ≡ false) × (length payload.now ≤ 108) × (sealed_length level h aux (length payload.now) ≤ 118) × (sealed_length level h aux (length payload.now) ≤ length out.old) }
-    ensures { out.new ≡ over out.old 0 (sealed_bytes level key h aux payload.now) }
+#[tactic(auto, unfolding(crate::specs::Sealing::sealed_length, crate::specs::Sealing::sealed_bytes, crate::specs::Sealing::generated), using(crate::proofs::Levels::level_length, crate::proofs::Levels::auth_length, octets::proofs::Strings::over_over, octets::proofs::Strings::take_over))]
+fn seal_frame(level: Level, key: Key, headers: Headers, payload: &[u8], out: &mut [u8])
+    requires { (2 ≤ tag_length level) × (bad_header headers.header ≡ false) × (length payload.now ≤ 108) × (sealed_length level headers.header headers.aux (length payload.now) ≤ 118) × (sealed_length level headers.header headers.aux (length payload.now) ≤ length out.old) }
+    ensures { out.new ≡ over out.old 0 (sealed_bytes level key.0 headers.header headers.aux payload.now) }
 {
-    let nonce = security::nonce_of(level, h, aux);
-    let auth = security::both_headers(h, security::at_level(aux, security::field_level(level)));
-    let header = h.size();
-    let start = header + aux.size();
-    security::put_behind(
-        &auth[..header],
-        security::at_level(aux, NwkSecurityLevel::NoSecurity),
+    let header = headers.header.size();
+    headers.header.put(out);
+    let auth = headers.authenticated(level, &out[..header]);
+    security::at_level(headers.aux, NwkSecurityLevel::NoSecurity).put(out, header);
+    let start = headers.size();
+    put_sealed(
+        level,
+        key.0,
+        headers.nonce(level),
+        &auth[..start],
+        payload,
         out,
+        start,
     );
-    put_sealed(level, key, nonce, &auth[..start], payload, out, start);
 }
 
-// Seal a frame (`NwkFrame::serialize` with a key); refusals 29, 13, 28, 14, 28, 15, 21, 17 and 18, which
+// Seal a frame (`NwkFrame::serialize` with a key), and give its length; refusals 29, 13, 28, 14, 28, 15, 21, 17 and 18, which
 // change nothing.
+#[tactic(auto, unfolding(crate::specs::Sealing::seal_frame, crate::specs::Sealing::seal_by, crate::specs::Sealing::seal_refusal, crate::specs::Sealing::seal_refusals, crate::specs::Sealing::seal_refused, crate::specs::Sealing::sealed_length, octets::specs::Refusals::first_of, octets::specs::Refusals::unless), using(types::proofs::Levels::tag_least, crate::proofs::FirstHalf::sealed_length_lem))]
 pub fn seal(
     level: Level,
     key: Key,
     h: NwkHeader,
-    aux: OptionAuxHeader,
+    aux: Option<NwkAuxHeader>,
     payload: &[u8],
     out: &mut [u8],
-) -> FrameSealed
-    ensures answer { result ≡ (seal_frame level key.0 h aux payload.now out.old).answer }
+) -> Result<usize, Refusal>
+    ensures answer { told_sealed result ≡ (seal_frame level key.0 h aux payload.now out.old).answer }
     ensures buffer { out.new ≡ (seal_frame level key.0 h aux payload.now out.old).out }
 {
-    let refusal = seal_refusal(level, h, aux, payload.len(), out.len());
-    if refusal != 0 {
-        return FrameSealed::refused(refusal);
+    if level.is_other() {
+        return Err(Refusal::Level);
     }
-    let present = aux.or_blank();
-    let bytes = key.0;
-    let length = sealed_length(level, h, present, payload.len());
-    seal_frame(level, bytes, h, present, payload, out);
-    FrameSealed { refusal: 0, length }
+    let headers = check_headers(h, aux)?;
+    if headers.aux.frame_counter == types::LAST_COUNTER {
+        return Err(Refusal::LastCounter);
+    }
+    let front = headers.size() + level.tag_length();
+    let length = whole_length(front, payload.len(), out.len())?;
+    seal_frame(level, key, headers, payload, out);
+    Ok(length)
 }

@@ -4,7 +4,7 @@ use Rattle.frame.proofs.opening.open.Goals as goal
 
 pub returns : goal.returns
 returns c =
-    let same = cipher_is _ _ c.expand-keys.ensures in
+    let same = cipher_is _ _ c.expand.ensures in
     record {
       answer = rw same at c.open_under.ensures.answer;
       buffer = rw same at c.open_under.ensures.buffer;

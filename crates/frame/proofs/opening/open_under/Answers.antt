@@ -1,74 +1,70 @@
--- `open_under` meets its contract: refused with nothing changed, 19 among the refusals, or clear, or opened. Assumes nothing.
+-- `open_under` meets its contract on a sealed frame: refused by 19 with nothing changed, or opened. Assumes nothing.
 use mathlib.Core.Path.{sym, ap, ◌∙◌}
-use Prim.Native.Nat.{ℕ, ◌+◌}
 use native.Mathlib.Omega.{arith}
-use borrow.Author.Tests.{not-true, not-false}
-use lib.ListN.{length, take}
-use Rattle.types.proofs.Levels.{tag_least}
-use Rattle.header.specs.declared.auxiliary.NwkAuxHeader.{NwkAuxHeader}
-use Rattle.header.specs.Writing.{header_bytes}
-use Rattle.header.specs.Auxiliary.{aux_bytes}
-use Rattle.frame.specs.Opening as opening
-use Rattle.frame.proofs.Answers.{open_stopped, opened_clear, opened_valid, opened_invalid, ready_facts}
-use Rattle.frame.proofs.Accepted.{keyless}
+use lib.ListN.{drop}
+use lib.Seq.{length-take-le}
+use Rattle.octets.proofs.Strings.{part_behind}
+use Rattle.frame.specs.Opening.{Mark, Run}
+use Rattle.frame.proofs.Answers.{ready, split_parts, split_passes, opened_valid, opened_invalid}
 use Rattle.frame.proofs.opening.open_under.Goals as goal
 
-pub returns-then-refusal-ne0 : goal.returns-then-refusal-ne0
-returns-then-refusal-ne0 c =
+pub slice_bounds-front-end : goal.slice_bounds-front-end
+slice_bounds-front-end c =
+    let o = c.in_ok-header.ensures in
+    let r = ready _ _ _ _ _ (λ i. (c.type_inv.bytes i).fits) o.frame.0 o.number o.frame.2 c.in-Some.is in
+    sym (length-take-le _ _ (omega (arith, r.within)))
+
+pub returns-in_err-n : goal.returns-in_err-n
+returns-in_err-n c =
+    let o = c.in_ok-header.ensures in
+    let r = ready _ _ _ _ _ (λ i. (c.type_inv.bytes i).fits) o.frame.0 o.number o.frame.2 c.in-Some.is in
+    absurd (split_passes _ _ _ r.tag r.tagged (rw part_behind at c.in_err-n.ensures))
+
+pub slice_bounds-open_sealed-end : goal.slice_bounds-open_sealed-end
+slice_bounds-open_sealed-end c =
+    let o = c.in_ok-header.ensures in
+    let r = ready _ _ _ _ _ (λ i. (c.type_inv.bytes i).fits) o.frame.0 o.number o.frame.2 c.in-Some.is in
+    let s = split_parts _ _ _ _ r.tag r.tagged (rw part_behind at c.in_ok-n.ensures) in
+    rw part_behind (sym (length-take-le _ _ (omega (arith, s.0))))
+
+pub open_sealed-requires : goal.open_sealed-requires
+open_sealed-requires c =
+    let o = c.in_ok-header.ensures in
+    let r = ready _ _ _ _ _ (λ i. (c.type_inv.bytes i).fits) o.frame.0 o.number o.frame.2 c.in-Some.is in
+    let s = split_parts _ _ _ _ r.tag r.tagged (rw part_behind at c.in_ok-n.ensures) in
+    let size = length-take-le c.in_ok-n.n (drop c.in_ok-header.field-0.length c.args.bytes.now) (omega (arith, s.0)) in
+    rw part_behind
+    (r.tag, rw c.size.ensures.0 r.front, r.short, omega (arith, size, s.0, r.part), omega (arith, size, s.0, r.fits))
+
+pub returns-then-not-open_sealed : goal.returns-then-not-open_sealed
+returns-then-not-open_sealed c =
+    let o = c.in_ok-header.ensures in
+    let r = ready _ _ _ _ _ (λ i. (c.type_inv.bytes i).fits) o.frame.0 o.number o.frame.2 c.in-Some.is in
+    let s = split_parts _ _ _ _ r.tag r.tagged (rw part_behind at c.in_ok-n.ensures) in
+    let e = rw part_behind at c.open_sealed.ensures in
     let run =
-    open_stopped _ _ _ _ _ _ _ c.read_frame-read.ensures c.behind-part.ensures c.open_refusal-refusal.ensures c.if-refusal-ne0.true in
+    opened_invalid _ _ _ _ _ _ _ _ _ _ _ o.frame.0 o.number r.sealed c.in-Some.is s.0 s.1 s.2 e.valid e.buffer c.if-not-open_sealed.true in
     record {
-      answer = c.refused.ensures ∙ ap (λ (r : opening.Run). r.answer) run;
-      buffer = ap (λ (r : opening.Run). r.out) run;
-    }
-
-pub returns-then-not-header : goal.returns-then-not-header
-returns-then-not-header c =
-    let run =
-    opened_clear _ _ _ _ _ _ _ c.read_frame-read.ensures c.behind-part.ensures c.open_refusal-refusal.ensures c.if-refusal-ne0.false
-    (not-true _ c.if-not-header.true) in
-    record {
-      answer = c.given.ensures ∙ ap (λ (r : opening.Run). r.answer) run;
-      buffer = ap (λ (r : opening.Run). r.out) run;
-    }
-
-pub open_frame-requires : goal.open_frame-requires
-open_frame-requires c =
-    let bit = not-false _ c.if-not-header.false in
-    let s = keyless _ _ _ _ _ _ (sym c.open_refusal-refusal.ensures ∙ c.if-refusal-ne0.false) in
-    let r = ready_facts _ _ (λ i. (c.shared_slice_known-1.given i).fits) c.read_frame-read.ensures s.reads bit in
-    let e = ap (λ (x : NwkAuxHeader). length (header_bytes c.read_frame-read.result.header) + length (aux_bytes x)) c.or_blank-present.ensures in (
-      c.requires,
-      omega (arith, tag_least c.args.level s.level),
-      c.first-front.ensures ∙ ap (λ (n : ℕ). take n c.args.frame.now) c.size.ensures.0 ∙ r.0,
-      omega (arith, e, r.1),
-      omega (arith, ap length c.behind-part.ensures, r.2),
-      s.tagged bit,
-      s.fits bit,
-    )
-
-pub overflow_sub-part : goal.overflow_sub-part
-overflow_sub-part c =
-    omega (arith, c.tag_length.ensures.0, (keyless _ _ _ _ _ _ (sym c.open_refusal-refusal.ensures ∙ c.if-refusal-ne0.false)).tagged (not-false _ c.if-not-header.false))
-
-pub returns-then-open_frame : goal.returns-then-open_frame
-returns-then-open_frame c =
-    let o = c.open_frame.ensures in
-    let run =
-    opened_valid _ _ _ _ _ _ _ _ _ _ c.read_frame-read.ensures c.behind-part.ensures c.or_blank-present.ensures
-    c.open_refusal-refusal.ensures c.if-refusal-ne0.false (not-false _ c.if-not-header.false) o.valid o.buffer _ c.source_ieee.ensures c.if-open_frame.true in
-    record {
-      answer = (rw c.tag_length.ensures.0 at c.given-then-open_frame.ensures) ∙ ap (λ (r : opening.Run). r.answer) run;
-      buffer = ap (λ (r : opening.Run). r.out) run;
+      answer = ap (λ (k : Run). k.answer) run;
+      buffer = ap (λ (k : Run). k.out) run;
     }
 
 pub returns : goal.returns
 returns c =
-    let o = c.open_frame.ensures in
+    let o = c.in_ok-header.ensures in
+    let r = ready _ _ _ _ _ (λ i. (c.type_inv.bytes i).fits) o.frame.0 o.number o.frame.2 c.in-Some.is in
+    let s = split_parts _ _ _ _ r.tag r.tagged (rw part_behind at c.in_ok-n.ensures) in
+    let e = rw part_behind at c.open_sealed.ensures in
     let run =
-    opened_invalid _ _ _ _ _ _ _ _ _ _ c.read_frame-read.ensures c.behind-part.ensures c.or_blank-present.ensures
-    c.open_refusal-refusal.ensures c.if-refusal-ne0.false (not-false _ c.if-not-header.false) o.valid o.buffer c.if-open_frame.false in
+    opened_valid _ _ _ _ _ _ _ _ _ _ _ o.frame.0 o.number r.sealed c.in-Some.is s.0 s.1 s.2 e.valid e.buffer c.if-not-open_sealed.false in
     record {
-      answer = c.refused-2.ensures ∙ ap (λ (r : opening.Run). r.answer) run;
-      buffer = ap (λ (r : opening.Run). r.out) run;
+      answer = (λ i. record {
+        refusal = 0;
+        mark = Mark.Sealed;
+        length = c.in_ok-n.n;
+        nonce_ieee = c.nonce_ieee.ensures i;
+        header = c.in_ok-header.field-0.header;
+        aux = sym c.in-Some.is i;
+      }) ∙ ap (λ (k : Run). k.answer) run;
+      buffer = ap (λ (k : Run). k.out) run;
     }

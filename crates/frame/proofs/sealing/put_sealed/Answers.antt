@@ -18,18 +18,6 @@ taken : (t tag : ℕ) (key nonce auth payload mic : List ℕ) → tag ≡ t → 
 taken t tag key nonce auth payload mic size same =
     (λ i. take (size i) (same i)) ∙ front_places t _ (length_tag t _ nonce auth payload)
 
-size : (t tag : ℕ) (key nonce auth payload mic : List ℕ) → tag ≡ t → mic ≡ in_places (sealed_by t key nonce auth payload).tag
-    → length (take tag mic) ≡ tag
-size t tag key nonce auth payload mic e same =
-    ap length (taken t tag key nonce auth payload mic e same) ∙ length_tag t _ nonce auth payload ∙ sym e
-
-pub slice_bounds-copy_at-end : goal.slice_bounds-copy_at-end
-slice_bounds-copy_at-end c = sym (size _ _ _ _ _ _ _ c.tag_length-tag.ensures.0 c.seal-mic.ensures.mic)
-
-pub copy_at-requires : goal.copy_at-requires
-copy_at-requires c =
-    omega (arith, size _ _ _ _ _ _ _ c.tag_length-tag.ensures.0 c.seal-mic.ensures.mic, c.tag_length-tag.ensures.0, c.requires.3)
-
 pub returns : goal.returns
 returns c =
     let a = c.args in
@@ -38,4 +26,4 @@ returns c =
     over_then a.out.now _ _ a.start (a.start + length a.payload.now) g.ciphertext g.tag (omega arith)
     (ap (λ (n : ℕ). a.start + n) (sym (length_ciphertext t _ a.nonce a.auth.now a.payload.now)))
     (part_over a.out.now _ g.ciphertext a.start (omega arith) c.seal-mic.ensures.buffer)
-    (c.copy_at.ensures ∙ ap (over _ (a.start + length a.payload.now)) (taken _ _ _ _ _ _ _ c.tag_length-tag.ensures.0 c.seal-mic.ensures.mic))
+    (c.copy_at.ensures ∙ ap (over _ (a.start + length a.payload.now)) (taken _ _ _ _ _ _ _ c.tag_length.ensures.0 c.seal-mic.ensures.mic))
