@@ -11,11 +11,11 @@ use Rattle.senders.specs.declared.SenderRecord.{SenderRecord}
 use Rattle.senders.specs.Senders.{counted}
 use Rattle.senders.proofs.Finding.{counted_64}
 use Rattle.journal.specs.declared.{Recovery.Recovery, format.Kind.Kind, format.JournalRecord.JournalRecord}
-use Rattle.journal.specs.Format.{record_bytes, records, unknown_kind, complete_length}
+use Rattle.journal.specs.Format.{record_bytes, records, unknown_kind}
 use Rattle.journal.specs.Recovery.{State, blank, larger, ceiling_after, senders_after, applied, applied_all, state_of, anew, recover_refusal, recover_nothing, recover_answer, recovered_list}
 use Rattle.journal.specs.Writing.{record_of_kind, write_refusal, write_record, some_ceiling, next_refusal, next_nothing, next_counter}
-use Rattle.journal.specs.Scan.{kind_of, byte_of, within, with_record, gathered}
-use Rattle.journal.proofs.Whole.{kind_known, kind_unknown, byte_is}
+use Rattle.journal.specs.Scan.{kind_of, byte_of, within, with_record, found_in, gathered}
+use Rattle.journal.proofs.Whole.{kind_known, kind_unknown}
 use Rattle.journal.proofs.Passing.{within_after}
 
 -- ---- the largest ceiling
@@ -66,19 +66,19 @@ module _ (j : List ℕ) where
   unread r e =
       cases (unknown_kind j)
       (λ u. let f : ◌≡◌ {A = Result Recovery Refusal} (Err r) (Err Refusal.JournalKind) = (rw u at e) in (u, (cc)))
-      (λ u. let f : ◌≡◌ {A = Result Recovery Refusal} (Err r) (Ok (record { ceiling = (state_of j).ceiling; key_number = (state_of j).key_number; complete = complete_length j })) = (rw u at e) in absurd (cc))
+      (λ u. let f : ◌≡◌ {A = Result Recovery Refusal} (Err r) (Ok (found_in j)) = (rw u at e) in absurd (cc))
 
   -- the journal's state, where every kind is known
   pub record IsRead (f : Recovery) : Type 0 where
     pub known : unknown_kind j ≡ false
-    pub is : f ≡ record { ceiling = (state_of j).ceiling; key_number = (state_of j).key_number; complete = complete_length j }
+    pub is : f ≡ found_in j
 
   pub read_of : (f : Recovery) → Ok f ≡ gathered j → IsRead f
   unfolding gathered
   read_of f e =
       cases (unknown_kind j)
       (λ u. let g : ◌≡◌ {A = Result Recovery Refusal} (Ok f) (Err Refusal.JournalKind) = (rw u at e) in absurd (cc))
-      (λ u. let g : ◌≡◌ {A = Result Recovery Refusal} (Ok f) (Ok (record { ceiling = (state_of j).ceiling; key_number = (state_of j).key_number; complete = complete_length j })) = (rw u at e) in record { known = u; is = (cc) })
+      (λ u. let g : ◌≡◌ {A = Result Recovery Refusal} (Ok f) (Ok (found_in j)) = (rw u at e) in record { known = u; is = (cc) })
 
   -- ---- the next counter
 
@@ -106,7 +106,10 @@ module _ (j : List ℕ) where
   -- the senders of a table with 64 places, or none
   module _ (ss : List SenderRecord) where
     pub more_held : None ≡ within 64 ss → 64 < length ss
-    more_held e = cases (leb (length ss) 64) (λ b. let f : ◌≡◌ {A = Option (List SenderRecord)} None (Some ss) = (rw b at e) in absurd (cc)) (λ b. leb-false (length ss) 64 b)
+    more_held e =
+        cases (leb (length ss) 64)
+        (λ b. let f : ◌≡◌ {A = Option (List SenderRecord)} None (Some ss) = (rw b at e) in absurd (cc))
+        (λ b. leb-false (length ss) 64 b)
 
     pub same_held : (ts : List SenderRecord) → Some ts ≡ within 64 ss → (length ss ≤ 64) × (ts ≡ ss)
     same_held ts e =
@@ -212,7 +215,7 @@ module _ (j : List ℕ) where
       module _ (x : Kind) (w : kind_of kind ≡ Ok x) (r : JournalRecord) (a : r ≡ record_of_kind (byte_of x) s c k)
           (held : Option (List SenderRecord)) (h : held ≡ within 64 (state_of j).senders) where
         r_is : r ≡ new
-        r_is = a ∙ ap (λ (n : ℕ). record_of_kind n s c k) (byte_is kind x w)
+        r_is = a ∙ ap (λ (n : ℕ). record_of_kind n s c k) (kind_known kind x w).1
 
         held_is : with_record 64 r held ≡ within 64 (senders_after new (state_of j).senders)
         held_is = rw (r_is, h) (within_after j 64 new (state_of j).senders)
@@ -222,7 +225,7 @@ module _ (j : List ℕ) where
           unfolding write_refusal first_of
           run_full =
               let more = more_held (senders_after new (state_of j).senders) (z ∙ held_is) in
-              refused_run 23 (rw ((read_of f e).known, kind_known kind x w, lt-ltb 64 (length (senders_after new (state_of j).senders)) more) refl)
+              refused_run 23 (rw ((read_of f e).known, (kind_known kind x w).0, lt-ltb 64 (length (senders_after new (state_of j).senders)) more) refl)
 
           pub write_full : record { refusal = 24; length = 0 } ≡ run.answer
           write_full = rw run_full refl
@@ -239,7 +242,12 @@ module _ (j : List ℕ) where
             unfolding write_refusal first_of
             run_short =
                 let short : length o < length (record_bytes new) = rw r_is at b in
-                refused_run 17 (rw ((read_of f e).known, kind_known kind x w, le-ltb 64 (length (senders_after new (state_of j).senders)) few, lt-ltb (length o) (length (record_bytes new)) short) refl)
+                refused_run 17 (rw (
+                  (read_of f e).known,
+                  (kind_known kind x w).0,
+                  le-ltb 64 (length (senders_after new (state_of j).senders)) few,
+                  lt-ltb (length o) (length (record_bytes new)) short,
+                ) refl)
 
             pub write_short : record { refusal = 18; length = 0 } ≡ run.answer
             write_short = rw run_short refl
@@ -252,7 +260,12 @@ module _ (j : List ℕ) where
             unfolding write_record write_refusal first_of written unless
             run_given =
                 let room : length (record_bytes new) ≤ length o = rw r_is at b in
-                rw ((read_of f e).known, kind_known kind x w, le-ltb 64 (length (senders_after new (state_of j).senders)) few, le-ltb (length o) (length (record_bytes new)) room) refl
+                rw (
+                  (read_of f e).known,
+                  (kind_known kind x w).0,
+                  le-ltb 64 (length (senders_after new (state_of j).senders)) few,
+                  le-ltb (length o) (length (record_bytes new)) room,
+                ) refl
 
             pub write_given : record { refusal = 0; length = length (record_bytes r) } ≡ run.answer
             write_given = rw (run_given, r_is) refl

@@ -123,27 +123,23 @@ front_unknown (k ∷ l) h w = unknown_here k l w
 -- ---- the kind of a byte
 
 module _ (k : ℕ) where
-  either_kind : (P : Result Kind Refusal → Bool → Type 0) → P (Ok Kind.Ceiling) true → P (Ok Kind.Sender) true → P (Ok Kind.KeyNumber) true
-      → P (Err Refusal.JournalKind) false → P (kind_of k) (is_kind k)
+  either_kind : (P : ℕ → Result Kind Refusal → Bool → Type 0) → P 1 (Ok Kind.Ceiling) true → P 2 (Ok Kind.Sender) true → P 3 (Ok Kind.KeyNumber) true
+      → P k (Err Refusal.JournalKind) false → P k (kind_of k) (is_kind k)
   either_kind P a b c d =
-      cases (eqb k 1) (λ e. rw e a) (λ e. rw e (cases (eqb k 2) (λ f. rw f b) (λ f. rw f (cases (eqb k 3) (λ g. rw g c) (λ g. rw g d)))))
+      cases (eqb k 1) (λ e. rw (eqb-true k 1 e) a)
+      (λ e. cases (eqb k 2) (λ f. rw (eqb-true k 2 f) b)
+      (λ f. cases (eqb k 3) (λ g. rw (eqb-true k 3 g) c) (λ g. rw (e, f, g) d)))
 
-  pub kind_known : (x : Kind) → kind_of k ≡ Ok x → is_kind k ≡ true
+  -- it is known, and the kind's byte
+  pub kind_known : (x : Kind) → kind_of k ≡ Ok x → (is_kind k ≡ true) × (byte_of x ≡ k)
   kind_known x =
-      either_kind (λ r b. r ≡ Ok x → b ≡ true) (λ _. refl) (λ _. refl) (λ _. refl)
-      (λ e. let f : ◌≡◌ {A = Result Kind Refusal} (Err Refusal.JournalKind) (Ok x) = e in absurd (cc))
+      either_kind (λ n r b. r ≡ Ok x → (b ≡ true) × (byte_of x ≡ n))
+      (λ e. let f : Kind.Ceiling ≡ x = (cc) in (refl, rw (← f) refl))
+      (λ e. let f : Kind.Sender ≡ x = (cc) in (refl, rw (← f) refl))
+      (λ e. let f : Kind.KeyNumber ≡ x = (cc) in (refl, rw (← f) refl))
+      (λ e. absurd (cc))
 
   pub kind_unknown : (r : Refusal) → kind_of k ≡ Err r → (is_kind k ≡ false) × (Refusal.JournalKind ≡ r)
   kind_unknown r =
-      either_kind (λ q b. q ≡ Err r → (b ≡ false) × (Refusal.JournalKind ≡ r))
-      (λ e. let f : ◌≡◌ {A = Result Kind Refusal} (Ok Kind.Ceiling) (Err r) = e in absurd (cc))
-      (λ e. let f : ◌≡◌ {A = Result Kind Refusal} (Ok Kind.Sender) (Err r) = e in absurd (cc))
-      (λ e. let f : ◌≡◌ {A = Result Kind Refusal} (Ok Kind.KeyNumber) (Err r) = e in absurd (cc))
-      (λ e. let f : ◌≡◌ {A = Result Kind Refusal} (Err Refusal.JournalKind) (Err r) = e in (refl, (cc)))
-
-  pub byte_is : (x : Kind) → kind_of k ≡ Ok x → byte_of x ≡ k
-  byte_is x e =
-      cases (eqb k 1) (λ a. let f : ◌≡◌ {A = Result Kind Refusal} (Ok Kind.Ceiling) (Ok x) = (rw a at e) in let g : Kind.Ceiling ≡ x = (cc) in rw (← g) (sym (eqb-true k 1 a)))
-      (λ a. cases (eqb k 2) (λ b. let f : ◌≡◌ {A = Result Kind Refusal} (Ok Kind.Sender) (Ok x) = (rw (a, b) at e) in let g : Kind.Sender ≡ x = (cc) in rw (← g) (sym (eqb-true k 2 b)))
-      (λ b. cases (eqb k 3) (λ d. let f : ◌≡◌ {A = Result Kind Refusal} (Ok Kind.KeyNumber) (Ok x) = (rw (a, b, d) at e) in let g : Kind.KeyNumber ≡ x = (cc) in rw (← g) (sym (eqb-true k 3 d)))
-      (λ d. let f : ◌≡◌ {A = Result Kind Refusal} (Err Refusal.JournalKind) (Ok x) = (rw (a, b, d) at e) in absurd (cc))))
+      either_kind (λ n q b. q ≡ Err r → (b ≡ false) × (Refusal.JournalKind ≡ r))
+      (λ e. absurd (cc)) (λ e. absurd (cc)) (λ e. absurd (cc)) (λ e. (refl, (cc)))

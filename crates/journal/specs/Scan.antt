@@ -68,11 +68,13 @@ SortsHeld (Some ss) (Some ts) = Sorts ss ts
 
 -- ---- the whole pass
 
--- refusal 25, or the journal's state
+-- what it finds of a journal, beside the senders
+abbrev pub found_in : List ℕ → Recovery
+found_in j = record { ceiling = (state_of j).ceiling; key_number = (state_of j).key_number; complete = complete_length j }
+
+-- what it answers: refusal 25, or what it finds
 unfoldable pub gathered : List ℕ → Result Recovery Refusal
-gathered j =
-    cond (unknown_kind j) (Err Refusal.JournalKind)
-    (Ok (record { ceiling = (state_of j).ceiling; key_number = (state_of j).key_number; complete = complete_length j }))
+gathered j = cond (unknown_kind j) (Err Refusal.JournalKind) (Ok (found_in j))
 
 -- ---- shrinking
 

@@ -102,8 +102,10 @@ impl JournalRecord {
         self.kind().length()
     }
 
-    // The record at the front and the bytes behind it, if a complete one of a known kind stands there.
+    // The record at the front and the bytes behind it, if a complete one of a known kind stands there. A pass does nothing else in its
+    // loop, so it is compiled into it.
     #[tactic(auto, unfolding(crate::specs::Scan::first_record, crate::specs::Format::record_at, crate::specs::Format::body_length, crate::specs::Format::record_bytes, octets::specs::Numbers::le))]
+    #[inline(always)]
     pub fn read(bytes: &[u8]) -> Option<(JournalRecord, &[u8])>
         ensures { MatchOption result (first_record bytes.now ≡ None) (λ p. (first_record bytes.now ≡ Some p.0) × (p.1.now ≡ drop (length (record_bytes p.0)) bytes.now)) }
     {

@@ -1,7 +1,7 @@
 // One pass over a journal, record by record.
 ghost use Rattle.std.specs.Prelude.{◌≡◌, [], OnOk};
 ghost use Rattle.journal.specs.Recovery.{state_of};
-ghost use Rattle.journal.specs.Scan.{held, within, gathered};
+ghost use Rattle.journal.specs.Scan.{within, gathered};
 
 use crate::Recovery;
 use crate::format::{JournalRecord, Kind};
@@ -9,10 +9,11 @@ use crate::table::Table;
 use octets::refusals::Refusal;
 
 // Go over a journal, keeping its senders in a table that has none; refusal 25.
+#[tactic(auto, using(crate::proofs::Passing::reached_none, crate::proofs::Whole::front_shorter, crate::proofs::Passing::reached_ceiling, crate::proofs::Passing::reached_sender, crate::proofs::Passing::reached_key_number))]
 pub fn scan<const N: usize>(journal: &[u8], table: &mut Table<N>) -> Result<Recovery, Refusal>
-    requires { held table.old.count table.old.places ≡ Some [] }
+    requires { table.old ≡ Some [] }
     ensures answer { result ≡ gathered journal.now }
-    ensures senders { OnOk result (held table.new.count table.new.places ≡ within N (state_of journal.now).senders) }
+    ensures senders { OnOk result (table.new ≡ within N (state_of journal.now).senders) }
 {
     let mut ceiling = 0u32;
     let mut key_number = None;
