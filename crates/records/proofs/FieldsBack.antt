@@ -1,6 +1,7 @@
 -- Pieces of a record that a field read from it is written to again: the field's bytes are the record's own at its place.
 -- For an optional field that asks a presence byte of 0 or 1, and 0 in what is absent.
 -- Assumes nothing.
+use Rattle.std.specs.Prelude.{Option}
 use mathlib.Core.Path.{◌≡◌, refl, sym, ap, ◌∙◌}
 use mathlib.Core.Bool.{Bool, true, false, true≢false}
 use mathlib.Core.List.{List, [], ◌++◌}
@@ -90,7 +91,7 @@ module _ (r : List ℕ) (b : Below 256 r) where
       let n : ℕ = get_or r 37 0 in
       let k : ℕ = get_or r 38 0 in
       let t : Bool = eqb (get_or r 36 0) 1 in
-      let o : NwkSourceRoute = route_if t n k in
+      let o : Option NwkSourceRoute = route_if t n k in
       join r 36 1 2 (le 1 (bit (has_route o))) (le 1 (relay_count o) ++ le 1 (relay_index o)) (presence_piece r b 36 small _ (route_has t n k) (omega arith))
       (join r 37 1 1 (le 1 (relay_count o)) (le 1 (relay_index o))
       (ap (le 1) (present_or_zero (λ (s : Bool). relay_count (route_if s n k)) t n refl refl (λ e. z (absent r b 36 small e) 0 (omega arith))) ∙ byte_read r 37 b (omega arith))

@@ -20,10 +20,9 @@ use Rattle.header.specs.Auxiliary.{blank_aux}
 use Rattle.header.specs.Same.{IeeeFits, HeaderFits}
 use Rattle.header.proofs.ReadFits.{read_fits}
 use Rattle.header.proofs.ReadFacts.{header_facts, aux_facts}
-use Rattle.frame.specs.declared.{Mark.Mark, FrameOpened.FrameOpened}
 use Rattle.frame.specs.Reading.{aux_if, aux_behind, read_frame}
 use Rattle.frame.specs.Security.{nonce_ieee}
-use Rattle.frame.specs.Opening.{is_sealed, behind, verified, open_refused, Run, sealed_given, clear_given, open_with}
+use Rattle.frame.specs.Opening.{Mark, FrameOpened, is_sealed, behind, verified, open_refused, Run, sealed_given, clear_given, open_with}
 use Rattle.frame.specs.Marks.{Openable}
 use Rattle.frame.specs.SealingLaw.{AuxOptionFits}
 use Rattle.frame.proofs.Accepted.{run_either}

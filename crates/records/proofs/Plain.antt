@@ -125,10 +125,10 @@ unfolding multicast_record le
 multicast_blank None rest = zeros_blank 1 rest
 multicast_blank (Some x) rest = λ h. absurd (omega arith)
 
-route_blank : (o : NwkSourceRoute) (rest : List ℕ) → Blank (route_record o ++ rest) 0 2
+route_blank : (o : Option NwkSourceRoute) (rest : List ℕ) → Blank (route_record o ++ rest) 0 2
 unfolding route_record le
-route_blank NwkSourceRoute.Absent rest = zeros_blank 2 rest
-route_blank (NwkSourceRoute.Present n k) rest = λ h. absurd (omega arith)
+route_blank None rest = zeros_blank 2 rest
+route_blank (Some r) rest = λ h. absurd (omega arith)
 
 -- ---- the two records
 

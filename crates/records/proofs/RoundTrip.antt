@@ -37,10 +37,10 @@ unfolding multicast_in multicast_record le
 multicast_written None rest h = refl
 multicast_written (Some x) rest h = ap Some (mod-eq_of_lt h)
 
-route_written : (o : NwkSourceRoute) (rest : List ℕ) → RouteFits o → route_in (route_record o ++ rest) 0 ≡ o
+route_written : (o : Option NwkSourceRoute) (rest : List ℕ) → RouteFits o → route_in (route_record o ++ rest) 0 ≡ o
 unfolding route_in route_record le
-route_written NwkSourceRoute.Absent rest h = refl
-route_written (NwkSourceRoute.Present n k) rest h = λ i. NwkSourceRoute.Present (mod-eq_of_lt h.0 i) (mod-eq_of_lt h.1 i)
+route_written None rest h = refl
+route_written (Some r) rest h = λ i. Some (record { relay_count = mod-eq_of_lt h.0 i; relay_index = mod-eq_of_lt h.1 i })
 
 -- ---- the frame control
 

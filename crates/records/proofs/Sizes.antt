@@ -10,10 +10,10 @@ use Rattle.header.specs.declared.{optional.NwkSourceRoute.NwkSourceRoute, nwk.Nw
 use Rattle.header.proofs.OptionalFields.{relay_length}
 use Rattle.records.specs.Optional.{ieee_record, multicast_record, route_record}
 use Rattle.records.specs.HeaderRecord.{address_record, optional_record, header_record}
-use Rattle.records.specs.AuxiliaryRecord.{counter_record, aux_record}
 use Rattle.records.specs.OpenedRecord.{option_record, opened_front, opened_record}
-use Rattle.frame.specs.declared.FrameOpened.{FrameOpened}
+use Rattle.frame.specs.Opening.{FrameOpened}
 use Rattle.frame.specs.Security.{is_absent, or_blank}
+use Rattle.records.specs.AuxiliaryRecord.{counter_record, aux_record}
 
 pub length_ieee : (o : Option ℕ) → length (ieee_record o) ≡ 9
 unfolding ieee_record
@@ -23,7 +23,7 @@ pub length_multicast : (o : Option ℕ) → length (multicast_record o) ≡ 2
 unfolding multicast_record
 length_multicast o = simp (length-append, length_le)
 
-pub length_route : (o : NwkSourceRoute) → length (route_record o) ≡ 3
+pub length_route : (o : Option NwkSourceRoute) → length (route_record o) ≡ 3
 unfolding route_record
 length_route o = simp (length-append, length_le)
 

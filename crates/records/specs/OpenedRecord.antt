@@ -4,7 +4,7 @@
 -- Assumes nothing.
 use Rattle.std.specs.Prelude.{ℕ, cond, not, List, [], ◌∷◌, ◌++◌, get_or, take, drop, eqb, Option}
 use Rattle.octets.specs.Numbers.{le, le_at}
-use Rattle.frame.specs.declared.{Mark.Mark, FrameOpened.FrameOpened}
+use Rattle.frame.specs.Opening.{Mark, FrameOpened}
 use Rattle.frame.specs.Reading.{aux_if}
 use Rattle.frame.specs.Security as security
 use Rattle.records.specs.Optional.{ieee_record, ieee_in}

@@ -35,12 +35,12 @@ multicast_in r i = multicast_if (eqb (get_or r i 0) 1) (get_or r (i + 1) 0)
 
 -- ---- the source route: its count and index, 3 bytes; the relays stand behind it
 
-abbrev pub relay_index : NwkSourceRoute → ℕ
-relay_index NwkSourceRoute.Absent = 0
-relay_index (NwkSourceRoute.Present n i) = i
+abbrev pub relay_index : Option NwkSourceRoute → ℕ
+relay_index None = 0
+relay_index (Some r) = r.relay_index
 
-unfoldable pub route_record : NwkSourceRoute → List ℕ
+unfoldable pub route_record : Option NwkSourceRoute → List ℕ
 route_record o = le 1 (bit (has_route o)) ++ (le 1 (relay_count o) ++ le 1 (relay_index o))
 
-unfoldable pub route_in : List ℕ → ℕ → NwkSourceRoute
+unfoldable pub route_in : List ℕ → ℕ → Option NwkSourceRoute
 route_in r i = route_if (eqb (get_or r i 0) 1) (get_or r (i + 1) 0) (get_or r (i + 2) 0)

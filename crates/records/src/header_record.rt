@@ -4,16 +4,15 @@ ghost use Rattle.octets.specs.Strings.{over};
 ghost use Rattle.octets.specs.Numbers.{le_at};
 ghost use Rattle.header.specs.Control.{control_values, control_from};
 ghost use Rattle.header.specs.Optional.{relay_bytes};
-ghost use Rattle.records.specs.Optional.{ieee_record, multicast_record, route_record};
-ghost use Rattle.records.specs.HeaderRecord.{address_record, header_record, relays_from, header_of, bad_header_record};
+ghost use Rattle.records.specs.Optional.{route_record};
+ghost use Rattle.records.specs.HeaderRecord.{address_record, optional_record, header_record, relays_from, header_of, bad_header_record};
 
 use crate::limits::exceeds;
 use crate::optional::{ieee_in, multicast_in, put_ieee, put_multicast, put_route, route_in};
 use header::control::{NwkFrameControl, NwkFrameType, NwkRouteDiscovery};
 use header::nwk::NwkHeader;
-use header::optional::{NwkSourceRoute, OptionMulticast};
 use octets::bit_of;
-use types::{NO_NWK, Nwk, OptionEui64};
+use types::{NO_NWK, Nwk};
 
 pub const HEADER_RECORD_SIZE: usize = 147;
 
@@ -24,17 +23,14 @@ const HEADER_LIMITS: [u8; 37] = [
 ];
 
 // Whether the record has another length or a byte that a field cannot take (refusal 13).
+#[tactic(auto, using(crate::proofs::Refused::header_length, crate::proofs::Refused::header_type, crate::proofs::Refused::header_rest))]
 pub fn is_bad(bytes: &[u8]) -> bool
     ensures { result ≡ bad_header_record bytes.now }
 {
     if bytes.len() != HEADER_RECORD_SIZE {
         return true;
     }
-    if octets::byte_at(bytes, 0) == 2 {
-        return true;
-    }
-    let limits = HEADER_LIMITS;
-    exceeds(&limits, bytes)
+    bytes[0] == 2 || exceeds(&HEADER_LIMITS, bytes)
 }
 
 // ---- the record of a header
@@ -44,12 +40,10 @@ fn put_control(out: &mut [u8], c: NwkFrameControl)
     requires { 10 ≤ length out.old }
     ensures { out.new ≡ over out.old 0 (control_values c) }
 {
-    let frame_type = c.frame_type;
-    let discover_route = c.discover_route;
     let values = [
-        frame_type.code() as u8,
+        c.frame_type.code() as u8,
         c.protocol_version,
-        discover_route.code() as u8,
+        c.discover_route.code() as u8,
         bit_of(c.multicast),
         bit_of(c.security),
         bit_of(c.source_route),
@@ -62,29 +56,24 @@ fn put_control(out: &mut [u8], c: NwkFrameControl)
 }
 
 // Write the addresses, the radius and the sequence number at their places.
-fn put_addresses(out: &mut [u8], destination: u16, source: u16, radius: u8, sequence: u8)
+fn put_addresses(out: &mut [u8], h: NwkHeader)
     requires { 16 ≤ length out.old }
-    ensures { out.new ≡ over out.old 10 (address_record destination source radius sequence) }
+    ensures { out.new ≡ over out.old 10 (address_record h.destination.0 h.source.0 h.radius h.sequence_number) }
 {
-    octets::put_u16(out, 10, destination);
-    octets::put_u16(out, 12, source);
-    octets::put_u8(out, 14, radius);
-    octets::put_u8(out, 15, sequence);
+    octets::put_u16(out, 10, h.destination.0);
+    octets::put_u16(out, 12, h.source.0);
+    octets::put_u8(out, 14, h.radius);
+    octets::put_u8(out, 15, h.sequence_number);
 }
 
 // Write the optional addresses and the multicast control at their places.
-fn put_optional(
-    out: &mut [u8],
-    destination: OptionEui64,
-    source: OptionEui64,
-    multicast: OptionMulticast,
-)
+fn put_optional(out: &mut [u8], h: NwkHeader)
     requires { 36 ≤ length out.old }
-    ensures { out.new ≡ over out.old 16 (ieee_record destination ++ (ieee_record source ++ multicast_record multicast)) }
+    ensures { out.new ≡ over out.old 16 (optional_record h) }
 {
-    put_ieee(out, 16, destination);
-    put_ieee(out, 25, source);
-    put_multicast(out, 34, multicast);
+    put_ieee(out, 16, h.destination_ieee);
+    put_ieee(out, 25, h.source_ieee);
+    put_multicast(out, 34, h.multicast_control);
 }
 
 // Write the 54 relays at place 39.
@@ -92,21 +81,9 @@ fn put_relays(out: &mut [u8], relays: [Nwk; 54])
     requires { 147 ≤ length out.old }
     ensures { out.new ≡ over out.old 39 (relay_bytes 54 relays) }
 {
-    let mut j = 0;
-    while j < 54 {
-        let relay = relays[j];
+    for (j, relay) in relays.iter().enumerate() {
         octets::put_u16(out, 39 + 2 * j, relay.0);
-        j += 1;
     }
-}
-
-// Write the source route and its relays at their places.
-fn put_source_route(out: &mut [u8], route: NwkSourceRoute, relays: [Nwk; 54])
-    requires { 147 ≤ length out.old }
-    ensures { out.new ≡ over out.old 36 (route_record route ++ relay_bytes 54 relays) }
-{
-    put_route(out, 36, route);
-    put_relays(out, relays);
 }
 
 // Write the record of a header to the front of an output that has room for it.
@@ -114,43 +91,25 @@ pub fn put_header(out: &mut [u8], h: NwkHeader)
     requires { 147 ≤ length out.old }
     ensures { out.new ≡ over out.old 0 (header_record h) }
 {
-    let frame_control = h.frame_control;
-    let destination_ieee = h.destination_ieee;
-    let source_ieee = h.source_ieee;
-    let multicast_control = h.multicast_control;
-    let source_route = h.source_route;
-    let relays = h.relays;
-    put_control(out, frame_control);
-    put_addresses(
-        out,
-        h.destination.0,
-        h.source.0,
-        h.radius,
-        h.sequence_number,
-    );
-    put_optional(out, destination_ieee, source_ieee, multicast_control);
-    put_source_route(out, source_route, relays);
+    put_control(out, h.frame_control);
+    put_addresses(out, h);
+    put_optional(out, h);
+    put_route(out, 36, h.source_route);
+    put_relays(out, h.relays);
 }
 
 // ---- the header of a record
 
-// The 16-bit number at place i, least significant byte first.
-fn number_at(bytes: &[u8], i: usize) -> u16
-    requires { i + 1 < length bytes.now }
-    ensures { result ≡ le_at 2 bytes.now i }
-{
-    (bytes[i] as u16) + (bytes[i + 1] as u16) * 256
-}
-
 // The frame control that the first ten bytes encode.
+#[tactic(auto, unfolding(header::specs::Control::control_from))]
 fn control_of(bytes: &[u8]) -> NwkFrameControl
     requires { 10 ≤ length bytes.now }
     ensures { result ≡ control_from bytes.now }
 {
     NwkFrameControl {
-        frame_type: NwkFrameType::from_code(bytes[0] as u16),
+        frame_type: NwkFrameType::from_code(u16::from(bytes[0])),
         protocol_version: bytes[1],
-        discover_route: NwkRouteDiscovery::from_code(bytes[2] as u16),
+        discover_route: NwkRouteDiscovery::from_code(u16::from(bytes[2])),
         multicast: bytes[3] == 1,
         security: bytes[4] == 1,
         source_route: bytes[5] == 1,
@@ -167,23 +126,22 @@ fn relays_of(bytes: &[u8]) -> [Nwk; 54]
     ensures { result ≡ relays_from bytes.now 39 }
 {
     let mut relays = [NO_NWK; 54];
-    let mut i = 0;
-    while i < 54 {
-        relays[i] = Nwk(number_at(bytes, 39 + 2 * i));
-        i += 1;
+    for i in 0..54 {
+        relays[i] = Nwk(octets::read_u16(bytes, 39 + 2 * i));
     }
     relays
 }
 
 // The header that a record of the right length encodes.
+#[tactic(auto, unfolding(crate::specs::HeaderRecord::header_of))]
 pub fn header_of(bytes: &[u8]) -> NwkHeader
     requires { length bytes.now ≡ 147 }
     ensures { result ≡ header_of bytes.now }
 {
     NwkHeader {
         frame_control: control_of(bytes),
-        destination: Nwk(number_at(bytes, 10)),
-        source: Nwk(number_at(bytes, 12)),
+        destination: Nwk(octets::read_u16(bytes, 10)),
+        source: Nwk(octets::read_u16(bytes, 12)),
         radius: bytes[14],
         sequence_number: bytes[15],
         destination_ieee: ieee_in(bytes, 16),

@@ -9,10 +9,8 @@ pub fn exceeds(limits: &[u8], bytes: &[u8]) -> bool
     ensures { result ≡ exceeds limits.now bytes.now }
 {
     let mut beyond = false;
-    let mut i = 0;
-    while i < limits.len() {
-        beyond = octets::either(beyond, limits[i] < bytes[i]);
-        i += 1;
+    for i in 0..limits.len() {
+        beyond |= limits[i] < bytes[i];
     }
     beyond
 }

@@ -1,13 +1,15 @@
 // The opened record, 182 bytes: what opening a frame answers. The zeros before the header record are kept for what later
 // requests add.
-ghost use Rattle.std.specs.Prelude.{◌≡◌, not, ◌≤◌, length};
+ghost use Rattle.std.specs.Prelude.{◌≡◌, ◌≤◌, length, Some};
 ghost use Rattle.octets.specs.Strings.{over};
-ghost use Rattle.frame.specs.Security.{is_absent};
+ghost use Rattle.frame.specs.Opening.{marked, told_opened};
 ghost use Rattle.records.specs.OpenedRecord.{option_record, option_of, mark_code, mark_of, opened_front, opened_record};
 
 use crate::{auxiliary_record, header_record, optional};
-use frame::{FrameOpened, Mark, OptionAuxHeader};
-use types::OptionEui64;
+use frame::{Mark, OpenedFrame};
+use header::auxiliary::NwkAuxHeader;
+use header::nwk::NwkHeader;
+use octets::refusals::Refusal;
 
 pub const OPENED_RECORD_SIZE: usize = 182;
 
@@ -20,60 +22,51 @@ const HEADER_AT: usize = 16;
 
 const AUXILIARY_AT: usize = 163;
 
-// Whether there is an auxiliary header.
-fn is_present(aux: OptionAuxHeader) -> bool
-    ensures { result ≡ not (is_absent aux) }
-{
-    match aux {
-        OptionAuxHeader::Absent => false,
-        OptionAuxHeader::Present(_) => true,
-    }
-}
-
 // The auxiliary header or none that an auxiliary record encodes.
-pub fn option_of(bytes: &[u8]) -> OptionAuxHeader
+#[tactic(auto, unfolding(crate::specs::OpenedRecord::option_of))]
+pub fn option_of(bytes: &[u8]) -> Option<NwkAuxHeader>
     ensures { result ≡ option_of bytes.now }
 {
-    let present = auxiliary_record::is_present(bytes);
-    OptionAuxHeader::when(present, auxiliary_record::aux_of(bytes))
+    auxiliary_record::is_present(bytes).then_some(auxiliary_record::aux_of(bytes))
 }
 
 // Write the record of an auxiliary header or none to the front of an output that has room for it.
-pub fn put_option(out: &mut [u8], aux: OptionAuxHeader)
+#[tactic(auto, unfolding(crate::specs::OpenedRecord::option_record))]
+pub fn put_option(out: &mut [u8], aux: Option<NwkAuxHeader>)
     requires { 19 ≤ length out.old }
     ensures { out.new ≡ over out.old 0 (option_record aux) }
 {
-    let present = is_present(aux);
-    let a = aux.or_blank();
-    auxiliary_record::put_aux(out, present, a);
+    match aux {
+        Some(aux) => auxiliary_record::put_aux(out, true, aux),
+        None => auxiliary_record::put_aux(out, false, NwkAuxHeader::blank()),
+    }
 }
 
-// The number of a mark.
-pub fn mark_code(mark: Mark) -> u8
-    ensures { result ≡ mark_code mark }
+// The number of a mark, 0 for none.
+pub fn mark_code(mark: Option<Mark>) -> u8
+    ensures { result ≡ mark_code (marked mark) }
 {
     match mark {
-        Mark::Unmarked => 0,
-        Mark::Clear => 1,
-        Mark::Sealed => 2,
+        None => 0,
+        Some(Mark::Clear) => 1,
+        Some(Mark::Sealed) => 2,
     }
 }
 
 // The mark of a number; a number that no mark has says nothing.
-pub fn mark_of(code: u8) -> Mark
-    ensures { result ≡ mark_of code }
+#[tactic(auto, unfolding(crate::specs::OpenedRecord::mark_of))]
+pub fn mark_of(code: u8) -> Option<Mark>
+    ensures { marked result ≡ mark_of code }
 {
-    if code == 1 {
-        return Mark::Clear;
+    match code {
+        1 => Some(Mark::Clear),
+        2 => Some(Mark::Sealed),
+        _ => None,
     }
-    if code == 2 {
-        return Mark::Sealed;
-    }
-    Mark::Unmarked
 }
 
 // Write the number, the mark, the length and the nonce's address, and zeros in the other places up to the header record.
-fn put_front(out: &mut [u8], refusal: u8, mark: u8, n: usize, ieee: OptionEui64)
+fn put_front(out: &mut [u8], refusal: u8, mark: u8, n: usize, ieee: Option<u64>)
     requires { 16 ≤ length out.old }
     ensures { out.new ≡ over out.old 0 (opened_front refusal mark n ieee) }
 {
@@ -85,16 +78,29 @@ fn put_front(out: &mut [u8], refusal: u8, mark: u8, n: usize, ieee: OptionEui64)
     octets::put_u16(out, BEHIND_IEEE_AT, 0);
 }
 
-// Write the record of an answer to the front of an output that has room for it.
-pub fn put_opened(out: &mut [u8], opened: FrameOpened)
+// Write the records of the two headers behind it.
+fn put_headers(out: &mut [u8], header: NwkHeader, aux: Option<NwkAuxHeader>)
     requires { 182 ≤ length out.old }
-    ensures { out.new ≡ over out.old 0 (opened_record opened) }
+    ensures { out.new ≡ over out.old 16 (header_record header ++ option_record aux) }
 {
-    let header = opened.header;
-    let aux = opened.aux;
-    let mark = opened.mark;
-    let ieee = opened.nonce_ieee;
-    put_front(out, opened.refusal, mark_code(mark), opened.length, ieee);
     header_record::put_header(&mut out[HEADER_AT..], header);
     put_option(&mut out[AUXILIARY_AT..], aux);
+}
+
+// Write the record of an answer to the front of an output that has room for it; beside a refusal it has blank headers.
+pub fn put_opened(out: &mut [u8], opened: Result<OpenedFrame, Refusal>)
+    requires { 182 ≤ length out.old }
+    ensures { out.new ≡ over out.old 0 (opened_record (told_opened opened)) }
+{
+    match opened {
+        Ok(given) => {
+            let mark = mark_code(Some(given.mark));
+            put_front(out, 0, mark, given.length, given.nonce_ieee);
+            put_headers(out, given.header, given.aux);
+        }
+        Err(refusal) => {
+            put_front(out, refusal.number(), mark_code(None), 0, None);
+            put_headers(out, NwkHeader::blank(), None);
+        }
+    }
 }

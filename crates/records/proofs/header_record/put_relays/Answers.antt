@@ -1,5 +1,5 @@
 -- `put_relays` meets its contract. Assumes nothing.
-use mathlib.Core.Path.{◌≡◌, refl, sym, ap, ◌∙◌}
+use mathlib.Core.Path.{◌≡◌, sym, ap, ◌∙◌}
 use native.Mathlib.Omega.{arith}
 use Rattle.octets.specs.Strings.{over}
 use Rattle.octets.proofs.Strings.{over_nil}
@@ -9,26 +9,16 @@ use Rattle.records.proofs.header_record.put_relays.Goals as goal
 
 pub loop-j-init : goal.loop-j-init
 unfolding relay_bytes
-loop-j-init c = (omega arith, refl, sym (over_nil c.args.out.now 39))
+loop-j-init c = sym (over_nil c.args.out.now 39)
 
 pub loop-j-preserved : goal.loop-j-preserved
 loop-j-preserved c =
-    let put = c.put_u16 in
     let a = c.args in
-    let l = c.loop-j in (
-      omega arith,
-      put.auto.out ∙ l.invariant.1,
-      put.ensures ∙ rw l.invariant.2 (relays_more a.out.now 39 l.j a.relays (omega (arith, c.requires))),
-    )
+    let l = c.loop-j in
+    c.put_u16.ensures ∙ rw l.invariant (relays_more a.out.now 39 l.j a.relays (omega (arith, c.requires)))
 
 pub returns : goal.returns
 returns c =
     let a = c.args in
     let done : c.loop-j.j ≡ 54 = omega arith in
-    c.loop-j.invariant.2 ∙ ap (λ k. over a.out.now 39 (relay_bytes k a.relays)) done
-
-pub put_u16-requires : goal.put_u16-requires
-put_u16-requires c = omega (arith, c.requires)
-
-pub shape_of-out : goal.shape_of-out
-shape_of-out c = c.loop-j.invariant.1
+    c.loop-j.invariant ∙ ap (λ k. over a.out.now 39 (relay_bytes k a.relays)) done

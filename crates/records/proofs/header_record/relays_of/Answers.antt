@@ -11,15 +11,14 @@ use Rattle.records.proofs.header_record.relays_of.Goals as goal
 
 pub loop-i-init : goal.loop-i-init
 unfolding tab
-loop-i-init c = (omega arith, refl, refl)
+loop-i-init c = (refl, refl)
 
 pub loop-i-preserved : goal.loop-i-preserved
 loop-i-preserved c =
     let l = c.loop-i in
     let below : l.i < 54 = c.loop-i-test.true in (
-      omega arith,
-      simp length-set l.invariant.1,
-      fill_turn _ l.i _ l.relays _ below (ap nwk c.number_at.ensures) l.invariant.2,
+      simp length-set l.invariant.0,
+      fill_turn _ l.i _ l.relays _ below (ap nwk c.read_u16.ensures) l.invariant.1,
     )
 
 pub returns : goal.returns
@@ -27,4 +26,4 @@ unfolding relays_from
 returns c =
     let l = c.loop-i in
     let done : l.i ≡ 54 = omega arith in
-    filled _ l.i _ l.relays (omega arith) l.invariant.2 ∙ ap (tab _) done
+    filled _ l.i _ l.relays (omega arith) l.invariant.1 ∙ ap (tab _) done

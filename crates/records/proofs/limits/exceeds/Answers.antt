@@ -8,16 +8,16 @@ use Rattle.records.proofs.limits.exceeds.Goals as goal
 
 pub loop-i-init : goal.loop-i-init
 unfolding any_below
-loop-i-init c = (omega arith, refl)
+loop-i-init c = refl
 
 pub loop-i-preserved : goal.loop-i-preserved
 loop-i-preserved c =
     let l = c.loop-i in
-    (omega arith, c.either-beyond.ensures ∙ rw l.invariant.1 (any_more _ l.i))
+    rw l.invariant (any_more _ l.i)
 
 pub returns : goal.returns
 unfolding exceeds
 returns c =
     let l = c.loop-i in
     let done : l.i ≡ length c.args.limits.now = omega arith in
-    l.invariant.1 ∙ ap (any_below _) done
+    l.invariant ∙ ap (any_below _) done
