@@ -17,7 +17,6 @@ use Rattle.header.specs.Writing.{header_bytes}
 use Rattle.header.specs.Auxiliary.{AuxRead, security, key_sequence_at, aux_refusal, aux_by, aux_given, aux_refused, read_aux, aux_bytes}
 use Rattle.header.specs.AuxiliaryControl.{level_of, security_of}
 use Rattle.header.specs.Same.{AuxAgrees, HeaderFits, AuxFits}
-use Rattle.header.proofs.Codes.{bit_lt}
 use Rattle.header.proofs.OptionalFields.{ieee_has}
 use Rattle.header.proofs.ReadFits.{read_fits, aux_read_fits}
 use Rattle.header.proofs.Writable.{FieldsGood}
@@ -121,21 +120,9 @@ aux_facts f u e =
     let none : aux_refusal f ≡ 0 = sym (aux_number f) ∙ e in
     rw (accepted (aux_refusal f) (aux_given f) (aux_refused (aux_refusal f)) none) (read_aux_facts f u none)
 
--- whatever is answered, the auxiliary header ends within the bytes, and a header within 118
+-- whatever is answered, the auxiliary header ends within the bytes
 pub aux_within : (f : List ℕ) → Below 256 f → (read_aux f).length ≤ length f
 unfolding read_aux
 aux_within f u =
     unless_either (λ (r : AuxRead). r.length ≤ length f) (aux_refusal f) (aux_given f) (aux_refused (aux_refusal f))
     (λ e. (read_aux_facts f u e).within) (omega arith)
-
-pub header_short : (f : List ℕ) → Below 256 f → (read_header f).length ≤ 118
-unfolding read_header
-header_short f u =
-    unless_either (λ (r : HeaderRead). r.length ≤ 118) (header_refusal f) (header_given f) (header_refused (header_refusal f))
-    (λ e. omega (arith, (read_facts f u e).within, (read_facts f u e).short)) (omega arith)
-
-pub aux_short : (f : List ℕ) → (read_aux f).length ≤ 14
-unfolding read_aux key_sequence_at
-aux_short f =
-    unless_either (λ (r : AuxRead). r.length ≤ 14) (aux_refusal f) (aux_given f) (aux_refused (aux_refusal f))
-    (λ e. omega (arith, bit_lt (security f).extended_nonce)) (omega arith)

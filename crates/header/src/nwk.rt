@@ -250,28 +250,14 @@ impl NwkHeader {
     // disagrees with its field.
     #[tactic(auto, unfolding(crate::specs::Writing::field_refusal, octets::specs::Refusals::first_of))]
     pub fn check_fields(self) -> Result<(), Refusal>
-        ensures { refused result ≡ field_refusal self }
+        ensures number { refused result ≡ field_refusal self }
+        ensures fits { IfOk result (λ (u : Unit {0}). bad_header self ≡ false) }
     {
         if self.is_bad() {
             return Err(Refusal::Field);
         }
         if !self.agrees() {
             return Err(Refusal::PresenceBits);
-        }
-        Ok(())
-    }
-
-    // The first of the refusals 13, 28, 17 and 18 that holds when the output has the room given.
-    #[tactic(auto, unfolding(crate::specs::Writing::header_write_refusal, octets::specs::Refusals::first_of, octets::specs::Refusals::unless))]
-    fn check_write(self, room: usize) -> Result<(), Refusal>
-        ensures { refused result ≡ header_write_refusal self room }
-    {
-        self.check_fields()?;
-        if MAX_MAC_PAYLOAD_SIZE < self.size() {
-            return Err(Refusal::Length);
-        }
-        if room < self.size() {
-            return Err(Refusal::NoRoom);
         }
         Ok(())
     }
@@ -290,14 +276,21 @@ impl NwkHeader {
     }
 
     // Write the header to the front of the output, and give its length; refusals 13, 28, 17 and 18, which change nothing.
-    #[tactic(auto, unfolding(crate::specs::Writing::write_header, octets::specs::Writing::written, octets::specs::Refusals::unless))]
+    #[tactic(auto, unfolding(crate::specs::Writing::write_header, crate::specs::Writing::header_write_refusal, octets::specs::Writing::written, octets::specs::Refusals::first_of, octets::specs::Refusals::unless))]
     pub fn serialize(self, out: &mut [u8]) -> Result<usize, Refusal>
         ensures answer { told result ≡ (write_header self out.old).answer }
         ensures buffer { out.new ≡ (write_header self out.old).out }
     {
-        self.check_write(out.len())?;
+        self.check_fields()?;
+        let size = self.size();
+        if MAX_MAC_PAYLOAD_SIZE < size {
+            return Err(Refusal::Length);
+        }
+        if out.len() < size {
+            return Err(Refusal::NoRoom);
+        }
         self.put(out);
-        Ok(self.size())
+        Ok(size)
     }
 
     // Write the eight bytes that every header has at the front.
