@@ -17,9 +17,8 @@ use Rattle.octets.proofs.Strings.{length_tab, get_or_tab}
 use Rattle.octets.proofs.Conditions.{accepted, refused, none_refuse}
 use Rattle.ccm.specs.Operations.{ciph_of}
 use Rattle.types.specs.declared.level.Level.{Level}
-use Rattle.frame.specs.declared.FrameOpened.{FrameOpened}
 use Rattle.frame.specs.Opening as opening
-use Rattle.frame.specs.Opening.{open_frame, payload_in}
+use Rattle.frame.specs.Opening.{FrameOpened, open_frame, payload_in}
 use Rattle.frame.proofs.Marks.{clear_accepted, payload_of_clear}
 use Rattle.frame.proofs.Opened.{open_behind, open_refused_lem, open_roomy, open_other, open_empty, open_long}
 use Rattle.records.specs.OpenedRecord.{opened_record, opened_of}

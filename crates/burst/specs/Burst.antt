@@ -2,14 +2,14 @@
 -- one call. Each
 -- frame has its own part of the output and its own place in the list for the answers, which are opened records.
 -- Assumes nothing.
-use Rattle.std.specs.Prelude.{ℕ, zero, suc, ◌+◌, ◌*◌, not, List, [], ◌∷◌, ◌++◌, length, get_or, take, drop, eqb, ltb}
+use Rattle.std.specs.Prelude.{ℕ, zero, suc, ◌+◌, ◌*◌, not, List, [], ◌∷◌, ◌++◌, length, get_or, take, drop, eqb, ltb, Result, Ok, Err}
 use Rattle.octets.specs.Strings.{tab}
-use Rattle.octets.specs.Refusals.{unless, on, first_of}
+use Rattle.octets.specs.Refusals.{unless, on, first_of, number_of}
 use Rattle.types.specs.declared.level.Level.{Level}
 use Rattle.ccm.specs.Operations.{ciph_of}
 use Rattle.frame.specs.Opening as opening
 use Rattle.records.specs.OpenedRecord.{opened_record}
-use Rattle.burst.specs.declared.BurstOpened.{BurstOpened}
+use Rattle.octets.specs.declared.refusals.Refusal.{Refusal}
 
 -- the most frames of a burst
 abbrev pub most_frames : ℕ
@@ -57,6 +57,16 @@ out_after level ciph fs ns o n = joined (λ (k : ℕ). (alone level ciph fs ns o
 
 unfoldable pub answers_after : Level → (List ℕ → List ℕ) → List ℕ → List ℕ → List ℕ → List (List ℕ) → ℕ → List (List ℕ)
 answers_after level ciph fs ns o list n = tab (λ (k : ℕ). opened_record (alone level ciph fs ns o k).answer) n ++ drop n list
+
+-- what opening a burst answers: a refusal's number with no frames, or 0 and the number of frames
+pub record BurstOpened : Type 0 where
+  pub refusal : ℕ
+  pub frames : ℕ
+
+-- the same, of the code's answer
+abbrev pub told_burst : Result ℕ Refusal → BurstOpened
+told_burst (Ok n) = record { refusal = 0; frames = n }
+told_burst (Err r) = record { refusal = number_of r; frames = 0 }
 
 -- what opening a burst leaves: its answer, and the whole of the output and of the list
 pub record Run : Type 0 where

@@ -6,13 +6,11 @@ use Rattle.std.specs.Prelude.{ℕ, ◌*◌, ◌≤◌, ◌<◌, ◌≡◌, true,
 use Rattle.octets.specs.Strings.{tab, Below}
 use Rattle.types.specs.declared.level.Level.{Level}
 use Rattle.types.specs.Levels.{is_other}
-use Rattle.frame.specs.declared.Mark.{Mark}
 use Rattle.frame.specs.Reading.{read_frame}
-use Rattle.frame.specs.Opening.{open_frame, payload_in}
+use Rattle.frame.specs.Opening.{Mark, open_frame, payload_in}
 use Rattle.frame.specs.Marks.{handed_back, IsClear}
 use Rattle.records.specs.OpenedRecord.{opened_record, opened_of}
-use Rattle.burst.specs.declared.BurstOpened.{BurstOpened}
-use Rattle.burst.specs.Burst.{most_frames, part_size, total, frame_at, part_at, burst_refusal, joined, burst_nothing, open_burst}
+use Rattle.burst.specs.Burst.{BurstOpened, most_frames, part_size, total, frame_at, part_at, burst_refusal, joined, burst_nothing, open_burst}
 
 -- a burst that is accepted: the bytes fs with the lengths ns, the output o and the list for the answers
 abbrev pub Accepted : List ℕ → List ℕ → List ℕ → List (List ℕ) → Type 0

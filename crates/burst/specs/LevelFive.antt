@@ -6,6 +6,7 @@ use Rattle.std.specs.Prelude.{◌≡◌, List, ◌++◌, ℕ, ◌*◌, length, d
 use Rattle.octets.specs.Strings.{tab}
 use Rattle.octets.specs.Refusals.{unless}
 use Rattle.types.specs.declared.level.Level.{Level}
+use Rattle.header.specs.declared.auxiliary.NwkAuxHeader.{NwkAuxHeader}
 use Rattle.header.specs.declared.nwk.NwkHeader.{NwkHeader}
 use Rattle.ccm.specs.Levels as alone
 use Rattle.frame.specs.NetworkLevel as frames

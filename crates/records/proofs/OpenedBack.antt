@@ -20,6 +20,7 @@ use Rattle.header.specs.Auxiliary.{blank_aux}
 use Rattle.header.specs.Same.{IeeeFits, HeaderFits}
 use Rattle.header.proofs.ReadFits.{read_fits}
 use Rattle.header.proofs.ReadFacts.{header_facts, aux_facts}
+use Rattle.header.specs.declared.auxiliary.NwkAuxHeader.{NwkAuxHeader}
 use Rattle.frame.specs.Reading.{aux_if, aux_behind, read_frame}
 use Rattle.frame.specs.Security.{nonce_ieee}
 use Rattle.frame.specs.Opening.{Mark, FrameOpened, is_sealed, behind, verified, open_refused, Run, sealed_given, clear_given, open_with}

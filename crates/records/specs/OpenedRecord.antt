@@ -4,6 +4,7 @@
 -- Assumes nothing.
 use Rattle.std.specs.Prelude.{ℕ, cond, not, List, [], ◌∷◌, ◌++◌, get_or, take, drop, eqb, Option}
 use Rattle.octets.specs.Numbers.{le, le_at}
+use Rattle.header.specs.declared.auxiliary.NwkAuxHeader.{NwkAuxHeader}
 use Rattle.frame.specs.Opening.{Mark, FrameOpened}
 use Rattle.frame.specs.Reading.{aux_if}
 use Rattle.frame.specs.Security as security

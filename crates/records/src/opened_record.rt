@@ -1,8 +1,9 @@
 // The opened record, 182 bytes: what opening a frame answers. The zeros before the header record are kept for what later
 // requests add.
-ghost use Rattle.std.specs.Prelude.{◌≡◌, ◌≤◌, length, Some};
+ghost use Rattle.std.specs.Prelude.{◌≡◌, ◌++◌, ◌≤◌, length};
 ghost use Rattle.octets.specs.Strings.{over};
 ghost use Rattle.frame.specs.Opening.{marked, told_opened};
+ghost use Rattle.records.specs.HeaderRecord.{header_record};
 ghost use Rattle.records.specs.OpenedRecord.{option_record, option_of, mark_code, mark_of, opened_front, opened_record};
 
 use crate::{auxiliary_record, header_record, optional};

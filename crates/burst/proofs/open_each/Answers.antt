@@ -12,54 +12,48 @@ use Rattle.burst.proofs.open_each.Goals as goal
 
 pub loop-k-init : goal.loop-k-init
 unfolding joined total tab out_after answers_after
-loop-k-init c = (omega arith, omega arith, refl, refl, refl)
+loop-k-init c = (omega arith, refl, refl, refl)
 
 pub offset_bounds-lengths-k : goal.offset_bounds-lengths-k
-offset_bounds-lengths-k c = omega (arith, (ready _ _ _ _ c.requires.1).few)
+offset_bounds-lengths-k c = omega (arith, (ready _ _ _ _ c.requires).few)
 
 pub bounds-lengths-k : goal.bounds-lengths-k
 bounds-lengths-k c = c.loop-k-test.true
 
-pub overflow_cast-end : goal.overflow_cast-end
-overflow_cast-end c = omega (arith, (c.type_inv.lengths c.loop-k.k))
-
 pub overflow_add-end : goal.overflow_add-end
-overflow_add-end c = omega (arith, (c.type_inv.lengths c.loop-k.k), (ready _ _ _ _ c.requires.1).few)
+overflow_add-end c = omega (arith, (c.type_inv.lengths c.loop-k.k), (ready _ _ _ _ c.requires).few)
 
 pub overflow_mul-part : goal.overflow_mul-part
-overflow_mul-part c = omega (arith, (ready _ _ _ _ c.requires.1).few)
+overflow_mul-part c = omega (arith, (ready _ _ _ _ c.requires).few)
 
 pub slice_bounds-open_one-end : goal.slice_bounds-open_one-end
-slice_bounds-open_one-end c = omega (arith, within _ _ c.loop-k-test.true, (ready _ _ _ _ c.requires.1).sum, c.loop-k.invariant.2)
+slice_bounds-open_one-end c = omega (arith, within _ _ c.loop-k-test.true, (ready _ _ _ _ c.requires).sum, c.loop-k.invariant.1)
 
 pub overflow_add-part : goal.overflow_add-part
-overflow_add-part c = omega (arith, (ready _ _ _ _ c.requires.1).few)
+overflow_add-part c = omega (arith, (ready _ _ _ _ c.requires).few)
 
 pub slice_bounds-open_one-end-in-loop-k : goal.slice_bounds-open_one-end-in-loop-k
-slice_bounds-open_one-end-in-loop-k c = omega (arith, (ready _ _ _ _ c.requires.1).fits, c.loop-k.auto.out)
+slice_bounds-open_one-end-in-loop-k c = omega (arith, (ready _ _ _ _ c.requires).fits, c.loop-k.auto.out)
 
 pub offset_bounds-answers-k : goal.offset_bounds-answers-k
-offset_bounds-answers-k c = omega (arith, (ready _ _ _ _ c.requires.1).few)
+offset_bounds-answers-k c = omega (arith, (ready _ _ _ _ c.requires).few)
 
 pub bounds-answers-k : goal.bounds-answers-k
-bounds-answers-k c = omega (arith, (ready _ _ _ _ c.requires.1).listed, c.loop-k.auto.answers)
-
-pub open_one-requires : goal.open_one-requires
-open_one-requires c = c.requires.0
+bounds-answers-k c = omega (arith, (ready _ _ _ _ c.requires).listed, c.loop-k.auto.answers)
 
 pub loop-k-preserved : goal.loop-k-preserved
 loop-k-preserved c =
-    let burst = ready _ _ _ _ c.requires.1 in
+    let burst = ready _ _ _ _ c.requires in
     let l = c.loop-k in
     let below = c.loop-k-test.true in
     let size : 108 * l.k + 108 - 108 * l.k ≡ 108 = omega arith in
-    let o = c.open_one.ensures in (
-      omega arith,
+    let part = rw c.from.ensures at c.open_one.ensures.part in
+    let place = rw c.from.ensures at c.open_one.ensures.place in (
       omega (arith, c.type_inv.lengths c.loop-k.k),
-      rw l.invariant.2 (sym (total_more c.args.lengths.now l.k below)),
-      out_more _ _ _ _ _ l.k l.at _ l.out burst.fits below l.invariant.2 size l.invariant.3 _ o.part,
-      answers_more _ _ _ _ _ l.k l.at _ l.out burst.fits below l.invariant.2 size l.invariant.3 c.args.answers.now _ _
-          burst.listed l.invariant.4 o.place,
+      rw (c.from.ensures, l.invariant.1) (sym (total_more c.args.lengths.now l.k below)),
+      out_more _ _ _ _ _ l.k l.at _ l.out burst.fits below l.invariant.1 size l.invariant.2 _ part,
+      answers_more _ _ _ _ _ l.k l.at _ l.out burst.fits below l.invariant.1 size l.invariant.2 c.args.answers.now _ _
+          burst.listed l.invariant.3 place,
     )
 
 pub returns : goal.returns
@@ -67,6 +61,6 @@ returns c =
     let l = c.loop-k in
     let all : l.k ≡ length c.args.lengths.now = omega (arith, c.loop-k-test.false) in
     record {
-      out = l.invariant.3 ∙ rw all refl;
-      answers = l.invariant.4 ∙ rw all refl;
+      out = l.invariant.2 ∙ rw all refl;
+      answers = l.invariant.3 ∙ rw all refl;
     }

@@ -5,21 +5,18 @@ use Rattle.burst.specs.Burst.{total}
 use Rattle.burst.proofs.Sums.{total_more, total_all}
 use Rattle.burst.proofs.total.Goals as goal
 
-pub loop-k-init : goal.loop-k-init
+pub loop-length-init : goal.loop-length-init
 unfolding total
-loop-k-init c = (omega arith, omega arith, refl)
-
-pub overflow_cast-sum : goal.overflow_cast-sum
-overflow_cast-sum c = omega (arith, c.type_inv.lengths c.loop-k.k)
+loop-length-init c = (omega arith, refl)
 
 pub overflow_add-sum : goal.overflow_add-sum
-overflow_add-sum c = omega (arith, c.type_inv.lengths c.loop-k.k)
+overflow_add-sum c = omega (arith, c.type_inv.lengths c.loop-length.length-index)
 
-pub loop-k-preserved : goal.loop-k-preserved
-loop-k-preserved c =
-    let l = c.loop-k in
-    let more = total_more c.args.lengths.now l.k c.loop-k-test.true in
-    (omega arith, omega (arith, c.type_inv.lengths c.loop-k.k), rw l.invariant.2 (sym more))
+pub loop-length-preserved : goal.loop-length-preserved
+loop-length-preserved c =
+    let l = c.loop-length in
+    let more = total_more c.args.lengths.now l.length-index c.loop-length-test.true in
+    (omega (arith, c.type_inv.lengths l.length-index), rw (c.from-sum.ensures, l.invariant.1) (sym more))
 
 pub returns : goal.returns
-returns c = c.loop-k.invariant.2 ∙ total_all _ _ c.loop-k-test.false
+returns c = c.loop-length.invariant.1 ∙ total_all _ _ c.loop-length-test.false
