@@ -1,23 +1,24 @@
 -- What a C function answers and leaves in a buffer where its refusal number is known: refused, or passed. And the answer's
 -- parts can be read back.
 -- Assumes nothing.
-use Rattle.std.specs.Prelude.{Some, None}
-use mathlib.Core.Path.{◌≡◌, refl, ap, ◌∙◌}
+use Rattle.std.specs.Prelude.{Some, None, Result, Ok, Err}
+use mathlib.Core.Path.{◌≡◌, refl, ◌∙◌}
 use mathlib.Core.List.{List}
 use Prim.Native.Nat.{ℕ, zero, suc, ◌/◌, ◌%◌, ◌^◌, ◌<◌}
 use native.Mathlib.Omega.{arith}
 use lib.ListN.{length}
-use Rattle.octets.specs.declared.Written.{Written}
+use Rattle.octets.specs.declared.refusals.Refusal.{Refusal}
 use Rattle.octets.specs.Strings.{over}
-use Rattle.octets.specs.Refusals.{unless}
-use Rattle.octets.specs.Writing.{written}
+use Rattle.octets.specs.Refusals.{unless, number_of}
+use Rattle.octets.specs.Writing.{Written, told, written}
 use Rattle.octets.proofs.Conditions as conditions
-use Rattle.frame.specs.declared.{Mark.Mark, FrameSealed.FrameSealed}
-use Rattle.frame.specs.Sealing.{seal_refused, seal_by}
+use Rattle.frame.specs.Opening.{Mark}
+use Rattle.frame.specs.Sealing.{told_sealed, seal_refused, seal_by}
+use Rattle.frame.proofs.Levels.{refusal_above}
 use Rattle.journal.specs.Recovery.{recover_nothing}
-use Rattle.nwk.specs.Answer.{answer, clear_bit, opened_answer, answer_by, given}
+use Rattle.nwk.specs.Answer.{answer, clear_bit, opened_answer, answer_by, told_by, given}
 use Rattle.nwk.specs.Inbound.{earlier_answer}
-use Rattle.nwk.specs.Recovery.{recovered_answer, written_answer, next_answer}
+use Rattle.nwk.specs.Recovery.{recovered_answer, next_answer}
 
 -- ---- the clauses of a function that answers and writes
 
@@ -82,49 +83,46 @@ recovered_refused (suc n) h g = (omega (arith, g), (omega (arith, g), (omega (ar
 pub next_given_lem : (c : ℕ) → c < 2 ^ 32 → let a = next_answer (record { refusal = 0; counter = c }) in (a % 2 ^ 32 ≡ c) × (a / 2 ^ 32 ≡ 0)
 next_given_lem c h = (answer_length 0 c h, answer_refusal 0 c)
 
--- ---- refused by the number k: the answer, and each buffer as it was
+-- ---- what an operation gives, by its refusal's number n
 
--- whatever number a is answered where nothing is refused
-pub refused_answer : (n k a r : ℕ) → k ≡ n → (k ≡ 0 → ⊥) → r ≡ answer k 0 → r ≡ unless n a (answer n 0)
-refused_answer n k a r e h p = p ∙ conditions.refused_by n k a (λ (m : ℕ). answer m 0) e h
+pub told_answer : (n len : ℕ) (w : Written) → w ≡ told_by n len → answer w.refusal w.length ≡ answer_by n len
+unfolding unless
+told_answer zero len w e = λ i. answer (e i).refusal (e i).length
+told_answer (suc n) len w e = λ i. answer (e i).refusal (e i).length
 
-pub refused_buffer : (n k : ℕ) (bs o : List ℕ) → k ≡ n → (k ≡ 0 → ⊥) → o ≡ given n bs o
-refused_buffer n k bs o e h = conditions.refused_by n k (over o 0 bs) (λ (m : ℕ). o) e h
+-- whatever is answered where nothing is refused
+pub refused_answer : (n a : ℕ) (r : Refusal) → number_of r ≡ n → answer (number_of r) 0 ≡ unless n a (answer n 0)
+refused_answer n a r e = conditions.refused_by n (number_of r) a (λ (m : ℕ). answer m 0) e (refusal_above r)
 
-pub refused_by : (n k len r : ℕ) (bs o : List ℕ) → k ≡ n → (k ≡ 0 → ⊥) → r ≡ answer k 0 → (r ≡ answer_by n len) × (o ≡ given n bs o)
-refused_by n k len r bs o e h p = (refused_answer n k (answer 0 len) r e h p, refused_buffer n k bs o e h)
+pub kept : {A : Type 0} (n : ℕ) (r : Refusal) (x o : A) → number_of r ≡ n → o ≡ unless n x o
+kept n r x o e = conditions.refused_by n (number_of r) x (λ (m : ℕ). o) e (refusal_above r)
 
-pub refused_both : (n k len r : ℕ) (bs bs' o o' : List ℕ) → k ≡ n → (k ≡ 0 → ⊥) → r ≡ answer k 0
-    → (r ≡ answer_by n len) × ((o ≡ given n bs o) × (o' ≡ given n bs' o'))
-refused_both n k len r bs bs' o o' e h p = (refused_answer n k (answer 0 len) r e h p, (refused_buffer n k bs o e h, refused_buffer n k bs' o' e h))
+pub told_refused : (n len : ℕ) (r : Refusal) → number_of r ≡ n → told (Err r) ≡ told_by n len
+told_refused n len r e =
+    conditions.refused_by n (number_of r) (record { refusal = 0; length = len }) (λ (m : ℕ). record { refusal = m; length = 0 }) e (refusal_above r)
 
--- ---- passed: the length, and the bytes at the front
-
-pub passed_answer : (n len r : ℕ) → n ≡ 0 → r ≡ answer 0 len → r ≡ answer_by n len
-passed_answer n len r e p = p ∙ conditions.accepted_by n n (answer 0 len) (answer n 0) refl e
+-- passed: the length, and the bytes at the front
+pub told_passed : (n len : ℕ) → n ≡ 0 → told (Ok len) ≡ told_by n len
+told_passed n len e = conditions.accepted_by n n (record { refusal = 0; length = len }) (record { refusal = n; length = 0 }) refl e
 
 pub given_passed : (n : ℕ) (bs o o' : List ℕ) → n ≡ 0 → o' ≡ over o 0 bs → o' ≡ given n bs o
 given_passed n bs o o' e p = p ∙ conditions.accepted_by n n (over o 0 bs) o refl e
 
-pub passed_by : (n len r : ℕ) (bs o o' : List ℕ) → n ≡ 0 → r ≡ answer 0 len → o' ≡ over o 0 bs → (r ≡ answer_by n len) × (o' ≡ given n bs o)
-passed_by n len r bs o o' e p q = (passed_answer n len r e p, given_passed n bs o o' e q)
-
--- ---- a writer's own answer, refused or not
-
-pub written_by : (n k : ℕ) (bs o o' : List ℕ) (w : Written) (r : ℕ) → k ≡ n → w ≡ (written k bs o).answer → o' ≡ (written k bs o).out
-    → r ≡ answer w.refusal w.length → (r ≡ answer_by n (length bs)) × (o' ≡ given n bs o)
+-- a writer's own answer, refused or not
+pub told_written : (n k : ℕ) (bs o o' : List ℕ) (w : Written) → k ≡ n → w ≡ (written k bs o).answer → o' ≡ (written k bs o).out
+    → (w ≡ told_by n (length bs)) × (o' ≡ given n bs o)
 unfolding written unless
-written_by n zero bs o o' w r e p q s = rw (← e) (s ∙ (λ i. answer (p i).refusal (p i).length), q)
-written_by n (suc k) bs o o' w r e p q s = rw (← e) (s ∙ (λ i. answer (p i).refusal (p i).length), q)
+told_written n zero bs o o' w e p q = rw (← e) (p, q)
+told_written n (suc k) bs o o' w e p q = rw (← e) (p, q)
 
 -- the same of sealing
-pub sealed_by_lem : (n k : ℕ) (bs o o' : List ℕ) (w : FrameSealed) (r : ℕ) → k ≡ n → w ≡ (seal_by k bs o).answer → o' ≡ (seal_by k bs o).out
-    → r ≡ answer w.refusal w.length → (r ≡ answer_by n (length bs)) × (o' ≡ given n bs o)
+as_written : (r : Result ℕ Refusal) → told r ≡ record { refusal = (told_sealed r).refusal; length = (told_sealed r).length }
+unfolding seal_refused
+as_written (Ok n) = refl
+as_written (Err r) = refl
+
+pub told_sealing : (n k : ℕ) (bs o o' : List ℕ) (r : Result ℕ Refusal) → k ≡ n → told_sealed r ≡ (seal_by k bs o).answer → o' ≡ (seal_by k bs o).out
+    → (told r ≡ told_by n (length bs)) × (o' ≡ given n bs o)
 unfolding seal_by seal_refused unless
-sealed_by_lem n zero bs o o' w r e p q s = rw (← e) (s ∙ (λ i. answer (p i).refusal (p i).length), q)
-sealed_by_lem n (suc k) bs o o' w r e p q s = rw (← e) (s ∙ (λ i. answer (p i).refusal (p i).length), q)
-
--- ---- what a function over a journal wrote
-
-pub written_as : {r : ℕ} {w w' : Written} {o o' : List ℕ} → w ≡ w' → o ≡ o' → r ≡ written_answer w → (r ≡ written_answer w') × (o ≡ o')
-written_as e q p = (p ∙ ap written_answer e, q)
+told_sealing n zero bs o o' r e p q = rw (← e) (as_written r ∙ (λ i. record { refusal = (p i).refusal; length = (p i).length }), q)
+told_sealing n (suc k) bs o o' r e p q = rw (← e) (as_written r ∙ (λ i. record { refusal = (p i).refusal; length = (p i).length }), q)

@@ -32,7 +32,7 @@ use Rattle.header.proofs.ReadBack.{same_cleared}
 use Rattle.header.proofs.ReadFacts.{header_number, aux_number}
 use Rattle.header.proofs.ReadFits.{ieee_fits, multicast_fits, route_fits, relays_fit, aux_read_fits}
 use Rattle.ccm.specs.Operations.{ciph_of}
-use Rattle.frame.specs.declared.{Mark.Mark, FrameOpened.FrameOpened}
+use Rattle.frame.specs.Opening.{Mark, FrameOpened}
 use Rattle.frame.specs.Reading.{secured, aux_if, aux_behind, frame_refusal, frame_number, read_frame}
 use Rattle.frame.specs.Security.{sent_level, or_blank}
 use Rattle.frame.specs.Writing.{length_refusals}

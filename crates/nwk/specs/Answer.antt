@@ -4,7 +4,8 @@
 use Rattle.std.specs.Prelude.{ℕ, ◌+◌, ◌*◌, ◌/◌, ◌%◌, ◌^◌, List}
 use Rattle.octets.specs.Strings.{over}
 use Rattle.octets.specs.Refusals.{unless}
-use Rattle.frame.specs.declared.Mark.{Mark}
+use Rattle.octets.specs.Writing.{Written}
+use Rattle.frame.specs.Opening.{Mark}
 
 -- the length in bits 0 to 31, the refusal number in bits 32 to 39, the other bits 0
 unfoldable pub answer : ℕ → ℕ → ℕ
@@ -36,6 +37,10 @@ first_in a = a / 2 ^ 48 % 2 ^ 8
 -- the answer by the refusal number, where n bytes are given
 abbrev pub answer_by : ℕ → ℕ → ℕ
 answer_by refusal n = unless refusal (answer 0 n) (answer refusal 0)
+
+-- the same, as what an operation gives
+abbrev pub told_by : ℕ → ℕ → Written
+told_by refusal n = unless refusal (record { refusal = 0; length = n }) (record { refusal = refusal; length = 0 })
 
 -- the buffer o by the refusal number, where the bytes bs are given
 abbrev pub given : ℕ → List ℕ → List ℕ → List ℕ

@@ -8,7 +8,8 @@ use Rattle.types.specs.declared.level.Level.{Level}
 use Rattle.types.specs.Levels.{is_other}
 use Rattle.ccm.specs.Operations.{ciph_of}
 use Rattle.header.specs.Control.{type_code, type_of}
-use Rattle.frame.specs.declared.{NwkPayload.NwkPayload, Mark.Mark}
+use Rattle.frame.specs.declared.NwkPayload.{NwkPayload}
+use Rattle.frame.specs.Opening.{Mark}
 use Rattle.frame.specs.Reading.{read_frame, payload_of}
 use Rattle.frame.specs.Writing.{frame_write_refusal, frame_bytes}
 use Rattle.frame.specs.Security as security

@@ -14,6 +14,7 @@ use types::level::Level;
 
 // Seal a payload: the ciphertext goes to the front of the output, and the MIC to its own 16 places;
 // refusals 29, 1 and 18.
+#[tactic(auto, unfolding(octets::specs::Refusals::unless))]
 pub fn nwk_encrypt_ccm(
     level: u64,
     key_first: u64,
@@ -28,15 +29,15 @@ pub fn nwk_encrypt_ccm(
     ensures out { out.new ≡ (encrypt_ccm (network_level level) (key_bytes key_first key_second) nonce.now auth.now payload.now out.old).out }
     ensures mic { mic.new ≡ unless (encrypt_ccm (network_level level) (key_bytes key_first key_second) nonce.now auth.now payload.now out.old).answer.refusal (encrypt_ccm (network_level level) (key_bytes key_first key_second) nonce.now auth.now payload.now out.old).answer.mic mic.old }
 {
-    let network = Level::of(level);
     let key = Key::from_halves(key_first, key_second);
-    let bytes = key.0;
-    let sealed = ccm::encrypt_ccm(network, bytes, *nonce, auth, payload, out);
-    if sealed.refusal == 0 {
-        let tag = sealed.mic;
-        *mic = tag;
+    match ccm::encrypt_ccm(Level::from(level), key.0, *nonce, auth, payload, out) {
+        Ok(sealed) => {
+            let tag = sealed.1;
+            *mic = tag;
+            answer(Ok(sealed.0))
+        }
+        Err(refusal) => answer(Err(refusal)),
     }
-    answer(sealed.refusal, sealed.length)
 }
 
 // Open a ciphertext with its MIC: the payload goes to the front of the output. Places past the tag are not read; refusals 29,
@@ -54,29 +55,36 @@ pub fn nwk_decrypt_ccm(
     ensures answer { result ≡ answer (decrypt_ccm (network_level level) (key_bytes key_first key_second) nonce.now auth.now ciphertext.now mic.now out.old).answer.refusal (decrypt_ccm (network_level level) (key_bytes key_first key_second) nonce.now auth.now ciphertext.now mic.now out.old).answer.length }
     ensures out { out.new ≡ (decrypt_ccm (network_level level) (key_bytes key_first key_second) nonce.now auth.now ciphertext.now mic.now out.old).out }
 {
-    let network = Level::of(level);
     let key = Key::from_halves(key_first, key_second);
-    let bytes = key.0;
-    let opened = ccm::decrypt_ccm(network, bytes, *nonce, auth, ciphertext, *mic, out);
-    answer(opened.refusal, opened.length)
+    answer(ccm::decrypt_ccm(
+        Level::from(level),
+        key.0,
+        *nonce,
+        auth,
+        ciphertext,
+        *mic,
+        out,
+    ))
 }
 
 // Split the MIC from the end of a received ciphertext, of any length: the MIC goes to its own 16 places, the length of the
 // ciphertext in front of it to a number, and the answer's length is the MIC's; refusals 29 and 16.
+#[tactic(auto, unfolding(octets::specs::Refusals::unless))]
 pub fn nwk_split_mic(level: u64, bytes: &[u8], mic: &mut [u8; 16], front: &mut u64) -> u64
     ensures answer { result ≡ answer_by (split_mic (network_level level) bytes.now).refusal (tag_length (network_level level)) }
     ensures mic { mic.new ≡ unless (split_mic (network_level level) bytes.now).refusal (split_mic (network_level level) bytes.now).mic mic.old }
     ensures front { front.new ≡ unless (split_mic (network_level level) bytes.now).refusal (split_mic (network_level level) bytes.now).length front.old }
 {
-    let network = Level::of(level);
-    let split = ccm::split_mic(network, bytes);
-    if split.refusal != 0 {
-        return answer(split.refusal, 0);
+    let network = Level::from(level);
+    match ccm::split_mic(network, bytes) {
+        Ok(split) => {
+            let tag = split.1;
+            *mic = tag;
+            *front = split.0 as u64;
+            answer(Ok(network.tag_length()))
+        }
+        Err(refusal) => answer(Err(refusal)),
     }
-    let tag = split.mic;
-    *mic = tag;
-    *front = split.length as u64;
-    answer(0, network.tag_length())
 }
 
 // One block of AES-128; nothing is refused.
@@ -90,8 +98,7 @@ pub fn nwk_encrypt_block(
     ensures out { out.new ≡ aes128 (key_bytes key_first key_second) block.now }
 {
     let key = Key::from_halves(key_first, key_second);
-    let bytes = key.0;
-    let encrypted = aes::encrypt_block(bytes, *block);
+    let encrypted = aes::encrypt_block(key.0, *block);
     *out = encrypted;
-    answer(0, 16)
+    answer(Ok(16))
 }

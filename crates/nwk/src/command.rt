@@ -12,6 +12,7 @@ use command_records::COMMAND_RECORD_SIZE;
 use octets::refusals::Refusal;
 
 // Read a command into a command record, and give the record's length.
+#[tactic(auto, unfolding(octets::specs::Refusals::unless, octets::specs::Refusals::first_of, crate::specs::Commands::read_command_refusal))]
 fn read_command(bytes: &[u8], command: &mut [u8]) -> Result<usize, Refusal>
     ensures answer { told result ≡ told_by (read_command_refusal bytes.now (length command.old)) 535 }
     ensures command { command.new ≡ given (read_command_refusal bytes.now (length command.old)) (command_record (read_command bytes.now).command) command.old }
@@ -25,6 +26,7 @@ fn read_command(bytes: &[u8], command: &mut [u8]) -> Result<usize, Refusal>
 }
 
 // Read a command into a command record; refusals 12 and 18. The length is the record's.
+#[tactic(auto, using(crate::proofs::Calls::told_answer))]
 pub fn nwk_read_command(bytes: &[u8], command: &mut [u8]) -> u64
     ensures answer { result ≡ answer_by (read_command_refusal bytes.now (length command.old)) 535 }
     ensures command { command.new ≡ given (read_command_refusal bytes.now (length command.old)) (command_record (read_command bytes.now).command) command.old }
@@ -33,6 +35,7 @@ pub fn nwk_read_command(bytes: &[u8], command: &mut [u8]) -> u64
 }
 
 // Write the command of a record to the front of the output, and give its length.
+#[tactic(auto, unfolding(octets::specs::Refusals::unless, octets::specs::Refusals::first_of, octets::specs::Writing::written, command_records::specs::CommandRecord::write_record_refusal, commands::specs::Writing::write_command))]
 fn write_command(command: &[u8], out: &mut [u8]) -> Result<usize, Refusal>
     ensures answer { told result ≡ told_by (write_record_refusal command.now (length out.old)) (length (command_bytes (read_record command.now).command)) }
     ensures out { out.new ≡ given (write_record_refusal command.now (length out.old)) (command_bytes (read_record command.now).command) out.old }
@@ -41,6 +44,7 @@ fn write_command(command: &[u8], out: &mut [u8]) -> Result<usize, Refusal>
 }
 
 // Write the command of a record to the front of the output; refusals 13, 17 and 18.
+#[tactic(auto, using(crate::proofs::Calls::told_answer))]
 pub fn nwk_write_command(command: &[u8], out: &mut [u8]) -> u64
     ensures answer { result ≡ answer_by (write_record_refusal command.now (length out.old)) (length (command_bytes (read_record command.now).command)) }
     ensures out { out.new ≡ given (write_record_refusal command.now (length out.old)) (command_bytes (read_record command.now).command) out.old }

@@ -9,6 +9,7 @@ use senders::SenderRecord;
 use types::Key;
 
 // The active key for a frame of this sender, key sequence number and counter; refusals 22 and 23. The list is left as it was.
+#[tactic(auto, unfolding(crate::specs::Inbound::asked_answer, crate::specs::Inbound::key_left, octets::specs::Refusals::unless, senders::specs::Senders::ask_refused))]
 pub fn nwk_inbound_network_key(
     key_first: u64,
     key_second: u64,

@@ -20,6 +20,7 @@ fn key_number_bits(key_number: Option<u8>) -> u64
 
 // Recover from a journal: the ceiling and the key number in the answer, the list filled anew, and the length of the complete records;
 // refusals 25 and 24.
+#[tactic(auto, unfolding(crate::specs::Recovery::recovered_answer, crate::specs::Recovery::complete_left, octets::specs::Refusals::unless))]
 pub fn nwk_recover_journal(journal: &[u8], list: &mut [SenderRecord], complete: &mut u64) -> u64
     ensures { (result ≡ recovered_answer (recover_answer journal.now (length list.old))) × ((list.new ≡ recovered_list journal.now list.old) × (complete.new ≡ complete_left (recover_answer journal.now (length list.old)) complete.old)) }
 {
@@ -45,9 +46,7 @@ pub fn nwk_write_journal_record(
     ensures answer { result ≡ written_answer (write_record journal.now kind sender counter key_number out.old).answer }
     ensures out { out.new ≡ (write_record journal.now kind sender counter key_number out.old).out }
 {
-    answer(journal::write_record(
-        journal, kind, sender, counter, key_number, out,
-    ))
+    answer(journal::write_record(journal, kind, sender, counter, key_number, out))
 }
 
 // The next outgoing counter behind the last one, in the length's place; refusals 25, 26 and 27.
