@@ -37,10 +37,5 @@ pub fn load_words(w: [u32; 4]) -> State
 pub fn store_words(s: State) -> [u32; 4]
     ensures { bytes_of result ≡ block_of s }
 {
-    [
-        words::number(s[0]),
-        words::number(s[1]),
-        words::number(s[2]),
-        words::number(s[3]),
-    ]
+    s.map(words::number)
 }

@@ -20,12 +20,7 @@ pub fn xor_word(a: [u8; 4], b: [u8; 4]) -> [u8; 4]
 pub fn sub_word(w: [u8; 4]) -> [u8; 4]
     ensures { result ≡ sub_word w }
 {
-    [
-        field::substitute(w[0]),
-        field::substitute(w[1]),
-        field::substitute(w[2]),
-        field::substitute(w[3]),
-    ]
+    w.map(field::substitute)
 }
 
 // RotWord: a word with its first byte put last.
