@@ -23,6 +23,7 @@ pub fn key_expansion(key: [u8; 16]) -> RoundKeys
     let mut w = state::load(key);
     let mut keys = [w; 11];
     for n in 0..10 {
+        // The prover does not cover a call's result that goes straight into an array.
         let next = words::next_round_key(w, n);
         w = next;
         keys[n + 1] = w;

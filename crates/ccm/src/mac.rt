@@ -30,6 +30,7 @@ fn chain_over(keys: &RoundKeys, formatted: &[u8], last: usize) -> [u32; 4]
 {
     let mut y = aes::cipher(keys, block_at(formatted, 0));
     for i in 0..last {
+        // The prover does not cover a call's result that goes straight into an array.
         let next = chained(keys, block_at(formatted, i + 1), y);
         y = next;
     }
