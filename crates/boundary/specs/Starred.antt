@@ -1,7 +1,7 @@
 -- The cases that document 01, "At the boundaries", marks with a star, as one table. What a row says of the definitions is
 -- `Holds`; that every row holds is one claim, in proofs/Starred.antt.
 -- Assumes nothing.
-use Rattle.std.specs.Prelude.{◌≡◌, true, false, List, [], ◌∷◌, ◌++◌, ℕ, length, drop, take, replicate, None}
+use Rattle.std.specs.Prelude.{◌≡◌, true, false, List, [], ◌∷◌, ◌++◌, ℕ, length, drop, take, replicate, None, Option, Some}
 use Rattle.header.specs.declared.{control.NwkFrameControl.NwkFrameControl, control.NwkFrameType.NwkFrameType, control.NwkRouteDiscovery.NwkRouteDiscovery, optional.NwkSourceRoute.NwkSourceRoute, nwk.NwkHeader.NwkHeader}
 use Rattle.types.specs.Addresses.{nwk, no_nwk}
 use Rattle.types.specs.declared.Nwk.{Nwk}
@@ -85,7 +85,7 @@ routed_control =
     }
 
 -- a header from source 0x1234 to 0, radius 30, sequence 7, with a source route or none
-unfoldable pub from_probe : NwkFrameControl → NwkSourceRoute → List Nwk → NwkHeader
+unfoldable pub from_probe : NwkFrameControl → Option NwkSourceRoute → List Nwk → NwkHeader
 from_probe c route relays =
     record {
       frame_control = c;
@@ -121,12 +121,12 @@ one_link =
 
 unfoldable pub starred : List Case
 starred =
-    reads (plain_bytes 0x08 ++ (0xAA ∷ [])) 8 (from_probe data_control NwkSourceRoute.Absent (replicate 54 no_nwk)) (0xAA ∷ [])
+    reads (plain_bytes 0x08 ++ (0xAA ∷ [])) 8 (from_probe data_control None (replicate 54 no_nwk)) (0xAA ∷ [])
     ∷ refuses (take 7 (plain_bytes 0x08)) 2
     ∷ refuses (plain_bytes 0x0A ++ (0xAA ∷ [])) 3
     ∷ refuses (plain_bytes 0xC8 ++ (0xAA ∷ [])) 4
     ∷ refuses (plain_bytes 0xCA ++ (0xAA ∷ [])) 3
-    ∷ reads routed_bytes 14 (from_probe routed_control (NwkSourceRoute.Present 2 1) (nwk 0x1234 ∷ nwk 0x5678 ∷ replicate 52 no_nwk)) []
+    ∷ reads routed_bytes 14 (from_probe routed_control (Some (record { relay_count = 2; relay_index = 1 })) (nwk 0x1234 ∷ nwk 0x5678 ∷ replicate 52 no_nwk)) []
     ∷ refuses (take 13 routed_bytes) 8
     ∷ is_command (0x04 ∷ 0x40 ∷ []) leave_with_request
     ∷ is_command (0x04 ∷ []) (unparsed (0x04 ∷ []))

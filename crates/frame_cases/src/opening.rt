@@ -94,7 +94,10 @@ fn opens(key: Key, bytes: &[u8], room: usize, refusal: usize, expected: Expected
     number(answer) == refusal
         && as_expected
         && leaves(expected, &out)
-        && check::same(frame::opening::payload(answer, bytes, &out), expected.payload)
+        && check::same(
+            frame::opening::payload(answer, bytes, &out),
+            expected.payload,
+        )
 }
 
 // A case of opening.

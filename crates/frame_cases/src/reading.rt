@@ -18,11 +18,11 @@ use records::header_record::put_header;
 
 // A case of a reader and the writer of what it read: whether reading gives the number and the length, and what was read is
 // written as expected.
-fn read_case<T: Copy, R: Fn(&[u8]) -> Result<(T, usize), Refusal>, W: Fn(T, &mut [u8]) -> Result<usize, Refusal>>(
-    line: &[u8],
-    read: R,
-    write: W,
-) -> Option<bool>
+fn read_case<
+    T: Copy,
+    R: Fn(&[u8]) -> Result<(T, usize), Refusal>,
+    W: Fn(T, &mut [u8]) -> Result<usize, Refusal>,
+>(line: &[u8], read: R, write: W) -> Option<bool>
     requires { R.IsAlwaysCallable read × W.IsAlwaysCallable write }
 {
     let mut bytes = [0u8; 160];

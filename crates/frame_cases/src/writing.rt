@@ -3,6 +3,8 @@
 //   seal KEY HEADER AUX PAYLOAD ROOM REFUSAL FRAME      seal a frame
 // HEADER and AUX are the records of include/nwk.h, the zeros at their end left out, so that a bit need not agree with its
 // field. FRAME is what the output's front must be; the rest, and after a refusal the whole, must stay.
+ghost use Rattle.std.specs.Prelude.{◌<◌};
+
 use crate::answers::is_answer;
 use casefile::fields::{exact, field};
 use casefile::outputs::FILLER;

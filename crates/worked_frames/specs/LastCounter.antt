@@ -2,6 +2,7 @@
 -- is `Holds`; that every row holds is one claim, in proofs/LastCounter.antt. Ciphertext and MIC of the two frames are another
 -- AES-CCM's (the Python library cryptography, 48.0.0).
 -- Assumes nothing.
+use Rattle.header.specs.declared.auxiliary.NwkAuxHeader.{NwkAuxHeader}
 use Rattle.std.specs.Prelude.{◌≡◌, true, false, List, [], ◌∷◌, ◌++◌, ℕ, length, drop, replicate, Option, Some, None}
 use Rattle.types.specs.Addresses.{no_nwk}
 use Rattle.types.specs.Optional.{has_ieee}
@@ -42,7 +43,7 @@ probe =
       end_device_initiator = false;
       reserved1 = 0;
     })
-    NwkSourceRoute.Absent (replicate 54 no_nwk)
+    None (replicate 54 no_nwk)
 
 -- an output of thirty bytes that are not 0, so that what stays of it is seen
 abbrev pub lent : List ℕ

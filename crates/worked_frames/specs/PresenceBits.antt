@@ -1,6 +1,7 @@
 -- Document 02, 8, at its edges: which presence bits are refused by 28, and in which order, as tables. What a row says of the
 -- definitions is `Holds`; that every row of every table holds is one claim, in proofs/PresenceBits.antt.
 -- Assumes nothing.
+use Rattle.header.specs.declared.auxiliary.NwkAuxHeader.{NwkAuxHeader}
 use Rattle.std.specs.Prelude.{◌≡◌, Bool, true, false, List, [], ◌∷◌, ◌++◌, ℕ, replicate, eqb, Option, Some, None}
 use Rattle.types.specs.Addresses.{nwk, no_nwk}
 use Rattle.types.specs.Optional.{ieee_if}
