@@ -1,5 +1,6 @@
-//! Code, definitions and proofs are there to be read: no line of them is longer than one can follow, imports and the
-//! clauses of contracts aside, and no path into a proof's facts goes back ten places without a name on the way.
+//! Code, definitions and proofs are there to be read: no line of them is longer than one can follow, imports, the clauses of
+//! contracts and the names that a proof goes by aside, each of which the formatter keeps on one line, and no path into a
+//! proof's facts goes back ten places without a name on the way.
 #[allow(dead_code)]
 mod support;
 
@@ -23,8 +24,10 @@ fn sources(folder: &Path, found: &mut Vec<PathBuf>) {
     }
 }
 
-fn is_import_or_clause(line: &str) -> bool {
-    ["use ", "ghost use ", "ensures ", "requires "].iter().any(|start| line.trim_start().starts_with(start))
+fn may_be_long(line: &str) -> bool {
+    ["use ", "ghost use ", "ensures ", "requires ", "#[tactic(", "#![tactic("]
+        .iter()
+        .any(|start| line.trim_start().starts_with(start))
 }
 
 #[test]
@@ -34,7 +37,7 @@ fn every_line_can_be_followed() {
     assert!(files.len() > 400, "only {} files were found", files.len());
     for file in files {
         let text = fs::read_to_string(&file).unwrap();
-        for (at, line) in text.lines().enumerate().filter(|(_, line)| !is_import_or_clause(line)) {
+        for (at, line) in text.lines().enumerate().filter(|(_, line)| !may_be_long(line)) {
             let place = format!("{}:{}", file.display(), at + 1);
             assert!(line.chars().count() <= LONGEST, "{place}: {} characters", line.chars().count());
             assert!(!line.contains(&".before".repeat(10)), "{place}: ten places back without a name");

@@ -7,10 +7,9 @@ use Rattle.std.specs.Prelude.{◌≡◌, true, false, List, [], ◌∷◌, ◌++
 use Rattle.types.specs.Addresses.{no_nwk}
 use Rattle.types.specs.Optional.{has_ieee}
 use Rattle.types.specs.declared.level.Level.{Level}
-use Rattle.header.specs.declared.{auxiliary.NwkSecurityLevel.NwkSecurityLevel, auxiliary.NwkSecurityHeaderKeyId.NwkSecurityHeaderKeyId, control.NwkFrameType.NwkFrameType, control.NwkRouteDiscovery.NwkRouteDiscovery, optional.NwkSourceRoute.NwkSourceRoute, nwk.NwkHeader.NwkHeader}
-use Rattle.frame.specs.declared.Mark.{Mark}
+use Rattle.header.specs.declared.{auxiliary.NwkSecurityLevel.NwkSecurityLevel, auxiliary.NwkSecurityHeaderKeyId.NwkSecurityHeaderKeyId, control.NwkFrameType.NwkFrameType, control.NwkRouteDiscovery.NwkRouteDiscovery, nwk.NwkHeader.NwkHeader}
 use Rattle.frame.specs.Sealing.{seal_frame}
-use Rattle.frame.specs.Opening.{open_frame}
+use Rattle.frame.specs.Opening.{Mark, open_frame}
 use Rattle.boundary.specs.Starred.{from_probe}
 use Rattle.worked_frames.specs.Bytes.{hex}
 

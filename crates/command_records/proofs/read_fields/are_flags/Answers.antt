@@ -33,4 +33,5 @@ returns c =
     let i = c.args.i in
     let n = c.args.n in
     by_all s i n c.all.result
-    (cases_from_all _ _ _ (λ k. get_or s k 0 ≤ 1) (λ k. 1 < get_or s k 0) c.all.ensures.ran (YieldsList-from_range i (i + n) n refl (omega arith)) (λ x q k. search (rules, tests)) (λ x q k. search (rules, tests)))
+    (cases_from_all _ _ _ (λ k. get_or s k 0 ≤ 1) (λ k. 1 < get_or s k 0) c.all.ensures.ran
+    (YieldsList-from_range i (i + n) n refl (omega arith)) (λ x q k. search (rules, tests)) (λ x q k. search (rules, tests)))

@@ -40,4 +40,5 @@ returns-else-n-gt31 c =
     let n = c.args.n in
     rw (le-ltb 31 n c.if-n-gt31.false)
     (by_any links n c.any.result (omega arith)
-    (cases_from_any _ _ _ (λ l. fits l ≡ false) (λ l. fits l ≡ true) c.any.ensures.ran (YieldsList-from_slice (take n links) cc) (λ x q k. search (rules, tests)) (λ x q k. search (rules, tests))))
+    (cases_from_any _ _ _ (λ l. fits l ≡ false) (λ l. fits l ≡ true) c.any.ensures.ran
+    (YieldsList-from_slice (take n links) cc) (λ x q k. search (rules, tests)) (λ x q k. search (rules, tests))))
