@@ -54,7 +54,7 @@ fn source_licence_and_processor_are_named() {
 }
 
 /// Each fact has one home: README has at most 10 kB, and it, CONTRIBUTING, the pages of `docs/` and the headers at most 130 kB together.
-/// The pages of the port and of the design pass are aside: they list what was moved and how each promise read before.
+/// The pages of the port, of the design pass and of the look back at it are aside: they list what was moved and how each promise read before.
 #[test]
 fn the_papers_are_short() {
     assert!(read("README.md").len() <= 10_000, "README.md has {} bytes", read("README.md").len());
@@ -66,6 +66,7 @@ fn the_papers_are_short() {
             if path.extension().is_some_and(|found| found == ending)
                 && !path.ends_with("PORT.md")
                 && !path.ends_with("DESIGN-PASS.md")
+                && !path.ends_with("LOOK-BACK.md")
             {
                 sizes.push((path.display().to_string(), fs::metadata(&path).expect("a file").len() as usize));
             }
