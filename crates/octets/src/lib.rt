@@ -71,7 +71,10 @@ pub fn read_u16(s: &[u8], i: usize) -> u16
     if s.len() <= i {
         return 0;
     }
-    u16::from_le_bytes([byte_at(s, i), byte_at(s, i + 1)])
+    if s.len() - i == 1 {
+        return u16::from(s[i]);
+    }
+    u16::from_le_bytes([s[i], s[i + 1]])
 }
 
 // The 32-bit number at place i, likewise.

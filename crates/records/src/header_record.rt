@@ -100,6 +100,14 @@ pub fn put_header(out: &mut [u8], h: NwkHeader)
 
 // ---- the header of a record
 
+// The 16-bit number at place i, least significant byte first. The record has both places, so nothing is tested in the loop over its relays.
+fn number_at(bytes: &[u8], i: usize) -> u16
+    requires { i + 1 < length bytes.now }
+    ensures { result ≡ le_at 2 bytes.now i }
+{
+    u16::from_le_bytes([bytes[i], bytes[i + 1]])
+}
+
 // The frame control that the first ten bytes encode.
 #[tactic(auto, unfolding(header::specs::Control::control_from))]
 fn control_of(bytes: &[u8]) -> NwkFrameControl
@@ -127,7 +135,7 @@ fn relays_of(bytes: &[u8]) -> [Nwk; 54]
 {
     let mut relays = [NO_NWK; 54];
     for i in 0..54 {
-        relays[i] = Nwk(octets::read_u16(bytes, 39 + 2 * i));
+        relays[i] = Nwk(number_at(bytes, 39 + 2 * i));
     }
     relays
 }
@@ -140,8 +148,8 @@ pub fn header_of(bytes: &[u8]) -> NwkHeader
 {
     NwkHeader {
         frame_control: control_of(bytes),
-        destination: Nwk(octets::read_u16(bytes, 10)),
-        source: Nwk(octets::read_u16(bytes, 12)),
+        destination: Nwk(number_at(bytes, 10)),
+        source: Nwk(number_at(bytes, 12)),
         radius: bytes[14],
         sequence_number: bytes[15],
         destination_ieee: ieee_in(bytes, 16),

@@ -18,7 +18,7 @@ loop-i-preserved c =
     let l = c.loop-i in
     let below : l.i < 54 = c.loop-i-test.true in (
       simp length-set l.invariant.0,
-      fill_turn _ l.i _ l.relays _ below (ap nwk c.read_u16.ensures) l.invariant.1,
+      fill_turn _ l.i _ l.relays _ below (ap nwk c.number_at.ensures) l.invariant.1,
     )
 
 pub returns : goal.returns
