@@ -1,5 +1,6 @@
 -- The laws of frames, the sealing law among them, and what the proofs of the functions cite.
 pub mod Levels
+pub mod Payloads
 pub mod Accepted
 pub mod FirstHalf
 pub mod SecondHalf

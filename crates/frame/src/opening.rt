@@ -7,7 +7,7 @@ ghost use Rattle.types.specs.Levels.{tag_length};
 ghost use Rattle.ccm.specs.Operations.{opened_under, given_if};
 ghost use Rattle.frame.specs.Reading.{told_frame, read_frame};
 ghost use Rattle.frame.specs.Security.{is_absent, nonce, authenticated};
-ghost use Rattle.frame.specs.Opening.{last_of, open_refusals, told_opened, open_frame, open_under, payload_in};
+ghost use Rattle.frame.specs.Opening.{last_of, open_refusals, marked, told_opened, open_frame, open_under, payload_by, payload_in};
 
 use crate::security::Headers;
 use crate::{Frame, Mark, OpenedFrame, read_frame};
@@ -17,6 +17,7 @@ use types::Key;
 use types::level::Level;
 
 // The frame as read; the refusals that need no key: 29, 1 to 12, and of a sealed frame 15, 16 and 18, for an output of so much room.
+// A `match`, since `?` would copy both headers once more.
 #[tactic(auto, unfolding(crate::specs::Opening::open_refusals, crate::specs::Reading::frame_refused, octets::specs::Refusals::first_of, octets::specs::Refusals::unless))]
 pub fn check_open(level: Level, bytes: &[u8], room: usize) -> Result<Frame, Refusal>
     ensures number { refused result ≡ first_of (open_refusals level (read_frame bytes.now).refusal (read_frame bytes.now).header (read_frame bytes.now).aux (length (drop (read_frame bytes.now).length bytes.now)) room) }
@@ -25,26 +26,30 @@ pub fn check_open(level: Level, bytes: &[u8], room: usize) -> Result<Frame, Refu
     if level.is_other() {
         return Err(Refusal::Level);
     }
-    let frame = read_frame(bytes)?;
-    let Some(aux) = frame.aux else {
-        return Ok(frame);
-    };
-    let headers = Headers {
-        header: frame.header,
-        aux,
-    };
-    if headers.nonce_ieee().is_none() {
-        return Err(Refusal::NoIeee);
+    match read_frame(bytes) {
+        Err(refusal) => Err(refusal),
+        Ok(frame) => {
+            let Some(aux) = frame.aux else {
+                return Ok(frame);
+            };
+            let headers = Headers {
+                header: frame.header,
+                aux,
+            };
+            if headers.nonce_ieee().is_none() {
+                return Err(Refusal::NoIeee);
+            }
+            let part = bytes.len() - frame.length;
+            let tag = level.tag_length();
+            if part < tag {
+                return Err(Refusal::NoMic);
+            }
+            if room < part - tag {
+                return Err(Refusal::NoRoom);
+            }
+            Ok(frame)
+        }
     }
-    let part = bytes.len() - frame.length;
-    let tag = level.tag_length();
-    if part < tag {
-        return Err(Refusal::NoMic);
-    }
-    if room < part - tag {
-        return Err(Refusal::NoRoom);
-    }
-    Ok(frame)
 }
 
 // Open a sealed frame that meets no refusal but perhaps 19: whether the MIC is the one computed; only then the payload goes to the front
@@ -145,8 +150,24 @@ fn first<'a>(bytes: &'a [u8], n: usize) -> &'a [u8]
     &bytes[..n.min(bytes.len())]
 }
 
-// The payload that an answer of opening speaks of: the last bytes of the frame if it was clear, the first of the opened bytes if
-// it was sealed, as many as the length says; none beside a refusal.
+// The payload of a frame with a mark and a length: its last bytes if it was clear, the first of the opened bytes if it was sealed, as many
+// as the length says; none without a mark.
+pub fn payload_by<'a>(
+    mark: Option<Mark>,
+    length: usize,
+    frame: &'a [u8],
+    opened: &'a [u8],
+) -> &'a [u8]
+    ensures { result.now ≡ payload_by (marked mark) length frame.now opened.now }
+{
+    match mark {
+        None => &[],
+        Some(Mark::Clear) => last(frame, length),
+        Some(Mark::Sealed) => first(opened, length),
+    }
+}
+
+// The payload that an answer of opening speaks of; none beside a refusal.
 #[tactic(auto, unfolding(crate::specs::Opening::open_refused))]
 pub fn payload<'a>(
     answer: Result<OpenedFrame, Refusal>,
@@ -156,10 +177,7 @@ pub fn payload<'a>(
     ensures { result.now ≡ payload_in (told_opened answer) frame.now opened.now }
 {
     match answer {
-        Err(_) => &[],
-        Ok(given) => match given.mark {
-            Mark::Clear => last(frame, given.length),
-            Mark::Sealed => first(opened, given.length),
-        },
+        Err(_) => payload_by(None, 0, frame, opened),
+        Ok(given) => payload_by(Some(given.mark), given.length, frame, opened),
     }
 }
