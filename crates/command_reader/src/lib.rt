@@ -32,8 +32,8 @@ pub fn from_bytes(s: &[u8]) -> Result<NwkCommandWithLists, Refusal>
     if s.len() > MAX_NSDU_SIZE {
         return Err(Refusal::Payload);
     }
-    Ok(match bodies::try_parse(s) {
-        Some(command) => with_list(command, s),
-        None => lists::keep_unparsed(s),
-    })
+    let Some(command) = bodies::try_parse(s) else {
+        return Ok(lists::keep_unparsed(s));
+    };
+    Ok(with_list(command, s))
 }

@@ -40,6 +40,8 @@ pub fn read_record(bytes: &[u8]) -> Result<NwkCommandWithLists, Refusal>
     if bytes.len() != COMMAND_RECORD_SIZE {
         return Err(Refusal::Field);
     }
-    let command = read_fields::command_at(bytes).ok_or(Refusal::Field)?;
+    let Some(command) = read_fields::command_at(bytes) else {
+        return Err(Refusal::Field);
+    };
     Ok(read_lists::with_lists_at(bytes, command))
 }

@@ -11,18 +11,20 @@ use crate::answer::answer;
 use command_records::COMMAND_RECORD_SIZE;
 use octets::refusals::Refusal;
 
-// Read a command into a command record, and give the record's length.
+// Read a command into a command record, and give the record's length. A `match`, since `?` would copy the whole command once more.
 #[tactic(auto, unfolding(octets::specs::Refusals::unless, octets::specs::Refusals::first_of, crate::specs::Commands::read_command_refusal))]
 fn read_command(bytes: &[u8], command: &mut [u8]) -> Result<usize, Refusal>
     ensures answer { told result ≡ told_by (read_command_refusal bytes.now (length command.old)) 535 }
     ensures command { command.new ≡ given (read_command_refusal bytes.now (length command.old)) (command_record (read_command bytes.now).command) command.old }
 {
-    let read = command_reader::from_bytes(bytes)?;
-    if command.len() < COMMAND_RECORD_SIZE {
-        return Err(Refusal::NoRoom);
+    match command_reader::from_bytes(bytes) {
+        Err(refusal) => Err(refusal),
+        Ok(_) if command.len() < COMMAND_RECORD_SIZE => Err(Refusal::NoRoom),
+        Ok(read) => {
+            command_records::put_command(command, read);
+            Ok(COMMAND_RECORD_SIZE)
+        }
     }
-    command_records::put_command(command, read);
-    Ok(COMMAND_RECORD_SIZE)
 }
 
 // Read a command into a command record; refusals 12 and 18. The length is the record's.
@@ -34,13 +36,16 @@ pub fn nwk_read_command(bytes: &[u8], command: &mut [u8]) -> u64
     answer(read_command(bytes, command))
 }
 
-// Write the command of a record to the front of the output, and give its length.
+// Write the command of a record to the front of the output, and give its length; a `match` for the same reason.
 #[tactic(auto, unfolding(octets::specs::Refusals::unless, octets::specs::Refusals::first_of, octets::specs::Writing::written, command_records::specs::CommandRecord::write_record_refusal, commands::specs::Writing::write_command))]
 fn write_command(command: &[u8], out: &mut [u8]) -> Result<usize, Refusal>
     ensures answer { told result ≡ told_by (write_record_refusal command.now (length out.old)) (length (command_bytes (read_record command.now).command)) }
     ensures out { out.new ≡ given (write_record_refusal command.now (length out.old)) (command_bytes (read_record command.now).command) out.old }
 {
-    command_writer::serialize(command_records::read_record(command)?, out)
+    match command_records::read_record(command) {
+        Ok(read) => command_writer::serialize(read, out),
+        Err(refusal) => Err(refusal),
+    }
 }
 
 // Write the command of a record to the front of the output; refusals 13, 17 and 18.

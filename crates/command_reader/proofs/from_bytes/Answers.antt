@@ -8,10 +8,10 @@ use Rattle.command_reader.proofs.from_bytes.Goals as goal
 pub returns-then-s-gt-MAX_NSDU_SIZE : goal.returns-then-s-gt-MAX_NSDU_SIZE
 returns-then-s-gt-MAX_NSDU_SIZE c = rw (read_refuses c.args.s.now (omega arith))
 
-pub returns-in-Some : goal.returns-in-Some
+pub returns-in_default : goal.returns-in_default
 unfolding parsed
-returns-in-Some c = rw (c.with_list.ensures, read_accepts c.args.s.now (omega arith), ← c.try_parse.ensures, c.in-Some.is)
+returns-in_default c = rw (c.keep_unparsed.ensures, read_accepts c.args.s.now (omega arith), ← c.try_parse.ensures, c.in_default.is)
 
-pub returns-in-None : goal.returns-in-None
+pub returns : goal.returns
 unfolding parsed
-returns-in-None c = rw (c.keep_unparsed.ensures, read_accepts c.args.s.now (omega arith), ← c.try_parse.ensures, c.in-None.is)
+returns c = rw (c.with_list.ensures, read_accepts c.args.s.now (omega arith), ← c.try_parse.ensures, c.in-Some.is)
