@@ -103,19 +103,22 @@ module _ (j : List ℕ) where
       unfolding next_counter next_refusal first_of unless
       next_covered h k = rw ((read_of f e).known, lt-leb 0xFFFFFFFE last h, ← covered j last, lt-leb (state_of j).ceiling last (omega (arith, k, ceiling_is)), add-one) refl
 
-  -- the senders of a table with 64 places, or none
-  module _ (ss : List SenderRecord) where
-    pub more_held : None ≡ within 64 ss → 64 < length ss
+  -- the senders of a table of which so many places may be filled, or none
+  module _ (places : ℕ) (ss : List SenderRecord) where
+    pub more_held : None ≡ within places ss → places < length ss
     more_held e =
-        cases (leb (length ss) 64)
+        cases (leb (length ss) places)
         (λ b. let f : ◌≡◌ {A = Option (List SenderRecord)} None (Some ss) = (rw b at e) in absurd (cc))
-        (λ b. leb-false (length ss) 64 b)
+        (λ b. leb-false (length ss) places b)
 
-    pub same_held : (ts : List SenderRecord) → Some ts ≡ within 64 ss → (length ss ≤ 64) × (ts ≡ ss)
+    pub same_held : (ts : List SenderRecord) → Some ts ≡ within places ss → (length ss ≤ places) × (ts ≡ ss)
     same_held ts e =
-        cases (leb (length ss) 64)
-        (λ b. let f : ◌≡◌ {A = Option (List SenderRecord)} (Some ts) (Some ss) = (rw b at e) in (leb-true (length ss) 64 b, (cc)))
+        cases (leb (length ss) places)
+        (λ b. let f : ◌≡◌ {A = Option (List SenderRecord)} (Some ts) (Some ss) = (rw b at e) in (leb-true (length ss) places b, (cc)))
         (λ b. let f : ◌≡◌ {A = Option (List SenderRecord)} (Some ts) None = (rw b at e) in absurd (cc))
+
+    pub senders_fit : (ts : List SenderRecord) → Some ts ≡ within places ss → length ts ≤ places
+    senders_fit ts e = let q = same_held ts e in rw q.1 q.0
 
   -- ---- recovery into a list l
 
@@ -140,9 +143,9 @@ module _ (j : List ℕ) where
       unfolding recover_refusal first_of
       refusal_full h = rw ((read_of f e).known, lt-ltb (counted (length l)) (length (state_of j).senders) h) refl
 
-      module _ (n : None ≡ within 64 (state_of j).senders) where
+      module _ (n : None ≡ within (counted (length l)) (state_of j).senders) where
         full : counted (length l) < length (state_of j).senders
-        full = omega (arith, counted_64 (length l), more_held (state_of j).senders n)
+        full = more_held (counted (length l)) (state_of j).senders n
 
         pub recover_full : recover_nothing 24 ≡ recover_answer j (length l)
         recover_full = (recover_refused 23 (refusal_full full)).0
@@ -150,31 +153,20 @@ module _ (j : List ℕ) where
         pub list_full : l ≡ recovered_list j l
         list_full = (recover_refused 23 (refusal_full full)).1
 
-      module _ (ss : List SenderRecord) (q : Some ss ≡ within 64 (state_of j).senders) where
-        module _ (h : counted (length l) < length ss) where
-          above : counted (length l) < length (state_of j).senders
-          above = rw (same_held (state_of j).senders ss q).1 at h
+      module _ (ss : List SenderRecord) (q : Some ss ≡ within (counted (length l)) (state_of j).senders) where
+        refusal_none : recover_refusal j (length l) ≡ 0
+        unfolding recover_refusal first_of
+        refusal_none =
+            let k : length (state_of j).senders ≤ counted (length l) = (same_held (counted (length l)) (state_of j).senders ss q).0 in
+            rw ((read_of f e).known, le-ltb (counted (length l)) (length (state_of j).senders) k) refl
 
-          pub recover_over : recover_nothing 24 ≡ recover_answer j (length l)
-          recover_over = (recover_refused 23 (refusal_full above)).0
+        pub recover_all : record { refusal = 0; ceiling = f.ceiling; key_number = f.key_number; complete = f.complete } ≡ recover_answer j (length l)
+        unfolding recover_answer unless
+        recover_all = rw (refusal_none, (read_of f e).is) refl
 
-          pub list_over : l ≡ recovered_list j l
-          list_over = (recover_refused 23 (refusal_full above)).1
-
-        module _ (h : length ss ≤ counted (length l)) where
-          refusal_none : recover_refusal j (length l) ≡ 0
-          unfolding recover_refusal first_of
-          refusal_none =
-              let k : length (state_of j).senders ≤ counted (length l) = rw (same_held (state_of j).senders ss q).1 at h in
-              rw ((read_of f e).known, le-ltb (counted (length l)) (length (state_of j).senders) k) refl
-
-          pub recover_all : record { refusal = 0; ceiling = f.ceiling; key_number = f.key_number; complete = f.complete } ≡ recover_answer j (length l)
-          unfolding recover_answer unless
-          recover_all = rw (refusal_none, (read_of f e).is) refl
-
-          pub list_all : anew 64 ss l ≡ recovered_list j l
-          unfolding recovered_list unless
-          list_all = rw (refusal_none, (same_held (state_of j).senders ss q).1) refl
+        pub list_all : anew 64 ss l ≡ recovered_list j l
+        unfolding recovered_list unless
+        list_all = rw (refusal_none, (same_held (counted (length l)) (state_of j).senders ss q).1) refl
 
   -- ---- writing a record, of a kind and those of these values that it takes, to the front of o
 
@@ -224,7 +216,7 @@ module _ (j : List ℕ) where
           run_full : run ≡ wrote_nothing 24 o
           unfolding write_refusal first_of
           run_full =
-              let more = more_held (senders_after new (state_of j).senders) (z ∙ held_is) in
+              let more = more_held 64 (senders_after new (state_of j).senders) (z ∙ held_is) in
               refused_run 23 (rw ((read_of f e).known, (kind_known kind x w).0, lt-ltb 64 (length (senders_after new (state_of j).senders)) more) refl)
 
           pub write_full : record { refusal = 24; length = 0 } ≡ run.answer
@@ -235,7 +227,7 @@ module _ (j : List ℕ) where
 
         module _ (ss : List SenderRecord) (z : Some ss ≡ with_record 64 r held) where
           few : length (senders_after new (state_of j).senders) ≤ 64
-          few = (same_held (senders_after new (state_of j).senders) ss (z ∙ held_is)).0
+          few = (same_held 64 (senders_after new (state_of j).senders) ss (z ∙ held_is)).0
 
           module _ (b : length o < length (record_bytes r)) where
             run_short : run ≡ wrote_nothing 18 o

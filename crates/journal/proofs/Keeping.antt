@@ -63,23 +63,26 @@ module _ (s c : ℕ) where
   noted_longer [] = omega arith
   noted_longer (r ∷ ss) = cases (eqb r.address s) (λ e. rw e (omega arith)) (λ e. rw e (omega (arith, noted_longer ss)))
 
-  -- ---- a table of so many places, of which the first n hold senders
+  -- ---- a table of which so many places may be filled, and the first n hold senders
 
-  module _ (places n : ℕ) (xs : List SenderRecord) (h : length xs ≡ places) (l : n ≤ places) where
+  module _ (places n : ℕ) (xs : List SenderRecord) (h : places ≤ length xs) (k : n ≤ length xs) (l : length (take n xs) ≤ places) where
+    filled : n ≤ places
+    filled = omega (arith, l, k, length-take n xs)
+
     room_for : (ts : List SenderRecord) → length ts ≤ places → Some ts ≡ within places ts
-    room_for ts k = rw (le-leb (length ts) places k) refl
+    room_for ts q = rw (le-leb (length ts) places q) refl
 
     pub keep_found : (i : ℕ) → position is (take n xs) ≡ Some i → i < length (take n xs)
         → held (Some n) (set xs i (record_of s c)) ≡ with_sender places s c (held (Some n) xs)
     keep_found i e b =
         rw (noted_found (take n xs) i e)
-        (ap Some (take-set-lt n xs i (record_of s c) (omega (arith, b, length-take n xs))) ∙ room_for (set (take n xs) i (record_of s c)) (simp (length-set, length-take) (omega arith)))
+        (ap Some (take-set-lt n xs i (record_of s c) (omega (arith, b, length-take n xs))) ∙ room_for (set (take n xs) i (record_of s c)) (simp (length-set, length-take) (omega (arith, filled))))
 
     pub keep_new : position is (take n xs) ≡ None → n < places → held (Some (n + 1)) (set xs n (record_of s c)) ≡ with_sender places s c (held (Some n) xs)
-    keep_new e k =
+    keep_new e m =
         rw (noted_new (take n xs) e)
         (ap Some (take_more_set xs n (record_of s c) (omega arith)) ∙ room_for (take n xs ++ (record_of s c ∷ [])) (simp (length-append, length-take) (omega arith)))
 
     pub keep_full : position is (take n xs) ≡ None → places ≤ n → held None xs ≡ with_sender places s c (held (Some n) xs)
-    keep_full e k =
+    keep_full e m =
         rw (noted_new (take n xs) e) (rw (lt-leb (length (take n xs ++ (record_of s c ∷ []))) places (simp (length-append, length-take) (omega arith))) refl)

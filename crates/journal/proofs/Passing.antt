@@ -1,9 +1,9 @@
 -- One pass over a journal gathers its state: what was gathered before a place, with the records from there on applied, is the state
 -- of the whole. Assumes nothing.
-use Rattle.std.specs.Prelude.{Option, Some, None, Ok, Err}
+use Rattle.std.specs.Prelude.{Option, Some, None, Ok, Err, IfSome}
 use Rattle.std.proofs.Common.{◌≡◌, refl, sym, ap, ◌∙◌, true, false, List, [], ℕ, ◌+◌, ◌-◌, ◌≤◌, max, leb, length, drop, arith, length-drop}
 use Rattle.std.proofs.lemmas.Bool.Decides.{nat_tests}
-use borrow.Author.Tests.{leb-false, le-leb, lt-leb}
+use borrow.Author.Tests.{leb-true, leb-false, le-leb, lt-leb}
 use borrow.Table.Steps.{cases}
 use Rattle.octets.specs.declared.refusals.Refusal.{Refusal}
 use Rattle.senders.specs.declared.SenderRecord.{SenderRecord}
@@ -28,6 +28,11 @@ pub record Reached (j : List ℕ) (places : ℕ) (rest : List ℕ) (ceiling : �
   pub state : applied_all (records rest) (part ceiling key senders) ≡ state_of j
   pub holds : table ≡ within places senders
 
+-- a table holds no more than may be filled
+pub within_fits : (places : ℕ) (ss : List SenderRecord) (table : Option (List SenderRecord)) → table ≡ within places ss
+    → IfSome table (λ (ts : List SenderRecord). length ts ≤ places)
+within_fits places ss table h = rw h (cases (leb (length ss) places) (λ e. rw e (leb-true (length ss) places e)) (λ e. rw e tt))
+
 module _ (j : List ℕ) (places : ℕ) where
   pub reached_none : (table : Option (List SenderRecord)) → table ≡ Some [] → Reached j places j 0 None table
   unfolding state_of
@@ -51,6 +56,9 @@ module _ (j : List ℕ) (places : ℕ) where
   within_after (JournalRecord.KeyNumber k) ss = refl
 
   module _ (rest : List ℕ) (ceiling : ℕ) (key : Option ℕ) (table : Option (List SenderRecord)) (p : Reached j places rest ceiling key table) where
+    pub reached_fits : IfSome table (λ (ss : List SenderRecord). length ss ≤ places)
+    reached_fits = within_fits places p.senders table p.holds
+
     -- behind the record r at the front
     reached_next : (r : JournalRecord) → first_record rest ≡ Some r
         → (behind : List ℕ) (ceiling' : ℕ) (key' : Option ℕ) (table' : Option (List SenderRecord))

@@ -45,7 +45,7 @@ module _ (j o : List ℕ) where
       run_full : run ≡ wrote_nothing 24 o
       unfolding shrink_refusal first_of
       run_full =
-          let more = more_held j (state_of j).senders (sym (unsorted held s) ∙ h) in
+          let more = more_held j 64 (state_of j).senders (sym (unsorted held s) ∙ h) in
           refused_run 23 (rw ((read_of j f e).known, lt-ltb 64 (length (state_of j).senders) more) refl)
 
       pub shrink_full : record { refusal = 24; length = 0 } ≡ run.answer
@@ -59,7 +59,7 @@ module _ (j o : List ℕ) where
           → (length (state_of j).senders ≤ 64) × (ts ≡ sorted (state_of j).senders)
       before_sort None s n = absurd s
       before_sort (Some ss) s n =
-          let same = same_held j (state_of j).senders ss n in
+          let same = same_held j 64 (state_of j).senders ss n in
           (same.0, sorted_is (state_of j).senders ts (once_state j) (state_fits j b).senders (rw same.1 at s))
 
       few : length (state_of j).senders ≤ 64

@@ -45,24 +45,21 @@ fn fill(list: &mut [SenderRecord], senders: &[SenderRecord])
 
 // Recover from a journal: the largest ceiling, the last key number and the length of the complete records, and the list filled anew
 // with each sender by first appearance and its last counter, zeros behind them; refusals 25 and 24.
-#[tactic(auto, using(crate::proofs::Gathered::recover_unread, crate::proofs::Gathered::list_unread, crate::proofs::Gathered::recover_full, crate::proofs::Gathered::list_full, crate::proofs::Gathered::recover_over, crate::proofs::Gathered::list_over, crate::proofs::Gathered::recover_all, crate::proofs::Gathered::list_all))]
+#[tactic(auto, using(crate::proofs::Gathered::recover_unread, crate::proofs::Gathered::list_unread, crate::proofs::Gathered::recover_full, crate::proofs::Gathered::list_full, crate::proofs::Gathered::senders_fit, crate::proofs::Gathered::recover_all, crate::proofs::Gathered::list_all))]
 pub fn recover(journal: &[u8], list: &mut [SenderRecord]) -> Result<Recovery, Refusal>
     ensures answer { told_recovered result ≡ recover_answer journal.now (length list.old) }
     ensures list { list.new ≡ recovered_list journal.now list.old }
 {
     let mut table = Table::<COUNTED>::new();
-    let found = scan(journal, &mut table)?;
+    let found = scan(journal, counted(list.len()), &mut table)?;
     let senders = table.senders()?;
-    if counted(list.len()) < senders.len() {
-        return Err(Refusal::NoPlace);
-    }
     fill(list, senders);
     Ok(found)
 }
 
 // Write a journal's next record, of a kind and those of the values that it takes, alone to the front of the output, and give its length;
 // the host shortens the journal to its complete records and appends it. Refusals 25, 24 and 18.
-#[tactic(auto, using(crate::proofs::Gathered::write_unread, crate::proofs::Gathered::out_unread, crate::proofs::Gathered::write_unknown, crate::proofs::Gathered::out_unknown, crate::proofs::Gathered::write_full, crate::proofs::Gathered::out_full, crate::proofs::Gathered::write_short, crate::proofs::Gathered::out_short, crate::proofs::Gathered::write_given, crate::proofs::Gathered::out_given))]
+#[tactic(auto, using(crate::proofs::Passing::within_fits, crate::proofs::Gathered::write_unread, crate::proofs::Gathered::out_unread, crate::proofs::Gathered::write_unknown, crate::proofs::Gathered::out_unknown, crate::proofs::Gathered::write_full, crate::proofs::Gathered::out_full, crate::proofs::Gathered::write_short, crate::proofs::Gathered::out_short, crate::proofs::Gathered::write_given, crate::proofs::Gathered::out_given))]
 pub fn write_record(
     journal: &[u8],
     kind: u8,
@@ -75,7 +72,7 @@ pub fn write_record(
     ensures out { out.new ≡ (write_record journal.now kind sender counter key_number out.old).out }
 {
     let mut table = Table::<COUNTED>::new();
-    scan(journal, &mut table)?;
+    scan(journal, COUNTED, &mut table)?;
     let record = Kind::try_from(kind)?.record(sender, counter, key_number);
     table.apply(record);
     table.senders()?;
@@ -90,7 +87,7 @@ pub fn write_record(
 pub fn next_counter(journal: &[u8], last: u32) -> Result<u32, Refusal>
     ensures { told_next result ≡ next_counter journal.now last }
 {
-    let found = scan(journal, &mut Table::<0>::new())?;
+    let found = scan(journal, 0, &mut Table::<0>::new())?;
     if LAST_COUNTER - 1 <= last {
         return Err(Refusal::CountersUsedUp);
     }
@@ -108,7 +105,7 @@ pub fn shrink(journal: &[u8], out: &mut [u8]) -> Result<usize, Refusal>
     ensures out { out.new ≡ (shrink journal.now out.old).out }
 {
     let mut table = Table::<COUNTED>::new();
-    let found = scan(journal, &mut table)?;
+    let found = scan(journal, COUNTED, &mut table)?;
     table.sort();
     let senders = table.senders()?;
     if out.len() < shrunk_length(found, senders) {

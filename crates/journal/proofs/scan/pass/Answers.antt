@@ -1,11 +1,11 @@
--- `scan` meets its contract: where no record stands at the front, the pass ends or a kind is not known. Assumes nothing.
+-- `pass` meets its contract: where no record stands at the front, the pass ends or a kind is not known. Assumes nothing.
 use Rattle.std.proofs.Common.{◌≡◌, sym, ◌∙◌, true, ◌<◌, length, get_or, Err, arith}
 use Rattle.std.proofs.lemmas.Result.{err_from_is_err_and}
 use Rattle.journal.specs.Format.{is_kind}
 use Rattle.journal.proofs.Passing.{reached_end, senders_end, reached_unknown}
 use Rattle.journal.proofs.Whole.{front_none, front_unknown, kind_known, kind_unknown}
-use Rattle.journal.proofs.scan.scan.Goals as goal
-use Rattle.journal.proofs.scan.scan.Goals.{in_default-rest, in-len1-up+in_ok-try_from}
+use Rattle.journal.proofs.scan.pass.Goals as goal
+use Rattle.journal.proofs.scan.pass.Goals.{in_default-rest, in-len1-up+in_ok-try_from}
 
 pub returns-in_err-try_from-clause-answer : goal.returns-in_err-try_from-clause-answer
 returns-in_err-try_from-clause-answer g c =
