@@ -27,10 +27,11 @@ pub const MAX_LENGTH: usize = 127;
 fn check(level: Level, a: usize, n: usize, room: usize) -> Result<(), Refusal>
     ensures { refused result ≡ seal_refusal level a n room }
 {
+    let too_long = MAX_LENGTH < a || MAX_LENGTH < n;
     if level.is_other() {
         return Err(Refusal::Level);
     }
-    if MAX_LENGTH < a || MAX_LENGTH < n {
+    if too_long {
         return Err(Refusal::TooLong);
     }
     if room < n {
