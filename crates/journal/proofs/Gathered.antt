@@ -9,7 +9,6 @@ use Rattle.octets.specs.Strings.{over}
 use Rattle.octets.specs.Writing.{Run, wrote, wrote_nothing, written}
 use Rattle.senders.specs.declared.SenderRecord.{SenderRecord}
 use Rattle.senders.specs.Senders.{counted}
-use Rattle.senders.proofs.Finding.{counted_64}
 use Rattle.journal.specs.declared.{Recovery.Recovery, format.Kind.Kind, format.JournalRecord.JournalRecord}
 use Rattle.journal.specs.Format.{record_bytes, records, unknown_kind}
 use Rattle.journal.specs.Recovery.{State, blank, larger, ceiling_after, senders_after, applied, applied_all, state_of, anew, recover_refusal, recover_nothing, recover_answer, recovered_list}
